@@ -271,7 +271,7 @@ digits_first (x ∷ xs) w = (x, xs, refl, go (x == 43) refl w)
 is_no_flag : (x : ℕ) (xs : Text) → (x == 45) ≡ false → (bytes_eq (x ∷ xs) (codes "--") ≡ false) × (long_of (x ∷ xs) ≡ None) × (short_of (x ∷ xs) ≡ None)
 is_no_flag x xs e = (rw e, rw e, rw e)
 
--- so much of the faults comes behind the walk over the words
+-- the faults that come behind the walk over the words
 abbrev end_fault : Walk → Kinds
 end_fault w =
     or_else (entered_fault (built program) w.stopped)

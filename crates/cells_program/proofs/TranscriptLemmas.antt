@@ -194,7 +194,7 @@ all_some a b xs p = (xs, [], sym (append-nil xs), p)
 
 -- ---- line after line
 
--- so much is served: what the lines that are left come to is what the whole input comes to, behind what was written
+-- what is served so far: what the lines that are left come to is what the whole input comes to, behind what was written
 abbrev pub Served : ℕ → Machine → List ℕ → Machine → Gathered → List (List ℕ) → Option (List ℕ) → Option (List ℕ) → Type 0
 Served steps start input now G left a b =
     (text : List ℕ) × (out : List ℕ) × IsGathered G text × Appends a b out

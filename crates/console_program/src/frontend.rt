@@ -10,7 +10,7 @@ use console_talk::{
     complete_draft, completion_told, execute_draft, is_answer_to, is_in_session, kernel_info_draft,
     message, move_draft, run_told, state_draft, what_is_heard,
 };
-use jupyter_msg::{Key, MsgFault, Opened, open, seal};
+use jupyter_msg::{Key, MsgFault, Opened, open};
 use kernel_message::Draft;
 use serde_json::Value;
 use std::alloc::Global;
@@ -78,7 +78,7 @@ impl<R: Read + Drop, W: Write + Drop> Frontend<R, W> {
     {
         let n = self.next;
         let message = message(self.alloc, &self.session, n, draft)?;
-        let Ok(frames) = seal(self.alloc, &message, &self.key) else {
+        let Ok(frames) = message.into_frames(self.alloc, &self.key) else {
             return Err(ConsoleFault::NoMemory);
         };
         self.shell.write(&frames)?;

@@ -1,5 +1,5 @@
 //! One connection to a socket of the kernel, from a frontend's side.
-ghost use Rattle.std.specs.Prelude.{◌≡◌, ◌<◌, ℕ, List, length, OnOk, OnErr};
+ghost use Rattle.std.specs.Prelude.{◌≡◌, ℕ, List, OnOk, OnErr};
 ghost use Rattle.std.specs.Io.KnownBytes.{Appends};
 ghost use Rattle.exact_write.specs.Sent.{SentSome};
 ghost use Rattle.zmtp_wire.specs.Frame.{written};
@@ -16,7 +16,7 @@ use std::alloc::Global;
 use std::collections::VecDeque;
 use std::io::{ErrorKind, Read, Write};
 use zmtp_peer::{Peer, PeerEvent, PeerFault, Role};
-use zmtp_wire::{SendFault, WireFault, send_pong, write_message};
+use zmtp_wire::{SendFault, WireFault, send_message, send_pong};
 
 /// The most octets that are read at once.
 const READ_OCTETS: usize = 8192;
@@ -39,6 +39,14 @@ fn peer_fault(fault: PeerFault) -> ConsoleFault {
     match fault {
         PeerFault::Wire(WireFault::Memory) => ConsoleFault::NoMemory,
         _ => ConsoleFault::NoConnection,
+    }
+}
+
+/// What it comes to that a message, or the answer to a ping, did not go out whole. No kernel takes one that is too long.
+fn unsent(fault: SendFault) -> ConsoleFault {
+    match fault {
+        SendFault::Memory => ConsoleFault::NoMemory,
+        SendFault::TooLong | SendFault::Write => ConsoleFault::NoConnection,
     }
 }
 
@@ -133,8 +141,7 @@ impl<R: Read + Drop, W: Write + Drop> Wire<R, W> {
     {
         match send_pong(self.alloc, &mut self.writer, context) {
             Ok(()) => Ok(()),
-            Err(SendFault::Memory) => Err(ConsoleFault::NoMemory),
-            Err(SendFault::TooLong | SendFault::Write) => Err(ConsoleFault::NoConnection),
+            Err(fault) => Err(unsent(fault)),
         }
     }
 
@@ -174,17 +181,13 @@ impl<R: Read + Drop, W: Write + Drop> Wire<R, W> {
         Err(ConsoleFault::NoConnection)
     }
 
-    /// Writes a message of these frames, all at once.
+    /// Writes a message of these frames: all its octets, or where that fails a beginning of them.
     pub fn write(&mut self, frames: &[Vec<u8>]) -> Result<(), ConsoleFault>
-        requires { 0 < length frames.now }
         ensures { OnOk result (Appends (W.contents self.old.writer) (W.contents self.new.writer) (message_octets (bodies_of frames.now))) }
     {
-        let mut octets = Vec::new(self.alloc);
-        match write_message(&mut octets, frames) {
-            Ok(()) => send(&mut self.writer, &octets),
-            Err(WireFault::Memory) => Err(ConsoleFault::NoMemory),
-            // No kernel takes so long a message.
-            Err(_) => Err(ConsoleFault::NoConnection),
+        match send_message(self.alloc, &mut self.writer, frames) {
+            Ok(()) => Ok(()),
+            Err(fault) => Err(unsent(fault)),
         }
     }
 }

@@ -1,7 +1,7 @@
 -- How large an expression is.
 use Rattle.std.specs.Prelude.{ℕ, suc, ◌+◌}
-use Rattle.janus_invert.specs.declared.code.FlatExp.{FlatExp}
-use Rattle.janus_invert.specs.declared.code.FlatExp.TheVariants.{Number, Variable, Element', Empty, Top, Negative', Binary', And', Or'}
+use Rattle.janus_code.specs.declared.code.FlatExp.{FlatExp}
+use Rattle.janus_code.specs.declared.code.FlatExp.TheVariants.{Number, Variable, Element', Empty, Top, Negative', Binary', And', Or'}
 
 abbrev pub exp_size : FlatExp → ℕ
 exp_size (Number n) = 1

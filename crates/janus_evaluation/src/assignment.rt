@@ -5,14 +5,14 @@ ghost use Rattle.janus_meaning.specs.Fault.{Bad, Broken};
 ghost use Rattle.janus_meaning.specs.Moves.{assign as assign_of, assign_at as assign_at_of};
 ghost use Rattle.janus_syntax.specs.View.{update_of};
 ghost use Rattle.janus_store.specs.StoreState.{IsLike};
-ghost use Rattle.janus_invert.specs.Expressions.{exp_of};
-ghost use Rattle.janus_invert.specs.Numbered.{HasItsNumber, HasNumbers};
+ghost use Rattle.janus_code.specs.Expressions.{exp_of};
+ghost use Rattle.janus_code.specs.Numbered.{HasItsNumber, HasNumbers};
 ghost use Rattle.janus_evaluation.specs.Results.{IsDone, IsCounted, IsWrittenOnce};
 
 use crate::expression::value;
 use crate::fault::ValueFault;
 use crate::operator::changed;
-use janus_invert::code::{FlatExp, Symbol};
+use janus_code::code::{FlatExp, Symbol};
 use janus_store::{Store, Writes};
 use janus_syntax::tree::Update;
 use std::sync::ledger::Ledger;

@@ -8,13 +8,13 @@ ghost use Rattle.janus_meaning.specs.Syntax.{Name};
 ghost use Rattle.janus_store.specs.Stores.{IsArray, IsStack};
 ghost use Rattle.janus_store.specs.StoreState.{IsName};
 ghost use Rattle.janus_meaning.specs.Value.{value as value_of, test as test_of, both, first as first_of};
-ghost use Rattle.janus_invert.specs.Expressions.{exp_of};
-ghost use Rattle.janus_invert.specs.Numbered.{HasNumbers};
+ghost use Rattle.janus_code.specs.Expressions.{exp_of};
+ghost use Rattle.janus_code.specs.Numbered.{HasNumbers};
 ghost use Rattle.janus_evaluation.specs.Results.{result_of, truth_of};
 
 use crate::fault::ValueFault;
 use crate::operator::{bit_of, holds, negative, operate};
-use janus_invert::code::FlatExp;
+use janus_code::code::FlatExp;
 use janus_store::Store;
 use std::sync::ledger::Ledger;
 

@@ -5,14 +5,14 @@ ghost use Rattle.janus_meaning.specs.Fault.{Bad, Broken};
 ghost use Rattle.janus_meaning.specs.Moves.{drop_int, drop_stack};
 ghost use Rattle.janus_meaning.specs.Value.{value as value_of};
 ghost use Rattle.janus_store.specs.StoreState.{HasLocal, HasLocalRoom, live_stacks};
-ghost use Rattle.janus_invert.specs.Expressions.{exp_of};
-ghost use Rattle.janus_invert.specs.Numbered.{HasItsNumber, HasNumbers};
+ghost use Rattle.janus_code.specs.Expressions.{exp_of};
+ghost use Rattle.janus_code.specs.Numbered.{HasItsNumber, HasNumbers};
 ghost use Rattle.janus_evaluation.specs.Locals.{number_opened, stack_opened, KeepsNames};
 ghost use Rattle.janus_evaluation.specs.Results.{IsDone};
 
 use crate::expression::value;
 use crate::fault::ValueFault;
-use janus_invert::code::{FlatExp, Symbol};
+use janus_code::code::{FlatExp, Symbol};
 use janus_store::Store;
 use std::sync::ledger::Ledger;
 

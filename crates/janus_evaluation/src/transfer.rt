@@ -4,11 +4,11 @@ ghost use Rattle.std.specs.Prelude.{◌≡◌, ◌≢◌, string_bytes};
 ghost use Rattle.janus_meaning.specs.Fault.{Bad, Broken};
 ghost use Rattle.janus_meaning.specs.Moves.{push as push_of, pop as pop_of};
 ghost use Rattle.janus_store.specs.StoreState.{IsLike};
-ghost use Rattle.janus_invert.specs.Numbered.{HasItsNumber};
+ghost use Rattle.janus_code.specs.Numbered.{HasItsNumber};
 ghost use Rattle.janus_evaluation.specs.Results.{IsDone, IsCounted};
 
 use crate::fault::ValueFault;
-use janus_invert::code::Symbol;
+use janus_code::code::Symbol;
 use janus_store::{Store, Writes};
 use std::sync::ledger::Ledger;
 

@@ -1,10 +1,3 @@
-pub mod Cells
 pub mod Pairs
-pub mod Trees
-pub mod Flattened
+pub mod Placed
 pub mod Reversed
-pub mod Meeting
-pub mod Placing
-pub mod Lists
-pub mod ClosedLemmas
-pub mod OnePrint

@@ -8,16 +8,17 @@ use Rattle.janus_meaning.specs.Word.{opposite}
 use Rattle.janus_syntax.specs.View.{update_of}
 use Rattle.janus_syntax.specs.declared.tree.Update.{Update}
 use Rattle.janus_syntax.specs.declared.tree.Update.TheVariants as update
-use Rattle.janus_invert.specs.declared.code.Block.{Block}
-use Rattle.janus_invert.specs.declared.code.Statement.{Statement}
-use Rattle.janus_invert.specs.declared.code.Statement.TheVariants.{Skip, Assign, AssignElement, Push, Pop, If, Loop, LocalInt, LocalStack, Call, Uncall}
-use Rattle.janus_invert.specs.declared.code.Symbol.{Symbol}
-use Rattle.janus_invert.specs.Expressions.{exp_of}
-use Rattle.janus_invert.specs.Numbered.{AreSame, texts_of}
-use Rattle.janus_invert.specs.Flat.{ahead, block_at, built, tree_at, IsBelow, BlocksAreBelow, AreBelow, IsDownward}
-use Rattle.janus_invert.specs.Inverted.{IsOpposite, IsBackward, IsInverse, AreInverse}
+use Rattle.janus_code.specs.declared.code.Block.{Block}
+use Rattle.janus_code.specs.declared.code.Statement.{Statement}
+use Rattle.janus_code.specs.declared.code.Statement.TheVariants.{Skip, Assign, AssignElement, Push, Pop, If, Loop, LocalInt, LocalStack, Call, Uncall}
+use Rattle.janus_code.specs.declared.code.Symbol.{Symbol}
+use Rattle.janus_code.specs.Expressions.{exp_of}
+use Rattle.janus_code.specs.Numbered.{AreSame, texts_of}
+use Rattle.janus_code.specs.Flat.{ahead, block_at, built, tree_at, IsBelow, BlocksAreBelow, AreBelow, IsDownward}
+use Rattle.janus_code.specs.Cells.{IsOpposite}
+use Rattle.janus_invert.specs.Inverted.{IsBackward, IsInverse, AreInverse}
 use Rattle.janus_invert.specs.Longer.{IsLonger}
-use Rattle.janus_invert.proofs.Trees.{tree_of}
+use Rattle.janus_code.proofs.Trees.{tree_of}
 
 -- ---- blocks
 

@@ -1,18 +1,10 @@
 -- Flat code and its inverse: the same numbers, each statement inverted, the members of each block backward.
 use Rattle.std.specs.Prelude.{◌≡◌, ℕ, suc, ◌+◌, ◌-◌, ◌<◌, ◌≤◌, List, length, slice_get, slice_index_or, Some}
-use Rattle.janus_syntax.specs.declared.tree.Update.{Update}
-use Rattle.janus_syntax.specs.declared.tree.Update.TheVariants as update
-use Rattle.janus_invert.specs.declared.code.Block.{Block}
-use Rattle.janus_invert.specs.declared.code.Statement.{Statement}
-use Rattle.janus_invert.specs.declared.code.Statement.TheVariants.{Skip, Assign, AssignElement, Push, Pop, If, Loop, LocalInt, LocalStack, Call, Uncall}
-use Rattle.janus_invert.specs.Numbered.{IsSame, AreSame, IsCopy}
-
--- `+=` and `-=` are each other's opposites, `^=` is its own
-abbrev pub IsOpposite : Update → Update → Type 0
-IsOpposite update.Add update.Subtract = Unit {0}
-IsOpposite update.Subtract update.Add = Unit {0}
-IsOpposite update.Xor update.Xor = Unit {0}
-IsOpposite _ _ = ⊥
+use Rattle.janus_code.specs.declared.code.Block.{Block}
+use Rattle.janus_code.specs.declared.code.Statement.{Statement}
+use Rattle.janus_code.specs.declared.code.Statement.TheVariants.{Skip, Assign, AssignElement, Push, Pop, If, Loop, LocalInt, LocalStack, Call, Uncall}
+use Rattle.janus_code.specs.Cells.{IsOpposite}
+use Rattle.janus_code.specs.Numbered.{IsSame, AreSame, IsCopy}
 
 -- the members of the block c are those of b, backward
 pub record IsBackward (members others : List ℕ) (b c : Block) : Type 0 where

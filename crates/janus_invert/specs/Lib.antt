@@ -1,13 +1,2 @@
-pub mod Cells
-pub mod Expressions
-pub mod Numbered
-pub mod Met
-pub mod Flat
-pub mod CodeBlock
-pub mod Procedures
-pub mod Grown
 pub mod Longer
 pub mod Inverted
-pub mod Fault
-pub mod Closed
-pub mod ProcedureTrees

@@ -1,36 +1,16 @@
-//! Inverse cells, and the flat code that the machine runs.
+//! The inverse of flat code: the code that runs where a cell is undone, or a procedure is uncalled.
 //!
-//! To the layer above it promises that `invert` gives the inverse of a cell's statements, that `closed` gives a procedure with its local's
-//! name behind each `delocal`, that flat code stands for one block, that `flatten` gives code that stands for the cell's block,
-//! `flatten_procedure` a procedure whose code stands for its body, and that `invert_code` gives code that stands for the inverse of a code's
-//! block. In flat code each name, of a variable or a procedure, stands with the number under which it was met, so that what runs compares no text.
-//! The inverse of a statement is that of Yokoyama and Glück (2007), "A reversible programming language and its invertible
-//! self-interpreter": `+=` and `-=` exchange, `^=` stays; an `if` exchanges its test and its assertion, a loop its entry and its
-//! exit, and their blocks stay where they are, each inverted; `skip` stays; `push` and `pop`, `call` and `uncall` exchange, a local
-//! exchanges its two expressions; a block is reversed with each of its statements inverted.
+//! To the layer above it promises that `invert_code` gives code that stands for the inverse of a code's block, in which each name keeps
+//! its number. A statement's inverse has its number, and the members of each block stand backward. Want of memory is its one refusal.
+//!
+//! Flat code is that of `janus_code`, whose names are passed on: `invert` there is the inverse of a tree. The inverse of a statement is that of
+//! Yokoyama and Glück (2007), "A reversible programming language and its invertible self-interpreter", in the definitions of `janus_meaning`.
 #![tactic(auto)]
 
-ghost use Rattle.janus_invert.specs.Cells.{InverseCellTwice};
-
-pub mod closed;
-pub mod code;
-mod copies;
-mod expression;
-mod fault;
-mod flat;
-mod inverse;
-mod procedure;
 mod turned;
 
-pub use crate::code::{Block, Code, FlatExp, FlatParameter, FlatProcedure, Statement, Symbol};
-pub use crate::expression::flat_exp;
-pub use crate::fault::InvertFault;
-pub use crate::flat::flatten;
-pub use crate::inverse::invert;
-pub use crate::procedure::flatten_procedure;
 pub use crate::turned::invert_code;
-
-/// A law about the definitions of `specs/`: the inverse of a cell's inverse is the cell. It does nothing.
-pub fn inverse_cell_twice_law()
-    ensures { InverseCellTwice }
-{}
+pub use janus_code::{
+    Block, Code, FlatExp, FlatParameter, FlatProcedure, InvertFault, Statement, Symbol, flat_exp,
+    flatten, flatten_procedure, invert,
+};

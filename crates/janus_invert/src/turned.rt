@@ -2,16 +2,14 @@
 
 ghost use Rattle.std.specs.Prelude.{◌≡◌, ℕ, List, ◌<◌, ◌≤◌, length, slice_index_or, IfOk};
 ghost use Rattle.janus_meaning.specs.Syntax.{Name, inverse_block};
-ghost use Rattle.janus_invert.specs.Numbered.{HaveNumbers};
-ghost use Rattle.janus_invert.specs.Flat.{BlocksAreBelow};
+ghost use Rattle.janus_code.specs.Numbered.{HaveNumbers};
+ghost use Rattle.janus_code.specs.Flat.{BlocksAreBelow};
 ghost use Rattle.janus_invert.specs.Inverted.{IsInverse, IsBackward, AreInverse};
-ghost use Rattle.janus_invert.specs.CodeBlock.{code_block};
+ghost use Rattle.janus_code.specs.CodeBlock.{code_block};
 ghost use Rattle.janus_invert.specs.Longer.{IsLonger};
 
-use crate::code::{Block, Code, Statement};
-use crate::expression::{call_copies, copy, two_copies, two_symbol_copies};
-use crate::fault::InvertFault;
-use crate::inverse::opposite;
+use janus_code::expression::{call_copies, copy, two_copies, two_symbol_copies};
+use janus_code::{Block, Code, InvertFault, Statement, opposite};
 use std::alloc::{AllocError, Global};
 
 /// The code whose block is the inverse of this one's: its statements keep their numbers. Or want of memory.

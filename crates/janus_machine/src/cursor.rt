@@ -3,7 +3,7 @@
 ghost use Rattle.std.specs.Prelude.{◌≡◌, ◌+◌, ◌-◌, ◌≤◌, ◌<◌, ◌^◌, ℕ, List, [], true, false, IfOk, vec_capacity};
 ghost use Rattle.janus_meaning.specs.Stepping.{BeforeBlock as Before};
 ghost use Rattle.janus_meaning.specs.Limit.{step_limit};
-ghost use Rattle.janus_invert.specs.CodeBlock.{code_block};
+ghost use Rattle.janus_code.specs.CodeBlock.{code_block};
 ghost use Rattle.janus_linear.specs.Layout.{block_size};
 ghost use Rattle.janus_store.specs.StoreState.{call_limit};
 

@@ -1,12 +1,12 @@
 //! A procedure as it runs.
 
 ghost use Rattle.std.specs.Prelude.{◌≡◌, IfOk};
-ghost use Rattle.janus_invert.specs.CodeBlock.{code_block};
+ghost use Rattle.janus_code.specs.CodeBlock.{code_block};
 ghost use Rattle.janus_machine.specs.Bodies.{numbers_of};
 ghost use Rattle.janus_machine.specs.LinkedProcedure.{name_number_of, parameters_of, body_of};
 
 use crate::book::Book;
-use janus_invert::FlatParameter;
+use janus_code::FlatParameter;
 use std::alloc::{AllocError, Global};
 
 /// The numbers of a procedure's name and of its parameters' names, and its body both ways.
@@ -24,7 +24,7 @@ impl LinkedProcedure {
     /// The procedure of flat code; an error for want of memory.
     pub fn new(
         alloc: Global,
-        flat: janus_invert::FlatProcedure,
+        flat: janus_code::FlatProcedure,
     ) -> Result<LinkedProcedure, AllocError>
         ensures name { IfOk result (λ procedure. name_number_of procedure ≡ flat.name.number) }
         ensures parameters { IfOk result (λ procedure. parameters_of procedure ≡ numbers_of flat.parameters.items) }

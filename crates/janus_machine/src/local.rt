@@ -3,15 +3,15 @@
 ghost use Rattle.std.specs.Prelude.{◌≡◌, ◌≢◌};
 ghost use Rattle.janus_meaning.specs.Fault.{Bad, Broken};
 ghost use Rattle.janus_evaluation.specs.Locals.{KeepsNames};
-ghost use Rattle.janus_invert.specs.Numbered.{StatementHasNumbers};
+ghost use Rattle.janus_code.specs.Numbered.{StatementHasNumbers};
 ghost use Rattle.janus_store.specs.StoreState.{HasLocal, HasLocalRoom, live_stacks};
 ghost use Rattle.janus_machine.specs.Faults.{IsDone};
 ghost use Rattle.janus_machine.specs.Statements.{opened_of, closed_of};
 
 use crate::fault::Fault;
 use crate::statement::done;
+use janus_code::Statement;
 use janus_evaluation::{close_number, close_stack, open_number, open_stack};
-use janus_invert::Statement;
 use janus_store::Store;
 use std::sync::ledger::Ledger;
 

@@ -4,14 +4,14 @@ ghost use Rattle.std.specs.Prelude.{◌≡◌, ◌≢◌, ℕ};
 ghost use Rattle.janus_meaning.specs.Fault.{Res, Bad, Broken};
 ghost use Rattle.janus_meaning.specs.Store.{Store as Values};
 ghost use Rattle.janus_evaluation.specs.Results.{IsDone as IsAssigned, IsCounted};
-ghost use Rattle.janus_invert.specs.Numbered.{StatementHasNumbers};
+ghost use Rattle.janus_code.specs.Numbered.{StatementHasNumbers};
 ghost use Rattle.janus_evaluation.specs.Locals.{KeepsNames};
 ghost use Rattle.janus_machine.specs.Faults.{IsDone};
 ghost use Rattle.janus_machine.specs.Statements.{run_of};
 
 use crate::fault::Fault;
+use janus_code::Statement;
 use janus_evaluation::{ValueFault, assign, assign_element, pop, push};
-use janus_invert::Statement;
 use janus_store::{Store, Writes};
 use std::sync::ledger::Ledger;
 

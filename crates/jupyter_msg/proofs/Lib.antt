@@ -5,3 +5,4 @@ pub mod TextsLemmas
 pub mod AskedLemmas
 pub mod TypeLemmas
 pub mod FieldLemmas
+pub mod TakenLemmas

@@ -4,7 +4,7 @@ use Rattle.std.specs.List.{AllByRecursion}
 use Rattle.std.proofs.lemmas.List.Elements.{recursion_from_All}
 use Rattle.jupyter_msg.specs.Object.{is_object}
 use Rattle.jupyter_msg.specs.Octets.{Octets, octets, octets_of}
-use Rattle.jupyter_msg.specs.Signature.{fits, signature_of}
+use Rattle.jupyter_signature.specs.Signature.{fits, signature_of}
 use Rattle.jupyter_msg.specs.Message.{delimiter, NoneIsDelimiter, IsCut, AreObjects, IsMessage, IsRefused, after_delimiter, refusal_after, text_of, frames_of}
 use Rattle.std.proofs.lemmas.Slice.Eq.{bytes_eq-Decides}
 use Rattle.serde_json.specs.View.{view}

@@ -1,6 +1,7 @@
+-- Those of the signature, passed on: a file that names them names this crate alone.
+pub use Rattle.jupyter_signature.specs.Hmac
+pub use Rattle.jupyter_signature.specs.Signature
 pub mod Fault
-pub mod Hmac
-pub mod Signature
 pub mod Object
 pub mod Octets
 pub mod Message

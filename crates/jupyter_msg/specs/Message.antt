@@ -2,7 +2,7 @@
 use Rattle.std.specs.Prelude.{◌≡◌, ◌≢◌, ℕ, Bool, true, false, not, List, ◌∷◌, ◌++◌, All, codes, Option, Some, None, if◌then◌else◌}
 use Rattle.jupyter_msg.specs.Object.{is_object}
 use Rattle.jupyter_msg.specs.Octets.{Octets}
-use Rattle.jupyter_msg.specs.Signature.{joined, fits, signature_of}
+use Rattle.jupyter_signature.specs.Signature.{joined, fits, signature_of}
 use Rattle.jupyter_msg.specs.declared.fault.Part.TheVariants.{Header, Parent, Metadata, Content}
 use Rattle.jupyter_msg.specs.declared.fault.MsgFault.{MsgFault}
 use Rattle.jupyter_msg.specs.declared.fault.MsgFault.TheVariants.{NoDelimiter, ShortMessage, BadSignature, NotJson}

@@ -1,11 +1,15 @@
 //! The fields of a JSON object, as requests have them: a field that is null counts as missing.
-ghost use Rattle.std.specs.Prelude.{◌≡◌, ◌⊎◌, true, false, Some, None, IfOk, IfErr, option_map, option_and_then, string_bytes};
-ghost use Rattle.serde_json.specs.View.{view};
+ghost use Rattle.std.specs.Prelude.{◌≡◌, ◌⊎◌, true, false, Some, None, IfOk, IfErr, IfSome, IfNone, option_map, option_and_then, string_bytes};
+ghost use Rattle.std.specs.Str.{bytes_eq};
+ghost use Rattle.serde_json.specs.View.{view, members_view};
 ghost use Rattle.serde_json.specs.Find.{as_bool, as_str, as_object};
+ghost use Rattle.jupyter_msg.specs.Fault.{field_name};
+ghost use Rattle.serde_json.specs.Data.{object};
+ghost use Rattle.jupyter_msg.specs.Fields.{unless_null as unless_null_of};
 ghost use Rattle.jupyter_msg.specs.Fields.{value_at, needed, allowed, as_count, as_whole, text_at};
 
 use crate::fault::{Field, MsgFault};
-use serde_json::Value;
+use serde_json::{Map, Value};
 use std::alloc::Global;
 
 /// The value of a field: none where it is missing or null.
@@ -41,7 +45,7 @@ pub(crate) fn text(alloc: Global, content: &Value, field: Field) -> Result<Strin
 }
 
 /// The text of a value, taken out of it.
-fn into_text(value: Value) -> Option<String>
+pub(crate) fn into_text(value: Value) -> Option<String>
     ensures { option_map string_bytes result ≡ as_str (view value) }
 {
     match value {
@@ -51,19 +55,36 @@ fn into_text(value: Value) -> Option<String>
     }
 }
 
-/// The text of a field, taken out of the content, of which nothing is said after it.
-pub(crate) fn take_text(content: &mut Value, field: Field) -> Result<String, MsgFault>
-    ensures value { IfOk result (λ t. text_at field (view content.old) ≡ Some (string_bytes t)) }
-    ensures refused { IfErr result (λ e. (e ≡ MsgFault.BadField field)
-        × (text_at field (view content.old) ≡ None)) }
+/// The members of a value, taken out of it.
+#[tactic(auto, unfolding(crate::specs::Fields::value_at))]
+pub(crate) fn into_object(value: Value) -> Option<Map<String, Value>>
+    ensures some { IfSome result (λ m. view value ≡ object (members_view m.entries)) }
+    ensures none { IfNone result ((field : Field) → value_at field (view value) ≡ None) }
+    ensures value { option_map (λ m. members_view m.entries) result ≡ as_object (view value) }
 {
-    text_in(content, field)?;
-    match content.get_mut(field.name()) {
-        Some(value) => match into_text(value.take()) {
-            Some(text) => Ok(text),
-            None => Err(MsgFault::BadField(field)),
-        },
-        None => Err(MsgFault::BadField(field)),
+    match value {
+        Value::Object(map) => Some(map),
+        Value::Null | Value::Bool(_) | Value::Number(_) | Value::String(_) | Value::Array(_) =>
+            None,
+    }
+}
+
+/// The value, unless it is null.
+fn unless_null(value: Value) -> Option<Value>
+    ensures { option_map view result ≡ unless_null_of (view value) }
+{
+    if value.is_null() { None } else { Some(value) }
+}
+
+/// The value of a field, taken out of its object: none where it is missing or null. The other fields stay.
+pub(crate) fn take_value(members: &mut Map<String, Value>, field: Field) -> Option<Value>
+    ensures value { option_map view result ≡ value_at field (object (members_view members.old.entries)) }
+    ensures others { (other : Field) → bytes_eq (field_name other) (field_name field) ≡ false
+        → value_at other (object (members_view members.new.entries)) ≡ value_at other (object (members_view members.old.entries)) }
+{
+    match members.remove(field.name()) {
+        Some(value) => unless_null(value),
+        None => None,
     }
 }
 

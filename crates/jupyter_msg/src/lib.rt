@@ -2,13 +2,15 @@
 //!
 //! To the layer above it promises that `open` answers a message exactly for frames that are one, octet for octet, with its
 //! header and its content as they were read, and else the first refusal; that what `seal` writes is opened again under its key,
-//! where its four parts are JSON objects and no identity is the delimiter; that `hmac` and `sign` are HMAC and the signature; and
-//! that `Request::read`, `Request::take` and `Connection::read` give what an opened message asks, with its identities and its header, and what a
-//! connection file says, or the first refusal. Want of memory aside, all of it is exact.
+//! where its four parts are JSON objects and no identity is the delimiter; and that `Request::read`, `Request::take` and
+//! `Connection::read` give what an opened message asks, with its identities and its header, and what a connection file says, or the
+//! first refusal. Want of memory aside, all of it is exact.
 //!
-//! Frames, signature and requests are those of the Jupyter messaging page (version 5.4, with its wire protocol), the
-//! connection file that of Jupyter's page on kernels, HMAC that of RFC 2104 over SHA-256 of FIPS 180-4. JSON is read by
-//! `serde_json`.
+//! Keys, HMAC and the signature are those of `jupyter_signature`, whose names are passed on: types and calls here, and definitions
+//! in specs/Lib.antt.
+//!
+//! Frames and requests are those of the Jupyter messaging page (version 5.4, with its wire protocol), the connection file that of
+//! Jupyter's page on kernels. JSON is read by `serde_json`.
 #![tactic(auto)]
 
 mod comm;
@@ -18,8 +20,6 @@ mod fault;
 mod fields;
 mod history;
 mod introspection;
-mod key;
-mod keyed_hash;
 mod message;
 mod object;
 mod request;
@@ -32,9 +32,8 @@ pub use execution::{ExecuteRequest, UserExpression};
 pub use fault::{Field, MsgFault, Part, Setting};
 pub use history::{HistoryAccess, HistoryRequest};
 pub use introspection::{CompleteRequest, InspectRequest, IsCompleteRequest};
-pub use key::Key;
-pub use keyed_hash::hmac;
+pub use jupyter_signature::{Key, Parts, hmac};
 pub use message::{Message, Opened, open, seal};
 pub use request::{Request, RequestContent, ShutdownRequest};
 pub use request_type::RequestType;
-pub use signature::{Parts, sign};
+pub use signature::sign;

@@ -11,9 +11,9 @@ ghost use Rattle.jupyter_msg.specs.Message.{NoneIsDelimiter, delimiter, frames_o
 
 use crate::fault::{Field, MsgFault, Part};
 use crate::fields::text;
-use crate::key::Key;
 use crate::object::part_object;
-use crate::signature::{Parts, is_signed, sign};
+use crate::signature::sign;
+use jupyter_signature::{Key, Parts, is_signed};
 use serde_json::Value;
 use std::alloc::Global;
 

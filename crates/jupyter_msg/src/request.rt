@@ -164,7 +164,7 @@ impl RequestContent {
         })
     }
 
-    /// As [`RequestContent::read`], of a content that is handed over: the text of a cell is moved out of it.
+    /// As [`RequestContent::read`], of a content that is handed over: the text of a cell and its user expressions are moved out of it.
     fn take(
         alloc: Global,
         request_type: RequestType,
@@ -225,8 +225,8 @@ impl Request {
         })
     }
 
-    /// As [`Request::read`], of an opened message that is handed over: its identities, its header and the text of a cell are moved into the
-    /// request, and not copied. What a request does not have of it is dropped, and with an error all of it.
+    /// As [`Request::read`], of an opened message that is handed over: its identities, its header, the text of a cell and its user expressions
+    /// are moved into the request, and not copied. What a request does not have of it is dropped, and with an error all of it.
     ///
     /// # Errors
     ///

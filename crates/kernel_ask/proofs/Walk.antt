@@ -167,7 +167,7 @@ told_of m k =
 pub told_by : (minutes : List Entry) (counter : ℕ) → AreKept minutes counter → Told minutes counter
 told_by minutes counter h = subst (λ (n : ℕ). Told minutes n) h.2 (subst (λ (es : List Entry). Told es h.0.counter) h.1 (told_of h.0 h.3))
 
--- so many of the posts of the other jobs are counted
+-- how many of the posts of the other jobs are counted
 pub counted_by : (minutes : List Entry) (counter size n : ℕ) (last : ℕ × ℕ) → AreKept minutes counter → size ≡ length minutes → last ≡ last_end (0, 0) minutes →
     n + counted_to (posted_in minutes - (size - 2 * last.0)) (posts_of minutes) ≡ counted_in minutes → last.1 + n ≡ counted_in minutes
 counted_by minutes counter size n last h long is e =

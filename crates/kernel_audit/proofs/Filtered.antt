@@ -40,7 +40,7 @@ passed_no p xs i x l is test =
     let b = length-filter p (take i xs) in
     omega arith
 
--- so many pass before a place, and its element passes too
+-- an element that passes stands behind the n before it that pass
 pub found_here : {X : Type 0} (p : X → Bool) (xs : List X) (i n : ℕ) (x : X) → i < length xs → x ≡ get_or xs i x → p x ≡ true → n ≡ length (filter p (take i xs)) → slice_get xs i ≡ slice_get (filter p xs) n
 found_here p xs i n x l is test count =
     let here : slice_get xs i ≡ Some x = slice_get-get_or xs i x l ∙ ap (λ y. Some y) (sym is) in

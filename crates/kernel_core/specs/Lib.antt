@@ -36,6 +36,7 @@ pub use Rattle.kernel_machine.specs.declared.post
 pub use Rattle.kernel_machine.specs.declared.progress
 pub use Rattle.kernel_machine.specs.declared.travel
 pub use Rattle.kernel_machine.specs.declared.heading
+pub use Rattle.kernel_machine.specs.declared.limit
 pub use Rattle.kernel_machine.specs.contracts.outcome as contracts_of_outcome
 pub use Rattle.kernel_machine.specs.contracts.post as contracts_of_post
 -- Procedures that are lent, and the view of the shown world; and the trees of nodes.

@@ -20,10 +20,10 @@ use Rattle.janus_syntax.specs.contracts.tree.Procedure as TreeProcedure
 use Rattle.janus_syntax.specs.contracts.tree.Cell as TreeCell
 use Rattle.janus_check.specs.contracts.checked.Checked as Checked
 use Rattle.janus_machine.specs.contracts.procedures.Procedures as Procedures
-use Rattle.janus_invert.specs.contracts.code.FlatExp as FlatExp
-use Rattle.janus_invert.proofs.code.FlatExp.TheLaws.TheKnot.{crosses as exp_crosses}
-use Rattle.janus_invert.specs.contracts.code.Statement as Statement
-use Rattle.janus_invert.specs.contracts.code.Code as Code
+use Rattle.janus_code.specs.contracts.code.FlatExp as FlatExp
+use Rattle.janus_code.proofs.code.FlatExp.TheLaws.TheKnot.{crosses as exp_crosses}
+use Rattle.janus_code.specs.contracts.code.Statement as Statement
+use Rattle.janus_code.specs.contracts.code.Code as Code
 use Rattle.janus_linear.specs.contracts.code.Linear as Linear
 use Rattle.janus_machine.specs.contracts.book.Book as Book
 use Rattle.janus_store.specs.contracts.store.Store as Store
@@ -42,9 +42,9 @@ use Rattle.kernel_bell.specs.contracts.bell.Bell as Bell
 use Rattle.kernel_bell.specs.contracts.seats.RingerSeat as RingerSeat
 use Rattle.kernel_bell.specs.contracts.seats.RunnerSeat as RunnerSeat
 use Rattle.kernel_hall.specs.contracts.ends.Ends as Ends
-use Rattle.kernel_hall.specs.contracts.pending_result.PendingResult as PendingResult
-use Rattle.kernel_hall.specs.contracts.passes.Passes as Passes
-use Rattle.kernel_hall.specs.contracts.state.State as State
+use Rattle.hall_state.specs.contracts.pending_result.PendingResult as PendingResult
+use Rattle.hall_state.specs.contracts.passes.Passes as Passes
+use Rattle.hall_state.specs.contracts.state.State as State
 use Rattle.kernel_hall.specs.contracts.hall.Hall as Hall
 
 Names-send : IsSend (Names.the_field).row

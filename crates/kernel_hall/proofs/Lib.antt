@@ -1,3 +1,1 @@
-pub mod Posts
-pub mod PendingResults
 pub mod Crosses

@@ -4,21 +4,19 @@ ghost use Rattle.kernel_core.specs.Runs.{Machine, IsRefusal};
 ghost use Rattle.kernel_core.specs.LegalMinutes.{IsLegalMachine};
 ghost use Rattle.kernel_ask.specs.Answer.{IsAnswer};
 ghost use Rattle.kernel_audit.specs.Passes.{pass_of, ticket_of};
-ghost use Rattle.kernel_hall.specs.Turns.{IsTurn};
-ghost use Rattle.kernel_hall.specs.declared.limit.TheConstants.{PASSES, PARTS_OF_POSTS};
+ghost use Rattle.hall_state.specs.Turns.{IsTurn};
+ghost use Rattle.hall_state.specs.declared.limit.TheConstants.{PASSES, PARTS_OF_POSTS};
 ghost use Rattle.kernel_audit.specs.Ends.{HasEnd};
 ghost use Rattle.kernel_audit.specs.Audit.{Audited, IsAuditFault};
 
 use crate::ends::Ends;
 use crate::entrance::Entrance;
-use crate::minutes::Minutes;
 use crate::spin::{LOOKS_FOR_POST, watch};
-use crate::state::State;
-use crate::turn::Turn;
-use kernel_ask::{Answer, Ask, CommChange, Comms, Done, HallFault, Wish, comm_on, judge};
+use hall_state::{Minutes, State, Turn};
+use kernel_ask::{Answer, Ask, CommChange, Comms, Done, HallFault, Wish, judge};
 use kernel_audit::{AuditFault, Pass, Ticket};
 use kernel_bell::{Bell, RunnerSeat};
-use kernel_core::{Job, Kernel, Phase, PostFault};
+use kernel_core::{Job, Kernel, PostFault};
 use std::alloc::Global;
 use std::marker::Model;
 use std::sync::ledger::{Blank, Ledger};
@@ -85,7 +83,7 @@ impl<W: Ledger, L: Ledger> Hall<W, L> {
         ensures lane { IfOk result (λ p. (1 ≤ p.lane) × (p.lane ≤ PASSES)) }
         ensures refusal { IfErr result (λ f. f ≡ HallFault.NoPass) }
     {
-        match self.entrance.enter(rt, &self.state).passes.next() {
+        match self.entrance.enter(rt, &self.state).pass() {
             Some(pass) => Ok(pass),
             None => Err(HallFault::NoPass),
         }
@@ -208,7 +206,7 @@ impl<W: Ledger, L: Ledger> Hall<W, L> {
         match ask {
             // The text alone tells, so others have the lock meanwhile.
             Ask::IsComplete { code } => {
-                let alloc = state.alloc;
+                let alloc = state.alloc();
                 let seen = state.seen();
                 drop(state);
                 Ok(judge(alloc, seen, code))
@@ -240,7 +238,7 @@ impl<W: Ledger, L: Ledger> Hall<W, L> {
     ) -> Result<bool, HallFault>
         ensures { IfErr result (λ f. f ≡ HallFault.Memory) }
     {
-        comm_on(&mut self.entrance.enter(rt, &self.state).comms, change)
+        self.entrance.enter(rt, &self.state).comm(change)
     }
 
     /// From now on each post is refused, and each job that is taken. It interrupts nothing, and takes no memory.
@@ -278,19 +276,24 @@ impl<W: Ledger, L: Ledger> Hall<W, L> {
     /// there before a thread is asleep, so it watches for a while first.
     pub(crate) fn wait_for_work<R: Wait>(&self, rt: &R) -> bool {
         let seen = self.moved.notifications();
-        if self.state.lock(rt).is_at_rest() {
+        if is_at_rest(&self.state.lock(rt)) {
             watch(&self.moved, seen, LOOKS_FOR_POST);
         }
         let mut state = self.state.lock(rt);
         for _ in rt.forever() {
-            if state.kernel.phase() != Phase::Idle {
+            if !state.is_idle() {
                 return true;
             }
-            if state.kernel.is_closing() {
+            if state.is_closing() {
                 return false;
             }
             state = self.moved.wait(rt, state);
         }
         unreachable!()
     }
+}
+
+/// Whether nothing is to be done, and posts may still come.
+fn is_at_rest<W: Ledger, L: Ledger>(state: &State<W, L>) -> bool {
+    state.is_idle() && !state.is_closing()
 }

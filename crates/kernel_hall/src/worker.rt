@@ -2,7 +2,7 @@
 ghost use Rattle.std.specs.Prelude.{◌≡◌};
 
 use crate::hall::Hall;
-use crate::turn::Turn;
+use hall_state::Turn;
 use kernel_bell::RunnerSeat;
 use kernel_core::{Begun, STEPS_OF_A_SLICE, Sliced};
 use std::sync::Wait;

@@ -26,7 +26,7 @@ use Rattle.kernel_reply.specs.Replies.{kernel_info_reply, complete_reply, inspec
 use Rattle.kernel_reply.specs.Execution.{execute_input, execute_result, error, execute_broadcasts, execute_reply, error_reply}
 use Rattle.kernel_reply.specs.Comms.{is_target, comm_info_reply, comm_msg, comm_close, state_shown}
 use Rattle.kernel_reply.specs.Moves.{move_shown, unposted_shown}
-use Rattle.kernel_reply.specs.Answers.{only, status_alone, tells, tells_on_comm, is_of_cell, cell_says, completion_says, inspection_says, completeness_says, inputs_say, history_says, comms_say, comm_open_says, state_says, comm_says, job_says, unposted_says, refusal_says, ask_says}
+use Rattle.kernel_reply.specs.Answers.{only, status_alone, tells, tells_on_comm, is_of_cell, cell_says, cell_says_with, completion_says, inspection_says, completeness_says, inputs_say, history_says, comms_say, comm_open_says, state_says, comm_says, job_says, job_says_with, unposted_says, unposted_says_with, refusal_says, refusal_says_with, ask_says}
 use Rattle.kernel_reply.specs.Laws.{EndsIdle, JobsEndIdle, AsksEndIdle, RefusalsEndIdle}
 
 -- a reply or none, broadcasts, and then the status idle
@@ -111,6 +111,46 @@ module _ (asker : Asker) (stamp : Stamp) where
   refusal_ends r f (content.History inputs) = alone_ends
   refusal_ends r f (content.IsOpen is) = alone_ends
   refusal_ends r f (content.Comms ids) = alone_ends
+
+  job_with_ends : (r : RequestContent) (code : List ℕ) (done : Done) → Ends (job_says_with r code done)
+  job_with_ends (request.Execute r) code done =
+      either_ends (is_of_cell done.outcome) (cell_says_with r.silent code done) status_alone
+      (cell_ends (execute_reply done.count (cell_problem done.outcome) done.values.items) r.silent code done.count (cell_problem done.outcome) (option_map string_bytes done.shown))
+      alone_ends
+  job_with_ends request.KernelInfo code done = job_ends request.KernelInfo done
+  job_with_ends (request.Complete r) code done = job_ends (request.Complete r) done
+  job_with_ends (request.Inspect r) code done = job_ends (request.Inspect r) done
+  job_with_ends (request.IsComplete r) code done = job_ends (request.IsComplete r) done
+  job_with_ends (request.History r) code done = job_ends (request.History r) done
+  job_with_ends (request.CommInfo r) code done = job_ends (request.CommInfo r) done
+  job_with_ends request.Interrupt code done = job_ends request.Interrupt done
+  job_with_ends (request.Shutdown r) code done = job_ends (request.Shutdown r) done
+  job_with_ends (request.CommOpen r) code done = job_ends (request.CommOpen r) done
+  job_with_ends (request.CommClose r) code done = job_ends (request.CommClose r) done
+  job_with_ends (request.CommMessage r) code done = job_ends (request.CommMessage r) done
+
+  unposted_with_ends : (r : RequestContent) (code : List ℕ) (f : PostFault) (s : KernelState) → Ends (unposted_says_with r code f s)
+  unposted_with_ends (request.Execute r) code f s = cell_ends (error_reply s.count (post_problem f)) r.silent code s.count (Some (post_problem f)) None
+  unposted_with_ends request.KernelInfo code f s = unposted_ends request.KernelInfo f s
+  unposted_with_ends (request.Complete r) code f s = unposted_ends (request.Complete r) f s
+  unposted_with_ends (request.Inspect r) code f s = unposted_ends (request.Inspect r) f s
+  unposted_with_ends (request.IsComplete r) code f s = unposted_ends (request.IsComplete r) f s
+  unposted_with_ends (request.History r) code f s = unposted_ends (request.History r) f s
+  unposted_with_ends (request.CommInfo r) code f s = unposted_ends (request.CommInfo r) f s
+  unposted_with_ends request.Interrupt code f s = unposted_ends request.Interrupt f s
+  unposted_with_ends (request.Shutdown r) code f s = unposted_ends (request.Shutdown r) f s
+  unposted_with_ends (request.CommOpen r) code f s = unposted_ends (request.CommOpen r) f s
+  unposted_with_ends (request.CommClose r) code f s = unposted_ends (request.CommClose r) f s
+  unposted_with_ends (request.CommMessage r) code f s = unposted_ends (request.CommMessage r) f s
+
+  refusal_with_ends : (r : RequestContent) (code : List ℕ) (f : PostFault) (c : Content) → Ends (refusal_says_with r code f c)
+  refusal_with_ends r code f (content.State s) = unposted_with_ends r code f s
+  refusal_with_ends r code f (content.Completion c) = alone_ends
+  refusal_with_ends r code f (content.Inspection known) = alone_ends
+  refusal_with_ends r code f (content.Completeness c) = alone_ends
+  refusal_with_ends r code f (content.History inputs) = alone_ends
+  refusal_with_ends r code f (content.IsOpen is) = alone_ends
+  refusal_with_ends r code f (content.Comms ids) = alone_ends
 
   completion_ends : (c : Content) → Ends (completion_says c)
   completion_ends (content.Completion c) = only_ends (complete_reply c)
@@ -203,11 +243,17 @@ module _ (asker : Asker) (stamp : Stamp) where
   ask_ends (request.CommMessage r) c = comm_ends r.ask (string_bytes r.comm_id) c
   ask_ends (request.CommClose r) c = alone_ends
 
-pub jobs_end_idle : JobsEndIdle
+pub jobs_end_idle : (asker : Asker) (stamp : Stamp) (r : RequestContent) (done : Done) → EndsIdle asker stamp (job_says r done)
 jobs_end_idle asker stamp r done = job_ends asker stamp r done
+
+pub jobs_end_idle_with : JobsEndIdle
+jobs_end_idle_with asker stamp r code done = job_with_ends asker stamp r code done
 
 pub asks_end_idle : AsksEndIdle
 asks_end_idle asker stamp r c = ask_ends asker stamp r c
 
-pub refusals_end_idle : RefusalsEndIdle
+pub refusals_end_idle : (asker : Asker) (stamp : Stamp) (r : RequestContent) (f : PostFault) (c : Content) → EndsIdle asker stamp (refusal_says r f c)
 refusals_end_idle asker stamp r f c = refusal_ends asker stamp r f c
+
+pub refusals_end_idle_with : RefusalsEndIdle
+refusals_end_idle_with asker stamp r code f c = refusal_with_ends asker stamp r code f c

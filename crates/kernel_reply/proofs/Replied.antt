@@ -22,7 +22,7 @@ use Rattle.kernel_reply.specs.Replies.{inspect_reply}
 use Rattle.kernel_reply.specs.Execution.{error_reply, ran_reply, execute_reply}
 use Rattle.kernel_reply.specs.Comms.{is_target, comm_close, comm_info_reply}
 use Rattle.kernel_reply.specs.Moves.{move_shown, unposted_shown}
-use Rattle.kernel_reply.specs.Answers.{status_alone, tells, tells_on_comm, is_of_cell, cell_says, completion_says, inspection_says, completeness_says, inputs_say, history_says, comms_say, comm_open_says, state_says, comm_says, job_says, unposted_says, refusal_says, ask_says}
+use Rattle.kernel_reply.specs.Answers.{status_alone, tells, tells_on_comm, is_of_cell, cell_says_with, completion_says, inspection_says, completeness_says, inputs_say, history_says, comms_say, comm_open_says, state_says, comm_says, refusal_says_with, ask_says}
 use Rattle.kernel_reply.specs.Laws.{IsReplied, is_completion, is_inspection, is_completeness, is_inputs, is_comms, is_state, is_history_for, is_end_for, is_refusal_for, is_answer_for, EndsAreReplied, RefusalsAreReplied, AnswersAreReplied}
 
 -- the type of the reply, if there is one
@@ -48,50 +48,50 @@ on_comm_untyped id None = refl
 on_comm_untyped id (Some d) = refl
 
 pub ends_are_replied : EndsAreReplied
-ends_are_replied (request.Execute r) done e =
-    subst (λ (b : Bool). type_of (if b then cell_says r done else status_alone) ≡ Some (codes "execute_reply")) (sym e)
+ends_are_replied (request.Execute r) code done e =
+    subst (λ (b : Bool). type_of (if b then cell_says_with r.silent code done else status_alone) ≡ Some (codes "execute_reply")) (sym e)
     (ap Some (execute_typed done.count (cell_problem done.outcome) done.values.items))
-ends_are_replied (request.CommMessage r) done e = on_comm_untyped (string_bytes r.comm_id) (move_shown r.ask done.node done.outcome)
-ends_are_replied (request.CommOpen r) done e = refl
-ends_are_replied (request.CommClose r) done e = refl
-ends_are_replied request.KernelInfo done e = absurd cc
-ends_are_replied (request.Complete r) done e = absurd cc
-ends_are_replied (request.Inspect r) done e = absurd cc
-ends_are_replied (request.IsComplete r) done e = absurd cc
-ends_are_replied (request.History r) done e = absurd cc
-ends_are_replied (request.CommInfo r) done e = absurd cc
-ends_are_replied request.Interrupt done e = absurd cc
-ends_are_replied (request.Shutdown r) done e = absurd cc
+ends_are_replied (request.CommMessage r) code done e = on_comm_untyped (string_bytes r.comm_id) (move_shown r.ask done.node done.outcome)
+ends_are_replied (request.CommOpen r) code done e = refl
+ends_are_replied (request.CommClose r) code done e = refl
+ends_are_replied request.KernelInfo code done e = absurd cc
+ends_are_replied (request.Complete r) code done e = absurd cc
+ends_are_replied (request.Inspect r) code done e = absurd cc
+ends_are_replied (request.IsComplete r) code done e = absurd cc
+ends_are_replied (request.History r) code done e = absurd cc
+ends_are_replied (request.CommInfo r) code done e = absurd cc
+ends_are_replied request.Interrupt code done e = absurd cc
+ends_are_replied (request.Shutdown r) code done e = absurd cc
 
-cell_refused : (r : ExecuteRequest) (f : PostFault) (c : Content) → is_state c ≡ true → type_of (refusal_says (request.Execute r) f c) ≡ Some (codes "execute_reply")
-cell_refused r f (content.State s) e = ap Some (error_typed s.count (post_problem f))
-cell_refused r f _ e = absurd cc
+cell_refused : (r : ExecuteRequest) (code : List ℕ) (f : PostFault) (c : Content) → is_state c ≡ true → type_of (refusal_says_with (request.Execute r) code f c) ≡ Some (codes "execute_reply")
+cell_refused r code f (content.State s) e = ap Some (error_typed s.count (post_problem f))
+cell_refused r code f _ e = absurd cc
 
-move_refused : (r : CommMessage) (f : PostFault) (c : Content) → type_of (refusal_says (request.CommMessage r) f c) ≡ None
-move_refused r f (content.State s) = on_comm_untyped (string_bytes r.comm_id) (unposted_shown r.ask s.node f)
-move_refused r f _ = refl
+move_refused : (r : CommMessage) (code : List ℕ) (f : PostFault) (c : Content) → type_of (refusal_says_with (request.CommMessage r) code f c) ≡ None
+move_refused r code f (content.State s) = on_comm_untyped (string_bytes r.comm_id) (unposted_shown r.ask s.node f)
+move_refused r code f _ = refl
 
-open_refused : (r : CommOpen) (f : PostFault) (c : Content) → type_of (refusal_says (request.CommOpen r) f c) ≡ None
-open_refused r f (content.State s) = refl
-open_refused r f _ = refl
+open_refused : (r : CommOpen) (code : List ℕ) (f : PostFault) (c : Content) → type_of (refusal_says_with (request.CommOpen r) code f c) ≡ None
+open_refused r code f (content.State s) = refl
+open_refused r code f _ = refl
 
-close_refused : (r : CommClose) (f : PostFault) (c : Content) → type_of (refusal_says (request.CommClose r) f c) ≡ None
-close_refused r f (content.State s) = refl
-close_refused r f _ = refl
+close_refused : (r : CommClose) (code : List ℕ) (f : PostFault) (c : Content) → type_of (refusal_says_with (request.CommClose r) code f c) ≡ None
+close_refused r code f (content.State s) = refl
+close_refused r code f _ = refl
 
 pub refusals_are_replied : RefusalsAreReplied
-refusals_are_replied (request.Execute r) f c e = cell_refused r f c e
-refusals_are_replied (request.CommMessage r) f c e = move_refused r f c
-refusals_are_replied (request.CommOpen r) f c e = open_refused r f c
-refusals_are_replied (request.CommClose r) f c e = close_refused r f c
-refusals_are_replied request.KernelInfo f c e = absurd cc
-refusals_are_replied (request.Complete r) f c e = absurd cc
-refusals_are_replied (request.Inspect r) f c e = absurd cc
-refusals_are_replied (request.IsComplete r) f c e = absurd cc
-refusals_are_replied (request.History r) f c e = absurd cc
-refusals_are_replied (request.CommInfo r) f c e = absurd cc
-refusals_are_replied request.Interrupt f c e = absurd cc
-refusals_are_replied (request.Shutdown r) f c e = absurd cc
+refusals_are_replied (request.Execute r) code f c e = cell_refused r code f c e
+refusals_are_replied (request.CommMessage r) code f c e = move_refused r code f c
+refusals_are_replied (request.CommOpen r) code f c e = open_refused r code f c
+refusals_are_replied (request.CommClose r) code f c e = close_refused r code f c
+refusals_are_replied request.KernelInfo code f c e = absurd cc
+refusals_are_replied (request.Complete r) code f c e = absurd cc
+refusals_are_replied (request.Inspect r) code f c e = absurd cc
+refusals_are_replied (request.IsComplete r) code f c e = absurd cc
+refusals_are_replied (request.History r) code f c e = absurd cc
+refusals_are_replied (request.CommInfo r) code f c e = absurd cc
+refusals_are_replied request.Interrupt code f c e = absurd cc
+refusals_are_replied (request.Shutdown r) code f c e = absurd cc
 
 -- ---- answers
 

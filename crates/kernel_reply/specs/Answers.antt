@@ -55,11 +55,15 @@ is_of_cell (Undid cells end) = false
 is_of_cell (Redid cells end) = false
 is_of_cell (Went up down end) = false
 
-abbrev pub cell_says : ExecuteRequest → Done → Says
-cell_says r done = record {
+-- what is said of a cell that ended, by whether it is silent and by its text
+abbrev pub cell_says_with : Bool → List ℕ → Done → Says
+cell_says_with silent code done = record {
   reply = Some (execute_reply done.count (cell_problem done.outcome) done.values.items);
-  broadcasts = execute_broadcasts r.silent (string_bytes r.code) done.count (cell_problem done.outcome) (option_map string_bytes done.shown);
+  broadcasts = execute_broadcasts silent code done.count (cell_problem done.outcome) (option_map string_bytes done.shown);
 }
+
+abbrev pub cell_says : ExecuteRequest → Done → Says
+cell_says r done = cell_says_with r.silent (string_bytes r.code) done
 
 abbrev pub job_says : RequestContent → Done → Says
 job_says (request.Execute r) done = if is_of_cell done.outcome then cell_says r done else status_alone
@@ -75,13 +79,22 @@ job_says (request.Shutdown r) done = status_alone
 job_says (request.CommOpen r) done = status_alone
 job_says (request.CommClose r) done = status_alone
 
+-- the same of a request that has handed the text of its cell on, by that text
+abbrev pub job_says_with : RequestContent → List ℕ → Done → Says
+job_says_with (request.Execute r) code done = if is_of_cell done.outcome then cell_says_with r.silent code done else status_alone
+job_says_with r code done = job_says r done
+
 -- ---- a request whose job was refused as it was posted, with the state
 
-abbrev pub unposted_cell_says : ExecuteRequest → PostFault → KernelState → Says
-unposted_cell_says r f s = record {
+-- what is said of a cell that was refused, by whether it is silent and by its text
+abbrev pub unposted_cell_says_with : Bool → List ℕ → PostFault → KernelState → Says
+unposted_cell_says_with silent code f s = record {
   reply = Some (error_reply s.count (post_problem f));
-  broadcasts = execute_broadcasts r.silent (string_bytes r.code) s.count (Some (post_problem f)) None;
+  broadcasts = execute_broadcasts silent code s.count (Some (post_problem f)) None;
 }
+
+abbrev pub unposted_cell_says : ExecuteRequest → PostFault → KernelState → Says
+unposted_cell_says r f s = unposted_cell_says_with r.silent (string_bytes r.code) f s
 
 abbrev pub unposted_says : RequestContent → PostFault → KernelState → Says
 unposted_says (request.Execute r) f s = unposted_cell_says r f s
@@ -100,6 +113,15 @@ unposted_says (request.CommClose r) f s = status_alone
 abbrev pub refusal_says : RequestContent → PostFault → Content → Says
 refusal_says r f (content.State s) = unposted_says r f s
 refusal_says r f _ = status_alone
+
+-- the same of a request that has handed the text of its cell on, by that text
+abbrev pub unposted_says_with : RequestContent → List ℕ → PostFault → KernelState → Says
+unposted_says_with (request.Execute r) code f s = unposted_cell_says_with r.silent code f s
+unposted_says_with r code f s = unposted_says r f s
+
+abbrev pub refusal_says_with : RequestContent → List ℕ → PostFault → Content → Says
+refusal_says_with r code f (content.State s) = unposted_says_with r code f s
+refusal_says_with r code f _ = status_alone
 
 -- ---- a request that is answered at once
 

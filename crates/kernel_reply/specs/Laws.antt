@@ -27,7 +27,7 @@ use Rattle.kernel_message.specs.declared.stamp.Stamp.{Stamp}
 use Rattle.kernel_reply.specs.Status.{idle}
 use Rattle.kernel_reply.specs.Comms.{is_target, comm_close, comm_shown, with_comms}
 use Rattle.kernel_reply.specs.Execution.{value_shown, with_values}
-use Rattle.kernel_reply.specs.Answers.{is_of_cell, job_says, ask_says, refusal_says, status_alone, tells}
+use Rattle.kernel_reply.specs.Answers.{is_of_cell, job_says, job_says_with, ask_says, refusal_says, refusal_says_with, status_alone, tells}
 
 -- ---- the status of the kernel
 
@@ -38,9 +38,9 @@ pub record EndsIdle (asker : Asker) (stamp : Stamp) (says : Says) : Type 0 where
   pub is_last : in_order (sent asker stamp says) ≡ earlier ++ broadcast_message asker.header stamp n idle ∷ []
   pub last_number : n + 1 ≡ next_after stamp says
 
--- Whatever job ended, the last message is the status idle.
+-- Whatever job ended, and whatever its text, the last message is the status idle.
 abbrev pub JobsEndIdle : Type 0
-JobsEndIdle = (asker : Asker) (stamp : Stamp) (r : RequestContent) (done : Done) → EndsIdle asker stamp (job_says r done)
+JobsEndIdle = (asker : Asker) (stamp : Stamp) (r : RequestContent) (code : List ℕ) (done : Done) → EndsIdle asker stamp (job_says_with r code done)
 
 -- Whatever is answered at once, the last message is the status idle.
 abbrev pub AsksEndIdle : Type 0
@@ -48,7 +48,22 @@ AsksEndIdle = (asker : Asker) (stamp : Stamp) (r : RequestContent) (c : Content)
 
 -- Whatever post was refused, the last message is the status idle.
 abbrev pub RefusalsEndIdle : Type 0
-RefusalsEndIdle = (asker : Asker) (stamp : Stamp) (r : RequestContent) (f : PostFault) (c : Content) → EndsIdle asker stamp (refusal_says r f c)
+RefusalsEndIdle =
+    (asker : Asker) (stamp : Stamp) (r : RequestContent) (code : List ℕ) (f : PostFault) (c : Content) → EndsIdle asker stamp (refusal_says_with r code f c)
+
+-- ---- the text of a cell
+
+-- the text that a request to execute a cell brought
+abbrev pub own_text : RequestContent → List ℕ
+own_text (request.Execute r) = string_bytes r.code
+own_text r = []
+
+-- By its own text the same is said of a request as where it has kept that text.
+abbrev pub JobsSayTheSame : Type 0
+JobsSayTheSame = (r : RequestContent) (done : Done) → job_says_with r (own_text r) done ≡ job_says r done
+
+abbrev pub RefusalsSayTheSame : Type 0
+RefusalsSayTheSame = (r : RequestContent) (f : PostFault) (c : Content) → refusal_says_with r (own_text r) f c ≡ refusal_says r f c
 
 -- ---- replies
 
@@ -150,11 +165,12 @@ is_answer_for (request.CommClose r) c = true
 
 -- Where a job of the request ended, it is replied to by its own type, and a message on comms not at all.
 abbrev pub EndsAreReplied : Type 0
-EndsAreReplied = (r : RequestContent) (done : Done) → is_end_for r done ≡ true → IsReplied r (job_says r done)
+EndsAreReplied = (r : RequestContent) (code : List ℕ) (done : Done) → is_end_for r done ≡ true → IsReplied r (job_says_with r code done)
 
 -- So where its post was refused.
 abbrev pub RefusalsAreReplied : Type 0
-RefusalsAreReplied = (r : RequestContent) (f : PostFault) (c : Content) → is_refusal_for r c ≡ true → IsReplied r (refusal_says r f c)
+RefusalsAreReplied =
+    (r : RequestContent) (code : List ℕ) (f : PostFault) (c : Content) → is_refusal_for r c ≡ true → IsReplied r (refusal_says_with r code f c)
 
 -- So where it was answered at once.
 abbrev pub AnswersAreReplied : Type 0

@@ -3,7 +3,7 @@ ghost use Rattle.std.specs.Prelude.{◌≡◌, ◌≤◌, ◌-◌, ◌+◌, ◌^
 ghost use Rattle.kernel_message.specs.Message.{asker_of, broadcast_message};
 ghost use Rattle.kernel_message.specs.Sent.{sent_of, sent, next_after};
 ghost use Rattle.kernel_reply.specs.Status.{busy as busy_said};
-ghost use Rattle.kernel_reply.specs.Answers.{job_says, ask_says, refusal_says};
+ghost use Rattle.kernel_reply.specs.Answers.{job_says_with, ask_says, refusal_says_with};
 
 use crate::status::busy;
 use crate::tables::{ask_drafts, job_drafts, refusal_drafts};
@@ -54,7 +54,8 @@ pub fn opening_by_header(
 }
 
 /// The messages in answer to a request that became a job, which ended so: an `execute_request`, or an undo, a redo or a goto on a
-/// comm. Where the outcome is that of another kind of job they are the status alone.
+/// comm. Where the outcome is that of another kind of job they are the status alone. The code is the text of the cell, which its request may have
+/// handed on; of another request nothing is read of it.
 ///
 /// # Errors
 ///
@@ -62,18 +63,19 @@ pub fn opening_by_header(
 pub fn answer(
     alloc: Global,
     request: &Request,
+    code: &str,
     done: &Done,
     stamp: &mut Stamp,
 ) -> Result<Outgoing, MsgFault>
     requires { stamp.old.next ≤ 2 ^ 64 - 15 }
     ensures sent { IfOk result (λ out. sent_of out
-        ≡ sent (asker_of request.now) stamp.old (job_says request.now.content done.now)) }
+        ≡ sent (asker_of request.now) stamp.old (job_says_with request.now.content code.now done.now)) }
     ensures next { OnOk result (stamp.new
-        ≡ record stamp.old { next = next_after stamp.old (job_says request.now.content done.now) }) }
+        ≡ record stamp.old { next = next_after stamp.old (job_says_with request.now.content code.now done.now) }) }
     ensures err { IfErr result (λ e. e ≡ MsgFault.Memory) }
     ensures unchanged { OnErr result (stamp.new ≡ stamp.old) }
 {
-    let drafts = job_drafts(alloc, &request.content, done)?;
+    let drafts = job_drafts(alloc, &request.content, code, done)?;
     Ok(send(alloc, request, &drafts, stamp)?)
 }
 
@@ -103,7 +105,7 @@ pub fn answer_ask(
 }
 
 /// The messages in answer to a request whose job was refused as it was posted. The answer is that of the state, of which position and
-/// counter are told; another brings the status alone.
+/// counter are told; another brings the status alone. The code is as for [`answer`].
 ///
 /// # Errors
 ///
@@ -111,18 +113,19 @@ pub fn answer_ask(
 pub fn refuse(
     alloc: Global,
     request: &Request,
+    code: &str,
     fault: &PostFault,
     answer: &Answer,
     stamp: &mut Stamp,
 ) -> Result<Outgoing, MsgFault>
     requires { stamp.old.next ≤ 2 ^ 64 - 15 }
     ensures sent { IfOk result (λ out. sent_of out
-        ≡ sent (asker_of request.now) stamp.old (refusal_says request.now.content fault.now answer.now.content)) }
+        ≡ sent (asker_of request.now) stamp.old (refusal_says_with request.now.content code.now fault.now answer.now.content)) }
     ensures next { OnOk result (stamp.new
-        ≡ record stamp.old { next = next_after stamp.old (refusal_says request.now.content fault.now answer.now.content) }) }
+        ≡ record stamp.old { next = next_after stamp.old (refusal_says_with request.now.content code.now fault.now answer.now.content) }) }
     ensures err { IfErr result (λ e. e ≡ MsgFault.Memory) }
     ensures unchanged { OnErr result (stamp.new ≡ stamp.old) }
 {
-    let drafts = refusal_drafts(alloc, &request.content, *fault, &answer.content)?;
+    let drafts = refusal_drafts(alloc, &request.content, code, *fault, &answer.content)?;
     Ok(send(alloc, request, &drafts, stamp)?)
 }

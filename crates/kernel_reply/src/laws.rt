@@ -1,6 +1,7 @@
 //! What holds of all answers. The functions do nothing: their contracts are the laws. That the messages are numbered without a gap in
 //! their order, and that their parent header is the header of the request, are laws of `kernel_message`.
 ghost use Rattle.kernel_reply.specs.Laws.{JobsEndIdle, AsksEndIdle, RefusalsEndIdle, EndsAreReplied, RefusalsAreReplied, AnswersAreReplied};
+ghost use Rattle.kernel_reply.specs.Laws.{JobsSayTheSame, RefusalsSayTheSame};
 ghost use Rattle.kernel_reply.specs.Laws.{OpensPastTheLimitClose, OpensOfOpenComms, OpensForOtherTargetsClose, ListsEachCommOnce, ListsEachWithItsTarget};
 ghost use Rattle.kernel_reply.specs.Laws.{TellsEachNameOnce, TellsValuesByName};
 
@@ -17,6 +18,12 @@ pub fn asks_end_idle_law()
 /// The last message of an answer to a refused post is the status idle.
 pub fn refusals_end_idle_law()
     ensures { RefusalsEndIdle }
+{}
+
+/// By the text that a request brought, what is said of its job, or of its refusal, is the same as where the request has kept the text.
+pub fn texts_are_handed_on_law()
+    ensures jobs { JobsSayTheSame }
+    ensures refusals { RefusalsSayTheSame }
 {}
 
 /// Where what is told belongs to the request, be it a job that ended, the refusal of a post or an answer, each request has a reply of its own

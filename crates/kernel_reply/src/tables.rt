@@ -14,9 +14,7 @@ use crate::replies::{
     kernel_info_reply, no_search_reply, shutdown_reply,
 };
 use crate::status::idle;
-use jupyter_msg::{
-    CommAsk, CommMessage, CommOpen, ExecuteRequest, HistoryAccess, HistoryRequest, RequestContent,
-};
+use jupyter_msg::{CommAsk, CommMessage, CommOpen, HistoryAccess, HistoryRequest, RequestContent};
 use kernel_ask::{Content, Done, KernelState};
 use kernel_core::{Outcome, PostFault};
 use kernel_message::{Draft, Drafts};
@@ -70,17 +68,17 @@ fn is_of_cell(outcome: &Outcome) -> bool
     }
 }
 
-/// What is said of a cell.
-fn cell_drafts(alloc: Global, request: &ExecuteRequest, done: &Done) -> Result<Drafts, AllocError>
-    ensures says { IfOk result (λ s. says_of s ≡ table.cell_says request.now done.now) }
+/// What is said of a cell of this text.
+fn cell_drafts(alloc: Global, silent: bool, code: &str, done: &Done) -> Result<Drafts, AllocError>
+    ensures says { IfOk result (λ s. says_of s ≡ table.cell_says_with silent code.now done.now) }
     ensures few { IfOk result (λ s. vec_len s.broadcasts ≤ 3) }
 {
     let problem = cell_problem(alloc, &done.outcome)?;
     let reply = execute_reply(alloc, done.count, problem.as_ref(), &done.values)?;
     let broadcasts = execute_broadcasts(
         alloc,
-        request.silent,
-        &request.code,
+        silent,
+        code,
         done.count,
         problem.as_ref(),
         done.shown.as_deref(),
@@ -109,19 +107,20 @@ fn move_drafts(alloc: Global, request: &CommMessage, done: &Done) -> Result<Draf
     }
 }
 
-/// What is said of a job that ended.
+/// What is said of a job that ended. The code is the text of the cell, if that is what ran.
 pub(crate) fn job_drafts(
     alloc: Global,
     request: &RequestContent,
+    code: &str,
     done: &Done,
 ) -> Result<Drafts, AllocError>
-    ensures says { IfOk result (λ s. says_of s ≡ table.job_says request.now done.now) }
+    ensures says { IfOk result (λ s. says_of s ≡ table.job_says_with request.now code.now done.now) }
     ensures few { IfOk result (λ s. vec_len s.broadcasts ≤ 3) }
 {
     match request {
         RequestContent::Execute(request) => {
             if is_of_cell(&done.outcome) {
-                cell_drafts(alloc, request, done)
+                cell_drafts(alloc, request.silent, code, done)
             } else {
                 status_alone(alloc)
             }
@@ -131,26 +130,20 @@ pub(crate) fn job_drafts(
     }
 }
 
-/// What is said of a cell that was not posted.
+/// What is said of a cell of this text that was not posted.
 fn unposted_cell_drafts(
     alloc: Global,
-    request: &ExecuteRequest,
+    silent: bool,
+    code: &str,
     fault: PostFault,
     state: &KernelState,
 ) -> Result<Drafts, AllocError>
-    ensures says { IfOk result (λ s. says_of s ≡ table.unposted_cell_says request.now fault state.now) }
+    ensures says { IfOk result (λ s. says_of s ≡ table.unposted_cell_says_with silent code.now fault state.now) }
     ensures few { IfOk result (λ s. vec_len s.broadcasts ≤ 3) }
 {
     let problem = post_problem(alloc, fault)?;
     let reply = error_reply(alloc, state.count, &problem)?;
-    let broadcasts = execute_broadcasts(
-        alloc,
-        request.silent,
-        &request.code,
-        state.count,
-        Some(&problem),
-        None,
-    )?;
+    let broadcasts = execute_broadcasts(alloc, silent, code, state.count, Some(&problem), None)?;
     Ok(Drafts {
         reply: Some(reply),
         broadcasts,
@@ -174,21 +167,24 @@ fn unposted_move_drafts(
     }
 }
 
-/// What is said of a job that was not posted.
+/// What is said of a job that was not posted. The code is the text of the cell, if that is what was to run.
 pub(crate) fn refusal_drafts(
     alloc: Global,
     request: &RequestContent,
+    code: &str,
     fault: PostFault,
     content: &Content,
 ) -> Result<Drafts, AllocError>
-    ensures says { IfOk result (λ s. says_of s ≡ table.refusal_says request.now fault content.now) }
+    ensures says { IfOk result (λ s. says_of s ≡ table.refusal_says_with request.now code.now fault content.now) }
     ensures few { IfOk result (λ s. vec_len s.broadcasts ≤ 3) }
 {
     let Content::State(state) = content else {
         return status_alone(alloc);
     };
     match request {
-        RequestContent::Execute(request) => unposted_cell_drafts(alloc, request, fault, state),
+        RequestContent::Execute(request) => {
+            unposted_cell_drafts(alloc, request.silent, code, fault, state)
+        }
         RequestContent::CommMessage(request) => unposted_move_drafts(alloc, request, fault, state),
         _ => status_alone(alloc),
     }

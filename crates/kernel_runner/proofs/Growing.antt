@@ -6,17 +6,17 @@ use Rattle.std.proofs.lemmas.Option.{slice_get_past}
 use Rattle.janus_meaning.specs.Syntax.{Name, Stm, Blk, Skip, Set, SetAt, Push, Pop, If, From, LocalInt, LocalStack, Call, Uncall, Nil, Cons}
 use Rattle.janus_meaning.specs.World.{Declaration, declared_name}
 use Rattle.janus_names.specs.Numbers.{IsNumbered, IsMet, GoOn}
-use Rattle.janus_invert.specs.declared.code.Symbol.{Symbol}
-use Rattle.janus_invert.specs.declared.code.FlatExp.{FlatExp}
-use Rattle.janus_invert.specs.declared.code.FlatExp.TheVariants as exp
-use Rattle.janus_invert.specs.declared.code.Statement.{Statement}
-use Rattle.janus_invert.specs.declared.code.Statement.TheVariants as statement
-use Rattle.janus_invert.specs.Numbered.{HasItsNumber, HaveTheirNumbers, HasNumbers, StatementHasNumbers, HaveNumbers}
-use Rattle.janus_invert.specs.Met.{MeetsLocals, MeetsLocalsOf}
+use Rattle.janus_code.specs.declared.code.Symbol.{Symbol}
+use Rattle.janus_code.specs.declared.code.FlatExp.{FlatExp}
+use Rattle.janus_code.specs.declared.code.FlatExp.TheVariants as exp
+use Rattle.janus_code.specs.declared.code.Statement.{Statement}
+use Rattle.janus_code.specs.declared.code.Statement.TheVariants as statement
+use Rattle.janus_code.specs.Numbered.{HasItsNumber, HaveTheirNumbers, HasNumbers, StatementHasNumbers, HaveNumbers}
+use Rattle.janus_code.specs.Met.{MeetsLocals, MeetsLocalsOf}
 use Rattle.janus_machine.specs.Places.{BookHasNumbers}
 use Rattle.janus_machine.specs.declared.book.Book.{Book}
 use Rattle.janus_meaning.specs.Syntax.{Proc, names_of}
-use Rattle.janus_invert.specs.Met.{AreAllMet}
+use Rattle.janus_code.specs.Met.{AreAllMet}
 use Rattle.janus_machine.specs.Bodies.{Define}
 use Rattle.janus_machine.specs.Procedures.{kept_in}
 use Rattle.janus_machine.specs.declared.procedures.Procedures.{Procedures}

@@ -8,14 +8,14 @@ use Rattle.janus_meaning.specs.Syntax.{Name, Proc, names_of}
 use Rattle.janus_syntax.specs.Tree.{procedure_view, procedures_view}
 use Rattle.janus_syntax.specs.View.{plain_procedure}
 use Rattle.janus_syntax.specs.declared.tree.Procedure as Defined
-use Rattle.janus_invert.specs.Met.{MeetsProc}
+use Rattle.janus_code.specs.Met.{MeetsProc}
 use Rattle.kernel_runner.specs.Met.{AreProceduresMet}
 use Rattle.janus_names.specs.Numbers.{IsNumbered}
-use Rattle.janus_invert.specs.CodeBlock.{code_block}
-use Rattle.janus_invert.specs.Numbered.{HaveNumbers}
-use Rattle.janus_invert.specs.Procedures.{param_of, params_of, proc_of, ParametersHaveNumbers, ProcedureHasNumbers}
-use Rattle.janus_invert.specs.declared.code.FlatParameter.{FlatParameter}
-use Rattle.janus_invert.specs.declared.code.FlatProcedure as flat
+use Rattle.janus_code.specs.CodeBlock.{code_block}
+use Rattle.janus_code.specs.Numbered.{HaveNumbers}
+use Rattle.janus_code.specs.Procedures.{param_of, params_of, proc_of, ParametersHaveNumbers, ProcedureHasNumbers}
+use Rattle.janus_code.specs.declared.code.FlatParameter.{FlatParameter}
+use Rattle.janus_code.specs.declared.code.FlatProcedure as flat
 use Rattle.janus_store.specs.Calls.{AreNamed}
 use Rattle.janus_machine.specs.Bodies.{numbers_of, IsBody, AreBodiesFrom}
 use Rattle.janus_machine.specs.Places.{block_in, BookHasNumbers}

@@ -15,8 +15,8 @@ use Rattle.janus_syntax.specs.View.{plain_cell, plain_procedure}
 use Rattle.janus_syntax.specs.declared.tree.Procedure as Defined
 use Rattle.janus_check.specs.WellFormed.{IsWellFormed}
 use Rattle.janus_check.proofs.SameHeads.{formed_same}
-use Rattle.janus_invert.specs.Met.{MeetsBlk, MeetsLocalsOf}
-use Rattle.janus_invert.proofs.Meeting.{AreMet, AreCalledMet}
+use Rattle.janus_code.specs.Met.{MeetsBlk, MeetsLocalsOf}
+use Rattle.janus_code.proofs.Meeting.{AreMet, AreCalledMet}
 use Rattle.janus_store.specs.StoreState.{StoreState, Caller, AreKnown, KeepsSight, shown_store, given_back}
 use Rattle.janus_machine.specs.Bodies.{AreBelow, AreBodies, AreBodiesFrom, AreDefined, Define}
 use Rattle.janus_machine.specs.Procedures.{kept_in}

@@ -22,8 +22,8 @@ use Rattle.janus_syntax.specs.declared.tree.Name as code
 use Rattle.janus_syntax.specs.declared.tree.Stm.{Stm, If, Loop, LocalInt, LocalStack}
 use Rattle.janus_syntax.proofs.Views.{view_if, view_loop, view_local_int, view_local_stack}
 use Rattle.janus_check.specs.WellFormed.{IsWellFormed}
-use Rattle.janus_invert.specs.Met.{AreAllMet, MeetsBlk, MeetsLocals, MeetsLocalsOf}
-use Rattle.janus_invert.proofs.Meeting.{AreMet, AreCalledMet, with_local, block_met, proc_met, stm_weight, block_weight}
+use Rattle.janus_code.specs.Met.{AreAllMet, MeetsBlk, MeetsLocals, MeetsLocalsOf}
+use Rattle.janus_code.proofs.Meeting.{AreMet, AreCalledMet, with_local, block_met, proc_met, stm_weight, block_weight}
 use Rattle.janus_store.specs.StoreState.{StoreState, AreKnown, KeepsSight}
 use Rattle.kernel_runner.specs.Met.{AreDeclaredMet, MeetsOwn, MeetOwn, AreProceduresMet}
 use Rattle.kernel_runner.proofs.Growing.{no_more, more_yet}

@@ -4,7 +4,7 @@ use Rattle.janus_meaning.specs.Limit.{parameter_limit}
 use Rattle.janus_meaning.specs.Syntax.{Name, Proc, names_of}
 use Rattle.janus_meaning.specs.World.{Declaration, declared_name}
 use Rattle.janus_names.specs.Numbers.{IsMet}
-use Rattle.janus_invert.specs.Met.{AreAllMet, MeetsLocalsOf, MeetsProc}
+use Rattle.janus_code.specs.Met.{AreAllMet, MeetsLocalsOf, MeetsProc}
 
 -- the name of a declaration was met
 abbrev pub IsDeclaredMet : List Name → Declaration → Type 0

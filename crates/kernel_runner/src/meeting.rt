@@ -4,7 +4,7 @@ ghost use Rattle.janus_syntax.specs.View.{stm_of, block_of};
 ghost use Rattle.janus_syntax.specs.Tree.{cell_view, declaration_view, declarations_view, parameters_view, procedure_view, procedures_view};
 ghost use Rattle.janus_syntax.specs.View.{plain_cell, plain_declaration, plain_parameter, plain_procedure};
 ghost use Rattle.janus_meaning.specs.Syntax.{names_of};
-ghost use Rattle.janus_invert.specs.Met.{AreAllMet, MeetsLocals, MeetsLocalsOf};
+ghost use Rattle.janus_code.specs.Met.{AreAllMet, MeetsLocals, MeetsLocalsOf};
 ghost use Rattle.janus_store.specs.StoreState.{KeepsSight};
 ghost use Rattle.kernel_runner.specs.Met.{AreDeclaredMet, IsDeclaredMet, MeetsOwn, MeetOwn};
 

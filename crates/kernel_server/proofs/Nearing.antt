@@ -25,7 +25,7 @@ use Rattle.kernel_core.specs.outcome.Begun.{Begun}
 use Rattle.kernel_core.specs.outcome.Begun.TheVariants as begun
 use Rattle.kernel_core.proofs.Taken.{IsInside, IsBorder}
 
--- ---- how much is left of a job, where a cell has so many steps at most
+-- ---- how much is left of a job, where each cell has at most the limit of steps
 
 -- of a cell: onward what is left of its steps, and all of them back
 abbrev on_left : ℕ → ℕ → ℕ
@@ -39,7 +39,7 @@ abbrev cells_left : Work → ℕ
 cells_left (Posted cell) = 0
 cells_left (Move travel) = cells travel
 
--- of so many cells, and so much of one
+-- of n cells, and of one with t steps
 abbrev in_all : ℕ → ℕ → ℕ
 in_all n t = n * (step_limit + step_limit + 4) + t
 

@@ -2,7 +2,7 @@
 use Rattle.std.specs.Prelude.{◌≡◌, ℕ, false, List, [], ◌∷◌}
 use Rattle.kernel_core.specs.events.Event.{Event}
 use Rattle.kernel_core.specs.events.Event.TheVariants as event
-use Rattle.kernel_machine.specs.declared.limit.TheConstants.{STEPS_OF_A_SLICE}
+use Rattle.kernel_core.specs.limit.TheConstants.{STEPS_OF_A_SLICE}
 use Rattle.kernel_server.specs.declared.slice.Slice.{Slice}
 
 -- the slice behind the end of the list

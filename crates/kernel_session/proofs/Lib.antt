@@ -1,5 +1,6 @@
 pub mod ActsLemmas
 pub mod TalkLemmas
+pub mod HandedOn
 pub mod RequestLemmas
 pub mod SessionLemmas
 pub mod EventLemmas

@@ -7,6 +7,7 @@ use Rattle.kernel_ask.specs.declared.done.Done.{Done}
 use Rattle.kernel_ask.specs.declared.answer.Answer.{Answer}
 use Rattle.kernel_ask.specs.declared.answer.HallFault.{HallFault}
 use Rattle.kernel_ask.specs.declared.answer.HallFault.TheVariants as hall_fault
+use Rattle.kernel_session.specs.declared.talk.Consulted.{Consulted}
 use Rattle.kernel_session.specs.declared.talk.DeskReply.{DeskReply}
 use Rattle.kernel_session.specs.declared.talk.DeskReply.TheVariants.{Answered}
 use Rattle.kernel_reply.specs.Comms.{target as undo_target}
@@ -86,14 +87,14 @@ module _ {D : Type 0} (leads : D → Call → D → Type 0) (d d' : D) where
   held_as content x e told h t same p =
       (h, subst (λ (y : RequestContent). IsHeld leads d (talk y h) told d') (sym e) (subst (λ (y : Talk). IsHeld leads d y told d') (sym same) p))
 
-  pub held_heard : {E : Type 0} (content x : RequestContent) → content ≡ x → (t : Heard → Talk) → ((h : Heard) → talk x h ≡ t h)
-      → (r : Result (Option DeskReply) E) → IfOk r (λ told. (h : Heard) × IsHeld leads d (t h) told d') → IfOk r (StoreState content)
-  held_heard content x e t same (Ok told) p = held_as content x e told p.0 (t p.0) (same p.0) p.1
-  held_heard content x e t same (Err f) p = tt
+  -- of a request that hands nothing on
+  pub held_kept : (content x : RequestContent) → content ≡ x → (told : Option DeskReply) (h : Heard) (t : Talk) → talk x h ≡ t → IsHeld leads d t told d'
+      → (shown : Option DeskReply) → shown ≡ told → StoreState content shown
+  held_kept content x e told h t same p shown is = subst (StoreState content) (sym is) (held_as content x e told h t same p)
 
-  pub held_job : {E : Type 0} (content x : RequestContent) → content ≡ x → (t : Result Done PostFault → Result Answer HallFault → Talk)
+  pub held_cell : {E : Type 0} (content x : RequestContent) → content ≡ x → (t : Result Done PostFault → Result Answer HallFault → Talk)
       → ((j : Result Done PostFault) (a : Result Answer HallFault) → talk x (heard_job j a) ≡ t j a)
-      → (r : Result (Option DeskReply) E) → IfOk r (λ told. (j : Result Done PostFault) × (a : Result Answer HallFault) × IsHeld leads d (t j a) told d')
-      → IfOk r (StoreState content)
-  held_job content x e t same (Ok told) p = held_as content x e told (heard_job p.0 p.1) (t p.0 p.1) (same p.0 p.1) p.2
-  held_job content x e t same (Err f) p = tt
+      → (r : Result Consulted E) → IfOk r (λ c. (j : Result Done PostFault) × (a : Result Answer HallFault) × IsHeld leads d (t j a) c.told d')
+      → IfOk r (λ c. StoreState content c.told)
+  held_cell content x e t same (Ok c) p = held_as content x e c.told (heard_job p.0 p.1) (t p.0 p.1) (same p.0 p.1) p.2
+  held_cell content x e t same (Err f) p = tt

@@ -1,6 +1,7 @@
 -- What is done for a request part by part, and a beginning of it.
-use Rattle.std.specs.Prelude.{◌≡◌, ℕ, List, [], ◌∷◌, ◌++◌, Option}
+use Rattle.std.specs.Prelude.{◌≡◌, ℕ, List, [], ◌∷◌, ◌++◌, Option, Some, None}
 use Rattle.jupyter_msg.specs.declared.request.Request.{Request}
+use Rattle.jupyter_msg.specs.declared.request.RequestContent.{RequestContent}
 use Rattle.jupyter_msg.specs.Message.{frames_of}
 use Rattle.kernel_message.specs.Message.{broadcast_message}
 use Rattle.kernel_reply.specs.Status.{busy}
@@ -8,8 +9,8 @@ use Rattle.kernel_message.specs.declared.stamp.Stamp.{Stamp}
 use Rattle.kernel_session.specs.declared.talk.DeskReply.{DeskReply}
 use Rattle.kernel_session.specs.Call.{Call, Published, Dated, Leads}
 use Rattle.kernel_session.specs.Action.{Action, Acts, IsStartOf}
-use Rattle.kernel_session.specs.Talk.{Heard, talk}
-use Rattle.kernel_session.specs.Session.{IsDated, opened, asking}
+use Rattle.kernel_session.specs.Talk.{Heard, talk, says_of, says_with}
+use Rattle.kernel_session.specs.Session.{IsDated, opened, asking, ends_with}
 
 -- some of the calls were made, in their order
 abbrev pub LedPart : {D : Type 0} → (D → Call → D → Type 0) → D → List Call → D → Type 0
@@ -50,3 +51,15 @@ module _ {D : Type 0} (leads : D → Call → D → Type 0) (desk desk' : D) (ke
     pub is_dated : IsDated stamp dated
     pub heard : Heard
     pub called : LedPart leads desk (asking key r stamp dated (talk r.content heard)) desk'
+
+-- ---- a request that hands the text of its cell on
+
+-- the text that was handed on; none counts as the empty one
+abbrev pub text_of : Option (List ℕ) → List ℕ
+text_of None = []
+text_of (Some code) = code
+
+-- The text of the cell was handed on. By what is left of the request and by this text the same is said, and the session ends alike.
+pub record HasHandedOn (old new : RequestContent) (code : List ℕ) : Type 0 where
+  pub says : (told : DeskReply) → says_with new code told ≡ says_of old told
+  pub ends : ends_with new ≡ ends_with old

@@ -18,7 +18,7 @@ use Rattle.kernel_ask.specs.declared.answer.Content.{Content}
 use Rattle.kernel_ask.specs.declared.answer.Content.TheVariants as content
 use Rattle.kernel_ask.specs.declared.answer.HallFault.{HallFault}
 use Rattle.kernel_message.specs.Said.{Says}
-use Rattle.kernel_reply.specs.Answers.{job_says, ask_says, refusal_says}
+use Rattle.kernel_reply.specs.Answers.{job_says, job_says_with, ask_says, refusal_says, refusal_says_with}
 use Rattle.kernel_reply.specs.Comms.{target as undo_target}
 use Rattle.kernel_session.specs.declared.talk.DeskReply.{DeskReply}
 use Rattle.kernel_session.specs.declared.talk.DeskReply.TheVariants.{Ended, Unposted, Answered}
@@ -129,3 +129,9 @@ abbrev pub says_of : RequestContent → DeskReply → Says
 says_of r (Ended done) = job_says r done
 says_of r (Unposted fault a) = refusal_says r fault a.content
 says_of r (Answered a) = ask_says r a.content
+
+-- the same of a request that has handed the text of its cell on, by that text
+abbrev pub says_with : RequestContent → List ℕ → DeskReply → Says
+says_with r code (Ended done) = job_says_with r code done
+says_with r code (Unposted fault a) = refusal_says_with r code fault a.content
+says_with r code (Answered a) = ask_says r a.content

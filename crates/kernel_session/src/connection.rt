@@ -29,7 +29,7 @@ use zmtp_peer::{Peer, PeerFault, octets_have_one_reading_law};
 use zmtp_wire::WireFault;
 
 /// The most octets that are read at once.
-const OCTETS_OF_A_READ: usize = 8192;
+const READ_OCTETS: usize = 8192;
 
 /// Why the connection ends at a fault of the peer.
 fn stop(fault: PeerFault) -> ServeFault
@@ -215,7 +215,7 @@ pub fn serve<R: Read, W: Write, D: Desk>(
         Ok(()) => {}
         Err(fault) => return Err(fault),
     }
-    let mut room = [0u8; OCTETS_OF_A_READ];
+    let mut room = [0u8; READ_OCTETS];
     // A loop is proved to end, so this one counts its reads.
     for _ in 0..u64::MAX {
         let count = match reader.read(&mut room) {

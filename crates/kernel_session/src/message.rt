@@ -71,11 +71,11 @@ fn take_turn<W: Write, D: Desk>(
     ensures midway { IfErr result IsMidway }
 {
     let read = read_request(alloc, socket, key, frames)?;
-    let request = match read {
+    let mut request = match read {
         Some(request) => request,
         None => return Ok(Flow::Going),
     };
-    take_request(alloc, key, writer, desk, stamp, &request)
+    take_request(alloc, key, writer, desk, stamp, &mut request)
 }
 
 /// Sends a message back.

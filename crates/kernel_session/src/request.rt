@@ -8,16 +8,16 @@ ghost use Rattle.kernel_message.specs.Sent.{sent, sent_of, next_after};
 ghost use Rattle.kernel_session.specs.Call.{Leads, Published};
 ghost use Rattle.exact_write.specs.Sent.{SentSome};
 ghost use Rattle.kernel_session.specs.Action.{Action, Acts, IsStartOf};
-ghost use Rattle.kernel_session.specs.Talk.{says_of};
-ghost use Rattle.kernel_session.specs.Session.{State, IsServed, IsWorn, answered, reply_octets, stamp_behind, ends_with};
-ghost use Rattle.kernel_session.specs.Parts.{LedPart, IsBegun, IsDatedAlone, IsTakenUp, IsTakenUpPart, ActedPart};
+ghost use Rattle.kernel_session.specs.Talk.{says_with};
+ghost use Rattle.kernel_session.specs.Session.{State, IsServed, IsWorn, answered, reply_octets, ends_with};
+ghost use Rattle.kernel_session.specs.Parts.{LedPart, IsBegun, IsDatedAlone, IsTakenUp, IsTakenUpPart, ActedPart, HasHandedOn, text_of};
 ghost use Rattle.kernel_session.specs.Ends.{IsMidway};
 
 use crate::desk::Desk;
 use crate::fault::ServeFault;
 use crate::flow::Flow;
 use crate::send::send_message;
-use crate::talk::{DeskReply, consult};
+use crate::talk::{Consulted, DeskReply, consult};
 use jupyter_msg::{Key, Message, Request, RequestContent};
 use kernel_board::Broadcast;
 use kernel_message::{Outgoing, Publication, Stamp};
@@ -118,43 +118,47 @@ fn begin<D: Desk>(
     publish_awake(alloc, desk, key, busy)
 }
 
-/// Sets the date, publishes the status busy and has the desk do what the request asks.
+/// Sets the date, publishes the status busy and has the desk do what the request asks. The text of a cell and its user expressions are moved out of
+/// the request.
 fn take_up<D: Desk>(
     alloc: Global,
     key: &Key,
     desk: &mut D,
     stamp: &mut Stamp,
-    request: &Request,
-) -> Result<Option<DeskReply>, ServeFault>
+    request: &mut Request,
+) -> Result<Consulted, ServeFault>
     requires { stamp.old.next ≤ 2 ^ 64 - 16 }
-    ensures ok { IfOk result (λ told. IsTakenUp D.leads desk.old desk.new key.now request.now stamp.old stamp.new told) }
-    ensures err { OnErr result (IsTakenUpPart D.leads desk.old desk.new key.now request.now stamp.old) }
+    ensures ok { IfOk result (λ c. IsTakenUp D.leads desk.old desk.new key.now request.old stamp.old stamp.new c.told) }
+    ensures handed { IfOk result (λ c. HasHandedOn request.old.content request.new.content (text_of c.code)) }
+    ensures asker { asker_of request.new ≡ asker_of request.old }
+    ensures err { OnErr result (IsTakenUpPart D.leads desk.old desk.new key.now request.old stamp.old) }
     ensures midway { IfErr result IsMidway }
 {
     begin(alloc, key, desk, stamp, request)?;
-    match consult(alloc, desk, &request.content) {
-        Ok(told) => Ok(told),
+    match consult(alloc, desk, &mut request.content) {
+        Ok(consulted) => Ok(consulted),
         Err(_) => Err(ServeFault::Memory),
     }
 }
 
-/// The messages in answer to a request.
+/// The messages in answer to a request that has handed the text of its cell on.
 fn outgoing(
     alloc: Global,
     stamp: &mut Stamp,
     request: &Request,
+    code: &str,
     told: &DeskReply,
 ) -> Result<Outgoing, ServeFault>
     requires { stamp.old.next ≤ 2 ^ 64 - 15 }
     ensures sent { IfOk result (λ out. sent_of out
-        ≡ sent (asker_of request.now) stamp.old (says_of request.now.content told.now)) }
+        ≡ sent (asker_of request.now) stamp.old (says_with request.now.content code.now told.now)) }
     ensures next { OnOk result (stamp.new
-        ≡ record stamp.old { next = next_after stamp.old (says_of request.now.content told.now) }) }
+        ≡ record stamp.old { next = next_after stamp.old (says_with request.now.content code.now told.now) }) }
     ensures midway { IfErr result IsMidway }
 {
     let out = match told {
-        DeskReply::Ended(done) => answer(alloc, request, done, stamp),
-        DeskReply::Unposted(fault, state) => refuse(alloc, request, fault, state, stamp),
+        DeskReply::Ended(done) => answer(alloc, request, code, done, stamp),
+        DeskReply::Unposted(fault, state) => refuse(alloc, request, code, fault, state, stamp),
         DeskReply::Answered(told) => answer_ask(alloc, request, told, stamp),
     };
     match out {
@@ -183,7 +187,7 @@ fn send_reply<W: Write>(
     send_message(alloc, writer, &frames)
 }
 
-/// Answers a request: publishes the broadcasts, the status idle last, and then writes the reply.
+/// Answers a request that has handed the text of its cell on: publishes the broadcasts, the status idle last, and then writes the reply.
 fn finish<W: Write, D: Desk>(
     alloc: Global,
     key: &Key,
@@ -191,17 +195,19 @@ fn finish<W: Write, D: Desk>(
     desk: &mut D,
     stamp: &mut Stamp,
     request: &Request,
+    code: &str,
     told: &DeskReply,
 ) -> Result<(), ServeFault>
     requires { stamp.old.next ≤ 2 ^ 64 - 15 }
     ensures ok { OnOk result (Acts W.contents D.leads writer.old writer.new desk.old desk.new
-        (answered key.now request.now stamp.old (says_of request.now.content told.now))) }
-    ensures stamp { OnOk result (stamp.new ≡ stamp_behind request.now stamp.old (Some told.now)) }
+        (answered key.now request.now stamp.old (says_with request.now.content code.now told.now))) }
+    ensures stamp { OnOk result (stamp.new
+        ≡ record stamp.old { next = next_after stamp.old (says_with request.now.content code.now told.now) }) }
     ensures err { OnErr result (ActedPart W.contents D.leads writer.old writer.new desk.old desk.new
-        (answered key.now request.now stamp.old (says_of request.now.content told.now))) }
+        (answered key.now request.now stamp.old (says_with request.now.content code.now told.now))) }
     ensures midway { IfErr result IsMidway }
 {
-    let out = outgoing(alloc, stamp, request, told)?;
+    let out = outgoing(alloc, stamp, request, code, told)?;
     publish_all(alloc, desk, key, out.broadcasts)?;
     send_reply(alloc, key, writer, out.reply)
 }
@@ -226,31 +232,32 @@ fn flow_after(content: &RequestContent) -> Flow
     }
 }
 
-/// Serves a request.
+/// Serves a request. The text of a cell and its user expressions are moved out of it.
 pub(crate) fn take_request<W: Write, D: Desk>(
     alloc: Global,
     key: &Key,
     writer: &mut W,
     desk: &mut D,
     stamp: &mut Stamp,
-    request: &Request,
+    request: &mut Request,
 ) -> Result<Flow, ServeFault>
     ensures ok { IfOk result (λ flow. (actions : List Action)
         × Acts W.contents D.leads writer.old writer.new desk.old desk.new actions
-        × (IsServed key.now request.now stamp.old actions (record { stamp = stamp.new; flow = flow })
+        × (IsServed key.now request.old stamp.old actions (record { stamp = stamp.new; flow = flow })
         ⊎ IsWorn stamp.old actions (record { stamp = stamp.new; flow = flow }))) }
-    ensures err { OnErr result ((actions : List Action) × (new : State) × IsServed key.now request.now stamp.old actions new
+    ensures err { OnErr result ((actions : List Action) × (new : State) × IsServed key.now request.old stamp.old actions new
         × ActedPart W.contents D.leads writer.old writer.new desk.old desk.new actions) }
     ensures midway { IfErr result IsMidway }
 {
     if stamp.next > LAST_NEXT {
         return Ok(Flow::Worn);
     }
-    let told = take_up(alloc, key, desk, stamp, request)?;
-    let told = match told {
+    let consulted = take_up(alloc, key, desk, stamp, request)?;
+    let told = match &consulted.told {
         Some(told) => told,
         None => return Ok(Flow::OutOfMemory),
     };
-    finish(alloc, key, writer, desk, stamp, request, &told)?;
+    let code = consulted.code();
+    finish(alloc, key, writer, desk, stamp, request, code, told)?;
     Ok(flow_after(&request.content))
 }

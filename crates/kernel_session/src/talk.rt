@@ -12,6 +12,7 @@ ghost use Rattle.kernel_reply.specs.Comms.{target as undo_target};
 ghost use Rattle.kernel_session.specs.Call.{Rang, Shut};
 ghost use Rattle.kernel_session.specs.Talk.{Heard, IsHeld, ask as ask_talk, post as post_talk, answered as answered_by, says_open as says_open_of};
 ghost use Rattle.kernel_session.specs.Talk.{history as history_talk, open_then_ask as open_then_ask_talk, open_comm as open_talk, close_comm as close_talk};
+ghost use Rattle.kernel_session.specs.Parts.{text_of, HasHandedOn};
 ghost use Rattle.kernel_session.specs.Talk.{follow as follow_talk, if_open, talk, only, no_answer as no_answer_is};
 
 use crate::desk::Desk;
@@ -23,6 +24,7 @@ use kernel_ask::{Answer, Ask, CommChange, Content, Done, HallFault, HistoryAsk, 
 use kernel_core::{CellText, Job, PostFault};
 use kernel_reply::COMM_TARGET;
 use std::alloc::{AllocError, Global};
+use std::mem;
 
 /// What a request is answered from.
 #[derive(Drop)]
@@ -33,6 +35,29 @@ pub enum DeskReply {
     Unposted(PostFault, Answer),
     /// It was answered at once.
     Answered(Answer),
+}
+
+/// What a request came to at the desk.
+#[derive(Drop)]
+pub(crate) struct Consulted {
+    /// What the request is answered from; nothing where the desk found no memory.
+    pub(crate) told: Option<DeskReply>,
+    /// The text of the cell, if it was one: its job shares it.
+    pub(crate) code: Option<CellText>,
+}
+
+impl Consulted {
+    ghost use Rattle.kernel_session.specs.Parts.{text_of};
+
+    /// The text of the cell; empty where it was none.
+    pub(crate) fn code(&self) -> &str
+        ensures { result.now ≡ text_of self.now.code }
+    {
+        match &self.code {
+            Some(code) => code.as_str(),
+            None => "",
+        }
+    }
 }
 
 /// An answer that nothing is read of.
@@ -80,46 +105,52 @@ fn post<D: Desk>(desk: &mut D, job: Job, wishes: Vec<Wish>) -> Option<DeskReply>
 fn push_wish(
     alloc: Global,
     wishes: &mut Vec<Wish>,
-    expression: &UserExpression,
+    expression: UserExpression,
 ) -> Result<(), AllocError>
     ensures { OnOk result (wishes_of wishes.new.items
-        ≡ wishes_of wishes.old.items ++ expressions_of (expression.now ∷ [])) }
+        ≡ wishes_of wishes.old.items ++ expressions_of (expression ∷ [])) }
 {
-    let name = expression.name.clone()?;
-    let text = expression.expression.clone()?;
-    wishes.push(Wish::new(alloc, name, text))?;
+    let UserExpression { name, expression } = expression;
+    wishes.push(Wish::new(alloc, name, expression))?;
     Ok(())
 }
 
-/// The user expressions of a request.
-fn wishes(alloc: Global, expressions: &[UserExpression]) -> Result<Vec<Wish>, AllocError>
-    ensures { IfOk result (λ v. wishes_of v.items ≡ expressions_of expressions.now) }
+/// The user expressions of a request, whose texts are moved.
+fn wishes(alloc: Global, expressions: Vec<UserExpression>) -> Result<Vec<Wish>, AllocError>
+    ensures { IfOk result (λ v. wishes_of v.items ≡ expressions_of expressions.items) }
 {
-    let mut wishes = Vec::new(alloc);
+    let mut wishes = Vec::with_capacity(alloc, expressions.len())?;
     for expression in expressions {
         push_wish(alloc, &mut wishes, expression)?;
     }
     Ok(wishes)
 }
 
-/// Posts the cell of a request.
+/// Posts the cell of a request, and answers its text too, which the job shares. Text and user expressions are moved out of the request.
 fn execute<D: Desk>(
     alloc: Global,
     desk: &mut D,
-    request: &ExecuteRequest,
-) -> Result<Option<DeskReply>, AllocError>
-    ensures ok { IfOk result (λ told. (j : Result Done PostFault) × (a : Result Answer HallFault)
-        × IsHeld D.leads desk.old (post_talk (RunCell (string_bytes request.now.code) request.now.silent request.now.store_history)
-        (expressions_of request.now.user_expressions.items) j a) told desk.new) }
+    request: &mut ExecuteRequest,
+) -> Result<Consulted, AllocError>
+    ensures ok { IfOk result (λ c. (j : Result Done PostFault) × (a : Result Answer HallFault)
+        × IsHeld D.leads desk.old (post_talk (RunCell (string_bytes request.old.code) request.old.silent request.old.store_history)
+        (expressions_of request.old.user_expressions.items) j a) c.told desk.new) }
+    ensures code { IfOk result (λ c. text_of c.code ≡ string_bytes request.old.code) }
+    ensures silent { request.new.silent ≡ request.old.silent }
     ensures err { OnErr result (desk.new ≡ desk.old) }
 {
-    let wishes = wishes(alloc, &request.user_expressions)?;
+    let expressions = mem::replace(&mut request.user_expressions, Vec::new(alloc));
+    let wishes = wishes(alloc, expressions)?;
+    let code = CellText::new(alloc, mem::replace(&mut request.code, String::new(alloc)))?;
     let job = Job::Cell {
-        code: CellText::new(alloc, request.code.clone()?)?,
+        code: code.clone()?,
         silent: request.silent,
         store: request.store_history,
     };
-    Ok(post(desk, job, wishes))
+    Ok(Consulted {
+        told: post(desk, job, wishes),
+        code: Some(code),
+    })
 }
 
 /// Asks for the history, unless it is to be searched.
@@ -271,30 +302,44 @@ fn judge<D: Desk>(desk: &mut D, request: &IsCompleteRequest) -> Option<DeskReply
     ask(desk, Ask::IsComplete { code })
 }
 
-/// Has the desk do what a request asks, and answers what the request is answered from; nothing where the desk found no memory. An
-/// `Err` tells that there was no memory here; then the desk was not called.
+/// Nothing of the request was handed on.
+fn kept(told: Option<DeskReply>) -> Consulted
+    ensures told { result.told ≡ told }
+    ensures code { text_of result.code ≡ [] }
+{
+    Consulted { told, code: None }
+}
+
+/// Has the desk do what a request asks. The text of a cell and its user expressions are moved out of the request. An `Err` tells that there was
+/// no memory here; then the desk was not called.
 pub(crate) fn consult<D: Desk>(
     alloc: Global,
     desk: &mut D,
-    content: &RequestContent,
-) -> Result<Option<DeskReply>, AllocError>
-    ensures ok { IfOk result (λ told. (h : Heard) × IsHeld D.leads desk.old (talk content.now h) told desk.new) }
+    content: &mut RequestContent,
+) -> Result<Consulted, AllocError>
+    ensures ok { IfOk result (λ c. (h : Heard) × IsHeld D.leads desk.old (talk content.old h) c.told desk.new) }
+    ensures handed { IfOk result (λ c. HasHandedOn content.old content.new (text_of c.code)) }
     ensures err { OnErr result (desk.new ≡ desk.old) }
 {
     match content {
-        RequestContent::KernelInfo => Ok(Some(DeskReply::Answered(no_answer()))),
+        RequestContent::KernelInfo => Ok(kept(Some(DeskReply::Answered(no_answer())))),
         RequestContent::Execute(request) => execute(alloc, desk, request),
-        RequestContent::Complete(request) => Ok(complete(desk, request)),
-        RequestContent::Inspect(request) => Ok(inspect(desk, request)),
-        RequestContent::IsComplete(request) => Ok(judge(desk, request)),
-        RequestContent::History(request) => Ok(history(desk, request)),
-        RequestContent::CommInfo(_) => Ok(ask(desk, Ask::Comms)),
-        RequestContent::Interrupt => Ok(interrupt(desk)),
-        RequestContent::Shutdown(_) => Ok(shut(desk)),
-        RequestContent::CommOpen(request) => open_comm(desk, request),
-        RequestContent::CommMessage(request) => {
-            Ok(on_comm(alloc, desk, request.comm_id.as_str(), request.ask))
+        RequestContent::Complete(request) => Ok(kept(complete(desk, request))),
+        RequestContent::Inspect(request) => Ok(kept(inspect(desk, request))),
+        RequestContent::IsComplete(request) => Ok(kept(judge(desk, request))),
+        RequestContent::History(request) => Ok(kept(history(desk, request))),
+        RequestContent::CommInfo(_) => Ok(kept(ask(desk, Ask::Comms))),
+        RequestContent::Interrupt => Ok(kept(interrupt(desk))),
+        RequestContent::Shutdown(_) => Ok(kept(shut(desk))),
+        RequestContent::CommOpen(request) => Ok(kept(open_comm(desk, request)?)),
+        RequestContent::CommMessage(request) => Ok(kept(on_comm(
+            alloc,
+            desk,
+            request.comm_id.as_str(),
+            request.ask,
+        ))),
+        RequestContent::CommClose(request) => {
+            Ok(kept(close_comm(desk, request.comm_id.as_str())))
         }
-        RequestContent::CommClose(request) => Ok(close_comm(desk, request.comm_id.as_str())),
     }
 }

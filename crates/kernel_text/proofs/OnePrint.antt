@@ -1,6 +1,6 @@
 -- The print of a closed tree is that of the procedure without places.
 use Rattle.std.proofs.Common.{ap, ◌∙◌, sym}
-use Rattle.janus_invert.proofs.OnePrint.{one_print}
+use Rattle.janus_code.proofs.OnePrint.{one_print}
 use Rattle.kernel_text.specs.Laws.{TextIsPrint, HasOnePrint}
 use Rattle.kernel_text.specs.ProcedureTexts.{procedure_text}
 

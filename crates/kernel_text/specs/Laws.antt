@@ -4,7 +4,7 @@ use Rattle.janus_meaning.specs.Syntax.{Proc}
 use Rattle.janus_syntax.specs.Tree.{Procedure}
 use Rattle.janus_syntax.specs.View.{plain_procedure}
 use Rattle.janus_syntax.specs.Printing.{printed_procedure}
-use Rattle.janus_invert.specs.Closed.{closed_procedure}
+use Rattle.janus_code.specs.Closed.{closed_procedure}
 use Rattle.kernel_text.specs.ProcedureTexts.{procedure_text}
 
 -- The text of a procedure is the print of each tree that is this procedure, places aside, with the local's name behind each `delocal`.

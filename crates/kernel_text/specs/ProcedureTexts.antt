@@ -2,7 +2,7 @@
 use Rattle.std.specs.Prelude.{ℕ, List}
 use Rattle.janus_meaning.specs.Syntax.{Proc}
 use Rattle.janus_syntax.specs.Printing.{printed_procedure}
-use Rattle.janus_invert.specs.ProcedureTrees.{procedure_tree}
+use Rattle.janus_code.specs.ProcedureTrees.{procedure_tree}
 
 -- the text of a procedure, as `procedure p(int x) x += 1`
 abbrev pub procedure_text : Proc → List ℕ

@@ -7,7 +7,7 @@ ghost use Rattle.kernel_core.specs.Defined.{in_a_row};
 ghost use Rattle.kernel_text.specs.Procedures.{IsNewest};
 ghost use Rattle.kernel_text.specs.ProcedureTexts.{procedure_text as procedure_text_of};
 
-use janus_invert::closed::closed;
+use janus_code::closed::closed;
 use janus_syntax::print_procedure;
 use janus_syntax::tree::Procedure;
 use std::alloc::{AllocError, Global};

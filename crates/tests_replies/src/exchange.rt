@@ -2,7 +2,7 @@
 ghost use Rattle.jupyter_msg.specs.Opened.{IsRead};
 
 use crate::report::{Report, tell};
-use jupyter_msg::{Key, Message, MsgFault, Opened, Request, open, seal};
+use jupyter_msg::{Key, Message, MsgFault, Opened, Request, RequestContent, open, seal};
 use kernel_ask::{Answer, Comms};
 use kernel_core::Kernel;
 use kernel_message::{Outgoing, Stamp};
@@ -65,6 +65,14 @@ fn sent_to<L: Ledger>(
     sent(alloc, &request, told, stamp)
 }
 
+/// The text of the cell that a request asks to execute; of another request the empty one.
+fn code_of(content: &RequestContent) -> &str {
+    match content {
+        RequestContent::Execute(cell) => &cell.code,
+        _ => "",
+    }
+}
+
 /// The messages in answer to a request.
 fn sent(
     alloc: Global,
@@ -75,8 +83,9 @@ fn sent(
     if stamp.next > MESSAGES {
         return Err(MsgFault::Memory);
     }
+    let code = code_of(&request.content);
     match report {
-        Report::Ended(done) => answer(alloc, request, &done, stamp),
+        Report::Ended(done) => answer(alloc, request, code, &done, stamp),
         Report::Answered(content) => answer_ask(
             alloc,
             request,
@@ -84,7 +93,8 @@ fn sent(
             stamp,
         ),
         Report::Unposted(fault, content) => {
-            refuse(alloc, request, &fault, &Answer { seen: 0, content }, stamp)
+            let state = Answer { seen: 0, content };
+            refuse(alloc, request, code, &fault, &state, stamp)
         }
     }
 }

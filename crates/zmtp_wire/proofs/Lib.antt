@@ -6,5 +6,6 @@ pub mod Taking
 pub mod Readings
 pub mod Decodings
 pub mod Messages
+pub mod UnderWay
 pub mod Pongs
 pub mod OneMessage

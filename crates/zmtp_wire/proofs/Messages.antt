@@ -81,7 +81,7 @@ part_frame more body small = record {
   header = record { long = nat_lt 255 (length body); spelled = refl; bounded = size_fits (length body) small; allowed = refl };
 }
 
--- the frames of a message, of which so much came before
+-- the frames of a message, behind those that the tally tells
 frames_taken : (bodies : List (List ℕ)) (t : Tally) (more : List ℕ) → 0 < length bodies → t.octets + sum_by length bodies ≤ octet_limit → t.frames + length bodies ≤ frame_limit
     → Leaves (record { octets = message_octets bodies ++ more; tally = t }) (message_frames bodies) (whole more)
 frames_taken [] t more some octets frames = absurd (omega arith)

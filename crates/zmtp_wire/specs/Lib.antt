@@ -6,6 +6,7 @@ pub mod Frame
 pub mod Pong
 pub mod Fronts
 pub mod Message
+pub mod UnderWay
 pub mod Stream
 pub mod Decoding
 pub mod Laws

@@ -11,7 +11,7 @@ use crate::tally::{MESSAGE_FRAME_LIMIT, MESSAGE_OCTET_LIMIT};
 use std::alloc::{AllocError, Global};
 
 /// The octets that a frame's header has at most.
-const HEADER_LENGTH: usize = 9;
+pub(crate) const HEADER_LENGTH: usize = 9;
 
 /// Writes a message at the end of the octets: a frame for each of the bodies, in their order. There is at least one body.
 ///
@@ -59,7 +59,7 @@ pub fn octets_of_message(alloc: Global, bodies: &[Vec<u8>]) -> Result<Vec<u8>, W
 }
 
 /// How many octets all bodies of a message have; none where it passes a limit.
-fn size_within(bodies: &[Vec<u8>]) -> Option<u64>
+pub(crate) fn size_within(bodies: &[Vec<u8>]) -> Option<u64>
     ensures some { IfSome result (λ size. IsWithinLimits (bodies_of bodies.now)) }
     ensures size { IfSome result (λ size. size ≡ sum_by length (bodies_of bodies.now)) }
     ensures none { IfNone result (¬ (IsWithinLimits (bodies_of bodies.now))) }

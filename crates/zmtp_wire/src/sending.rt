@@ -1,16 +1,19 @@
 //! A message, or the answer to a ping, on its way to a writer.
-ghost use Rattle.std.specs.Prelude.{◌≡◌, ◌+◌, ◌<◌, length, IfErr, IfOk, OnErr, OnOk};
+ghost use Rattle.std.specs.Prelude.{◌≡◌, ◌≢◌, ◌+◌, ◌++◌, ◌<◌, [], false, length, IfErr, IfOk, OnErr, OnOk};
 ghost use Rattle.std.specs.Io.KnownBytes.{Appends};
 ghost use Rattle.exact_write.specs.Sent.{SentSome};
+ghost use Rattle.zmtp_wire.specs.Frame.{written};
+ghost use Rattle.zmtp_wire.specs.UnderWay.{IsUnderWay};
 ghost use Rattle.zmtp_wire.specs.Message.{bodies_of, message_octets, IsWithinLimits};
 ghost use Rattle.zmtp_wire.specs.Pong.{pong_octets};
 ghost use Rattle.zmtp_wire.specs.Tally.{octet_limit};
 
 use crate::fault::WireFault;
 use crate::frame::Frame;
-use crate::message::octets_of_message;
+use crate::header::Header;
+use crate::message::{HEADER_LENGTH, size_within};
 use exact_write::send;
-use std::alloc::Global;
+use std::alloc::{AllocError, Global};
 use std::io::Write;
 use thiserror::Error;
 
@@ -28,6 +31,21 @@ pub enum SendFault {
     Write,
 }
 
+/// The most octets of a message that are joined before they are written. A body that doesn't fit behind those that are joined is written from
+/// where it lies, so a message takes at most two writes for each so many octets and one more, where the writer takes all that it is handed.
+const JOINED_OCTETS: usize = 8192;
+
+impl From<AllocError> for SendFault {
+    ghost use Rattle.std.specs.Prelude.{◌≡◌};
+    ghost use Rattle.zmtp_wire.specs.declared.sending.SendFault.TheVariants.{Memory};
+
+    ghost from_gives = { λ _ e. e ≡ Memory };
+
+    fn from(_: AllocError) -> Self {
+        SendFault::Memory
+    }
+}
+
 /// Why octets that could not be made don't go out.
 fn unmade(fault: WireFault) -> SendFault
     ensures { result ≡ SendFault.TooLong → fault ≡ WireFault.TooLong }
@@ -38,7 +56,91 @@ fn unmade(fault: WireFault) -> SendFault
     }
 }
 
-/// Writes a message, a frame for each of the bodies: all its octets, or a beginning of them. Without a body nothing is written.
+/// Writes octets: all, or a beginning of them.
+fn send_octets<W: Write>(writer: &mut W, octets: &[u8]) -> Result<(), SendFault>
+    ensures ok { OnOk result (Appends (W.contents writer.old) (W.contents writer.new) octets.now) }
+    ensures err { OnErr result (SentSome (W.contents writer.old) (W.contents writer.new) octets.now) }
+    ensures write { IfErr result (λ fault. fault ≡ SendFault.Write) }
+{
+    match send(writer, octets) {
+        Ok(()) => Ok(()),
+        Err(_) => Err(SendFault::Write),
+    }
+}
+
+/// Writes what is joined, and a body behind it.
+fn send_both<W: Write>(writer: &mut W, joined: &mut Vec<u8>, body: &[u8]) -> Result<(), SendFault>
+    ensures ok { OnOk result (Appends (W.contents writer.old) (W.contents writer.new) (joined.old.items ++ body.now)) }
+    ensures empty { OnOk result (joined.new.items ≡ []) }
+    ensures err { OnErr result (SentSome (W.contents writer.old) (W.contents writer.new) (joined.old.items ++ body.now)) }
+    ensures write { IfErr result (λ fault. fault ≡ SendFault.Write) }
+{
+    send_octets(writer, joined)?;
+    joined.clear();
+    send_octets(writer, body)
+}
+
+/// Joins a body to what is joined, or writes both.
+fn join_or_send<W: Write>(
+    writer: &mut W,
+    joined: &mut Vec<u8>,
+    body: &[u8],
+) -> Result<(), SendFault>
+    ensures ok { OnOk result (IsUnderWay (W.contents writer.old) (W.contents writer.new) (joined.old.items ++ body.now) joined.new.items) }
+    ensures err { OnErr result (SentSome (W.contents writer.old) (W.contents writer.new) (joined.old.items ++ body.now)) }
+    ensures fault { IfErr result (λ fault. fault ≢ SendFault.TooLong) }
+{
+    if joined.len() + body.len() <= JOINED_OCTETS {
+        joined.extend_from_slice(body)?;
+        return Ok(());
+    }
+    send_both(writer, joined, body)
+}
+
+/// Joins a frame to what is joined, or writes of both what doesn't stay joined.
+fn send_part<W: Write>(
+    writer: &mut W,
+    joined: &mut Vec<u8>,
+    more: bool,
+    body: &[u8],
+) -> Result<(), SendFault>
+    ensures ok { OnOk result (IsUnderWay (W.contents writer.old) (W.contents writer.new)
+        (joined.old.items ++ written (record { more = more; command = false; body = body.now })) joined.new.items) }
+    ensures err { OnErr result (SentSome (W.contents writer.old) (W.contents writer.new)
+        (joined.old.items ++ written (record { more = more; command = false; body = body.now }))) }
+    ensures fault { IfErr result (λ fault. fault ≢ SendFault.TooLong) }
+{
+    let header = Header {
+        more,
+        command: false,
+        size: body.len() as u64,
+    };
+    header.write(joined)?;
+    join_or_send(writer, joined, body)
+}
+
+/// Writes the frames of a message, but for the last of its octets, which stay joined.
+fn send_parts<W: Write>(
+    writer: &mut W,
+    joined: &mut Vec<u8>,
+    bodies: &[Vec<u8>],
+) -> Result<(), SendFault>
+    requires { joined.old.items ≡ [] }
+    ensures ok { OnOk result (IsUnderWay (W.contents writer.old) (W.contents writer.new) (message_octets (bodies_of bodies.now)) joined.new.items) }
+    ensures err { OnErr result (SentSome (W.contents writer.old) (W.contents writer.new) (message_octets (bodies_of bodies.now))) }
+    ensures fault { IfErr result (λ fault. fault ≢ SendFault.TooLong) }
+{
+    let Some((last, others)) = bodies.split_last() else {
+        return Ok(());
+    };
+    for body in others {
+        send_part(writer, joined, true, body)?;
+    }
+    send_part(writer, joined, false, last)
+}
+
+/// Writes a message, a frame for each of the bodies: all its octets, or a beginning of them. Without a body nothing is written. Its memory is that of
+/// the octets that are joined, however long the message is.
 ///
 /// # Errors
 /// `TooLong` for a message that passes a limit, and for no other; `Memory` where there is none; `Write` where the writer failed.
@@ -51,14 +153,13 @@ pub fn send_message<W: Write>(
     ensures err { OnErr result (SentSome (W.contents writer.old) (W.contents writer.new) (message_octets (bodies_of bodies.now))) }
     ensures too_long { IfErr result (λ fault. fault ≡ SendFault.TooLong → ¬ (IsWithinLimits (bodies_of bodies.now))) }
 {
-    let octets = match octets_of_message(alloc, bodies) {
-        Ok(octets) => octets,
-        Err(fault) => return Err(unmade(fault)),
+    let Some(size) = size_within(bodies) else {
+        return Err(SendFault::TooLong);
     };
-    match send(writer, &octets) {
-        Ok(()) => Ok(()),
-        Err(_) => Err(SendFault::Write),
-    }
+    let all = size as usize + HEADER_LENGTH * bodies.len();
+    let mut joined = Vec::with_capacity(alloc, all.min(JOINED_OCTETS + HEADER_LENGTH))?;
+    send_parts(writer, &mut joined, bodies)?;
+    send_octets(writer, &joined)
 }
 
 /// The octets of the answer to a ping with this context.
@@ -88,8 +189,5 @@ pub fn send_pong<W: Write>(alloc: Global, writer: &mut W, context: &[u8]) -> Res
     ensures too_long { IfErr result (λ fault. fault ≡ SendFault.TooLong → octet_limit < 5 + length context.now) }
 {
     let octets = pong_of(alloc, context)?;
-    match send(writer, &octets) {
-        Ok(()) => Ok(()),
-        Err(_) => Err(SendFault::Write),
-    }
+    send_octets(writer, &octets)
 }

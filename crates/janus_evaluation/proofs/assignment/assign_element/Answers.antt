@@ -4,7 +4,7 @@ use Rattle.janus_meaning.specs.Fault.{Fine, Bad, Broken, IndexRange}
 use Rattle.janus_meaning.specs.Store.{element, set_element, Arr}
 use Rattle.janus_meaning.specs.Word.{changed}
 use Rattle.janus_syntax.specs.View.{update_of}
-use Rattle.janus_invert.specs.Expressions.{exp_of}
+use Rattle.janus_code.specs.Expressions.{exp_of}
 use Rattle.janus_store.specs.Stores.{write}
 use Rattle.janus_evaluation.specs.Results.{fault_of}
 use Rattle.janus_evaluation.proofs.Assigns.{assigned_is_array, index_bad, range_bad, right_bad, element_fine}

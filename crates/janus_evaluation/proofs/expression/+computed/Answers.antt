@@ -6,8 +6,8 @@ use Rattle.janus_meaning.specs.Value.{value, both}
 use Rattle.janus_meaning.specs.Word.{wrap, bit, nonzero, operate}
 use Rattle.janus_meaning.specs.Store.{element, Num}
 use Rattle.janus_syntax.specs.View.{operator_of}
-use Rattle.janus_invert.specs.Expressions.{exp_of}
-use Rattle.janus_invert.specs.Numbered.{HasNumbers}
+use Rattle.janus_code.specs.Expressions.{exp_of}
+use Rattle.janus_code.specs.Numbered.{HasNumbers}
 use Rattle.janus_evaluation.specs.Results.{fault_of}
 use Rattle.janus_evaluation.proofs.Numbers.{wrap_number, bit_wraps}
 use Rattle.janus_evaluation.proofs.Sizes.{exp_size}

@@ -4,8 +4,8 @@ use Rattle.janus_meaning.specs.Fault.{Fine}
 use Rattle.janus_meaning.specs.Value.{value}
 use Rattle.janus_meaning.specs.Word.{wrap}
 use Rattle.janus_meaning.specs.Store.{Num}
-use Rattle.janus_invert.specs.Expressions.{exp_of}
-use Rattle.janus_invert.specs.Numbered.{HasNumbers}
+use Rattle.janus_code.specs.Expressions.{exp_of}
+use Rattle.janus_code.specs.Numbered.{HasNumbers}
 use Rattle.janus_evaluation.proofs.Numbers.{wrap_number}
 use Rattle.janus_evaluation.proofs.Values.{variable_is, is_number, read_is}
 use Rattle.janus_evaluation.proofs.expression.leaf.Goals as goal

@@ -4,8 +4,8 @@ use Rattle.janus_meaning.specs.Fault.{Fine, Bad, Broken}
 use Rattle.janus_meaning.specs.Value.{value}
 use Rattle.janus_meaning.specs.Word.{operate}
 use Rattle.janus_syntax.specs.View.{operator_of}
-use Rattle.janus_invert.specs.Expressions.{exp_of}
-use Rattle.janus_invert.specs.Numbered.{HasNumbers}
+use Rattle.janus_code.specs.Expressions.{exp_of}
+use Rattle.janus_code.specs.Numbered.{HasNumbers}
 use Rattle.janus_evaluation.proofs.Values.{binary_is, binary_right}
 use Rattle.janus_evaluation.proofs.expression.value.Goals as goal
 

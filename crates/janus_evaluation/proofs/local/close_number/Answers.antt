@@ -8,7 +8,7 @@ use Rattle.janus_meaning.specs.Store.{Store, Slot, Num}
 use Rattle.janus_meaning.specs.Value.{value}
 use Rattle.janus_meaning.proofs.Changes.{int_eq_true}
 use Rattle.janus_store.specs.StoreState.{StoreState}
-use Rattle.janus_invert.specs.Expressions.{exp_of}
+use Rattle.janus_code.specs.Expressions.{exp_of}
 use Rattle.janus_evaluation.specs.Results.{fault_of}
 use Rattle.janus_evaluation.proofs.Ends.{number_on_top}
 use Rattle.janus_evaluation.proofs.local.close_number.Goals.{in-Ok+else-wanted-number, in-Err}

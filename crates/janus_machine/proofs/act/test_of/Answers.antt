@@ -1,5 +1,5 @@
 use Rattle.std.proofs.Common.{subst}
-use Rattle.janus_invert.specs.Numbered.{StatementHasNumbers}
+use Rattle.janus_code.specs.Numbered.{StatementHasNumbers}
 use Rattle.janus_machine.proofs.act.test_of.Goals as goal
 
 pub returns-in-If-clause-numbered : goal.returns-in-If-clause-numbered

@@ -2,7 +2,7 @@ use Rattle.std.proofs.Common.{◌≡◌, ◌-◌, ◌+◌, ◌≤◌, length, re
 use Rattle.std.specs.Prelude.{Some, reverse}
 use Rattle.janus_meaning.specs.Limit.{frame_limit}
 use Rattle.janus_meaning.specs.Syntax.{names_of}
-use Rattle.janus_invert.specs.CodeBlock.{code_block}
+use Rattle.janus_code.specs.CodeBlock.{code_block}
 use Rattle.janus_linear.specs.declared.code.Linear.{Linear}
 use Rattle.janus_linear.specs.Layout.{block_size}
 use Rattle.janus_store.specs.Calls.{AreNamed}

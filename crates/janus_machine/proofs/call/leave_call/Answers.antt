@@ -1,7 +1,7 @@
 use Rattle.std.proofs.Common.{◌≡◌, ◌≤◌, ◌-◌, suc, [], ◌∷◌, refl, ap, ◌∙◌, sym, subst, arith}
 use Rattle.std.specs.Prelude.{reverse}
 use Rattle.std.proofs.lemmas.List.{reverse-append}
-use Rattle.janus_invert.specs.CodeBlock.{code_block}
+use Rattle.janus_code.specs.CodeBlock.{code_block}
 use Rattle.janus_linear.specs.declared.code.Linear.{Linear}
 use Rattle.janus_linear.specs.Layout.{block_size}
 use Rattle.janus_machine.specs.declared.book.Book.{Book}

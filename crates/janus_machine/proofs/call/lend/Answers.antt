@@ -1,5 +1,5 @@
 use Rattle.std.proofs.Common.{◌∙◌, get_or, subst, sym, arith}
-use Rattle.janus_invert.specs.Numbered.{texts_of}
+use Rattle.janus_code.specs.Numbered.{texts_of}
 use Rattle.janus_store.specs.Calls.{AreNamed}
 use Rattle.std.proofs.lemmas.List.{length-set}
 use Rattle.janus_machine.proofs.Lending.{symbols_named, one_number_more, all_taken}

@@ -1,5 +1,5 @@
 use Rattle.std.proofs.Common.{ap, sym, subst, string_bytes}
-use Rattle.janus_invert.specs.Expressions.{exp_of}
+use Rattle.janus_code.specs.Expressions.{exp_of}
 use Rattle.janus_evaluation.specs.Locals.{number_opened, stack_opened}
 use Rattle.janus_store.specs.StoreState.{live_stacks}
 use Rattle.janus_machine.specs.Faults.{IsDone}

@@ -1,8 +1,8 @@
 use Rattle.std.proofs.Common.{ap, sym, subst, string_bytes}
 use Rattle.janus_meaning.specs.Moves.{assign, assign_at, push, pop}
 use Rattle.janus_syntax.specs.View.{update_of}
-use Rattle.janus_invert.specs.Expressions.{exp_of}
-use Rattle.janus_invert.specs.Numbered.{StatementHasNumbers}
+use Rattle.janus_code.specs.Expressions.{exp_of}
+use Rattle.janus_code.specs.Numbered.{StatementHasNumbers}
 use Rattle.janus_machine.specs.Faults.{IsDone}
 use Rattle.janus_machine.specs.Statements.{run_of}
 use Rattle.janus_machine.proofs.statement.run.Goals as goal

@@ -15,9 +15,9 @@ use Rattle.janus_check.specs.Check.{exp_faults}
 use Rattle.janus_check.specs.Fault.{IsFirst}
 use Rattle.janus_check.specs.declared.fault.CheckFault.{CheckFault}
 use Rattle.janus_check.specs.declared.fault.CheckFault.TheVariants as fault
-use Rattle.janus_invert.specs.Numbered.{HasNumbers}
-use Rattle.janus_invert.specs.Met.{MeetsExp}
-use Rattle.janus_invert.proofs.Meeting.{exp_met}
+use Rattle.janus_code.specs.Numbered.{HasNumbers}
+use Rattle.janus_code.specs.Met.{MeetsExp}
+use Rattle.janus_code.proofs.Meeting.{exp_met}
 use Rattle.janus_store.specs.StoreState.{StoreState, IsWhole, shown_store}
 use Rattle.kernel_core.proofs.Borders.{all_shown}
 use Rattle.kernel_core.proofs.NamesMet.{sight_met}

@@ -1,8 +1,8 @@
 use Rattle.std.proofs.Common.{ℕ, take, sym, ap, subst, arith, add-one}
 use Rattle.janus_syntax.specs.View.{stm_of, block_of}
 use Rattle.janus_names.specs.Numbers.{IsMet}
-use Rattle.janus_invert.proofs.Meeting.{block_weight, one_lighter}
-use Rattle.janus_invert.specs.Met.{MeetsLocals, MeetsLocalsOf}
+use Rattle.janus_code.proofs.Meeting.{block_weight, one_lighter}
+use Rattle.janus_code.specs.Met.{MeetsLocals, MeetsLocalsOf}
 use Rattle.kernel_runner.proofs.Growing.{still_met, block_locals_grow}
 use Rattle.kernel_runner.proofs.NamesMet.{keeps_more, locals_one_more, if_met, loop_met, local_int_met, local_stack_met, if_lighter, loop_lighter, local_int_lighter, local_stack_lighter}
 use Rattle.kernel_runner.proofs.Made.{ok_map}

@@ -1,7 +1,7 @@
 use Rattle.std.proofs.Common.{take}
 use Rattle.janus_syntax.specs.View.{stm_of, block_of}
-use Rattle.janus_invert.proofs.Meeting.{stm_weight, block_weight}
-use Rattle.janus_invert.specs.Met.{MeetsLocalsOf}
+use Rattle.janus_code.proofs.Meeting.{stm_weight, block_weight}
+use Rattle.janus_code.specs.Met.{MeetsLocalsOf}
 use Rattle.janus_store.specs.StoreState.{KeepsSight}
 use Rattle.kernel_runner.proofs.meeting.+meet.Given as goal
 

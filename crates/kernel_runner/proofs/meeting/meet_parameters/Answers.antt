@@ -3,7 +3,7 @@ use Rattle.janus_meaning.specs.Syntax.{Name, names_of}
 use Rattle.janus_names.specs.Numbers.{IsMet}
 use Rattle.janus_syntax.specs.Tree.{parameters_view}
 use Rattle.janus_syntax.specs.View.{plain_parameter}
-use Rattle.janus_invert.specs.Met.{AreAllMet}
+use Rattle.janus_code.specs.Met.{AreAllMet}
 use Rattle.kernel_runner.proofs.Growing.{all_grow}
 use Rattle.kernel_runner.proofs.NamesMet.{keeps_more, keeps_met, parameters_one_more}
 use Rattle.kernel_runner.proofs.meeting.meet_parameters.Goals as goal

@@ -2,7 +2,7 @@ use Rattle.std.proofs.Common.{map, take}
 use Rattle.janus_meaning.specs.Syntax.{names_of}
 use Rattle.janus_syntax.specs.Tree.{parameters_view}
 use Rattle.janus_syntax.specs.View.{plain_parameter}
-use Rattle.janus_invert.specs.Met.{AreAllMet}
+use Rattle.janus_code.specs.Met.{AreAllMet}
 use Rattle.janus_store.specs.StoreState.{KeepsSight}
 use Rattle.kernel_runner.proofs.meeting.meet_parameters.Given as goal
 

@@ -3,7 +3,7 @@ use Rattle.janus_meaning.specs.Syntax.{Name, names_of}
 use Rattle.janus_names.specs.Numbers.{IsMet}
 use Rattle.janus_syntax.specs.Tree.{parameters_view}
 use Rattle.janus_syntax.specs.View.{plain_parameter, block_of}
-use Rattle.janus_invert.specs.Met.{AreAllMet, MeetsLocalsOf}
+use Rattle.janus_code.specs.Met.{AreAllMet, MeetsLocalsOf}
 use Rattle.kernel_runner.proofs.Growing.{all_grow, still_met, more_yet}
 use Rattle.kernel_runner.proofs.meeting.meet_procedure.Goals as goal
 

@@ -7,7 +7,7 @@ use Rattle.kernel_message.specs.Sent.{sent, sent_of}
 use Rattle.exact_write.specs.Sent.{SentSome}
 use Rattle.kernel_session.specs.Call.{Leads, Published}
 use Rattle.kernel_session.specs.Action.{Acts}
-use Rattle.kernel_session.specs.Talk.{says_of}
+use Rattle.kernel_session.specs.Talk.{says_with}
 use Rattle.kernel_session.specs.Session.{answered, reply_octets}
 use Rattle.kernel_session.specs.Parts.{LedPart, ActedPart}
 use Rattle.kernel_session.proofs.RequestLemmas.{on_ok, on_err, on_fail, none_done, out_whole, out_led, out_cut}
@@ -15,13 +15,13 @@ use Rattle.kernel_session.proofs.request.finish.Goals as goal
 
 pub returns-in_err-out-clause-err : goal.returns-in_err-out-clause-err
 returns-in_err-out-clause-err g c =
-    let all = answered c.args.key.now c.args.request.now c.args.stamp.now (says_of c.args.request.now.content c.args.told.now) in
+    let all = answered c.args.key.now c.args.request.now c.args.stamp.now (says_with c.args.request.now.content c.args.code.now c.args.told.now) in
     on_fail c.from_residual.result (ActedPart g.W.Write.contents g.D.Desk.leads c.args.writer.now c.args.writer.now c.args.desk.now c.args.desk.now all)
     (none_done g.W.Write.contents g.D.Desk.leads c.args.key.now c.args.writer.now c.args.desk.now all)
 
 pub returns-in_err-publish_all-clause-err : goal.returns-in_err-publish_all-clause-err
 returns-in_err-publish_all-clause-err g c =
-    let says = says_of c.args.request.now.content c.args.told.now in
+    let says = says_with c.args.request.now.content c.args.code.now c.args.told.now in
     let all = answered c.args.key.now c.args.request.now c.args.stamp.now says in
     let f = λ (o : Octets). Published (frames_of c.args.key.now o) in
     on_fail c.from_residual-in_err-publish_all.result
@@ -32,7 +32,7 @@ returns-in_err-publish_all-clause-err g c =
 
 pub returns-clause-ok : goal.returns-clause-ok
 returns-clause-ok g c =
-    let says = says_of c.args.request.now.content c.args.told.now in
+    let says = says_with c.args.request.now.content c.args.code.now c.args.told.now in
     let all = answered c.args.key.now c.args.request.now c.args.stamp.now says in
     let f = λ (o : Octets). Published (frames_of c.args.key.now o) in
     on_ok c.send_reply.result
@@ -45,7 +45,7 @@ returns-clause-ok g c =
 
 pub returns-clause-err : goal.returns-clause-err
 returns-clause-err g c =
-    let says = says_of c.args.request.now.content c.args.told.now in
+    let says = says_with c.args.request.now.content c.args.code.now c.args.told.now in
     let all = answered c.args.key.now c.args.request.now c.args.stamp.now says in
     let f = λ (o : Octets). Published (frames_of c.args.key.now o) in
     on_err c.send_reply.result

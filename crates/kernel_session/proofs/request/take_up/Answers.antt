@@ -12,7 +12,7 @@ pub returns-in-Ok-clause-ok : goal.returns-in-Ok-clause-ok
 returns-in-Ok-clause-ok g c =
     let p = c.in-Ok.ensures.ok in
     taken_up g.D.Desk.leads c.args.desk.now c.begin.new.desk c.consult.new.desk c.args.key.now c.args.request.now
-    c.args.stamp.now c.begin.new.stamp c.in_ok-begin.ensures.ok c.in-Ok.told p.0 p.1
+    c.args.stamp.now c.begin.new.stamp c.in_ok-begin.ensures.ok c.in-Ok.consulted.told p.0 p.1
 
 pub returns-in-Err-clause-err : goal.returns-in-Err-clause-err
 returns-in-Err-clause-err g c =

@@ -1,6 +1,6 @@
 use Rattle.std.proofs.Common.{◌≡◌, ℕ, suc, ◌+◌, ◌-◌, ap, ◌∙◌, sym, subst, arith}
 use Rattle.std.specs.Prelude.{reverse}
-use Rattle.janus_invert.specs.CodeBlock.{code_block}
+use Rattle.janus_code.specs.CodeBlock.{code_block}
 use Rattle.janus_linear.specs.declared.code.Linear.{Linear}
 use Rattle.janus_linear.specs.Layout.{block_size}
 use Rattle.janus_linear.specs.Within.{within, frames_in}

@@ -4,7 +4,7 @@ use Rattle.janus_syntax.specs.Tree as tree
 use Rattle.janus_syntax.specs.Tree.{procedures_view}
 use Rattle.janus_syntax.specs.View.{plain_procedure, plain_cell}
 use Rattle.janus_check.specs.Checked.{cell_in}
-use Rattle.janus_invert.specs.Met.{MeetsBlk}
+use Rattle.janus_code.specs.Met.{MeetsBlk}
 use Rattle.janus_machine.specs.Bodies.{AreBelow}
 use Rattle.janus_machine.specs.Procedures.{kept_in}
 use Rattle.kernel_runner.specs.Met.{AreProceduresMet}

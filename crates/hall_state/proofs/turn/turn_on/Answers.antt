@@ -1,0 +1,16 @@
+use Rattle.std.proofs.Common.{length, ap}
+use Rattle.kernel_core.proofs.Posts.{begin_keeps_posts, slice_keeps_posts}
+use Rattle.hall_state.proofs.turn.turn_on.Goals as goal
+
+pub returns-in-Inside-clause-posts : goal.returns-in-Inside-clause-posts
+returns-in-Inside-clause-posts g c =
+    ap length
+    (slice_keeps_posts c.args.kernel.now.machine c.args.m c.asked-asked.result c.slice.result c.slice.new.self.machine c.slice.ensures.slice)
+
+pub returns-in-Queued-clause-posts : goal.returns-in-Queued-clause-posts
+returns-in-Queued-clause-posts g c =
+    ap length (begin_keeps_posts c.args.kernel.now.machine c.begin-in-Queued.result c.begin-in-Queued.new.self.machine c.begin-in-Queued.ensures.begin)
+
+pub returns-in-Idle-clause-posts : goal.returns-in-Idle-clause-posts
+returns-in-Idle-clause-posts g c =
+    ap length (begin_keeps_posts c.args.kernel.now.machine c.begin-in-Idle.result c.begin-in-Idle.new.self.machine c.begin-in-Idle.ensures.begin)

@@ -1,0 +1,28 @@
+-- How the end that stands last in the minutes is read.
+use Rattle.std.specs.Prelude.{◌≡◌, ℕ, ◌-◌, List, Option, None, Some, length, slice_get, zero, suc}
+use Rattle.kernel_core.specs.Minutes.{Entry, Posted, Ended}
+use Rattle.hall_state.specs.declared.pending_result.LastEnd.{LastEnd}
+
+-- the entry that stands last
+abbrev pub last_of : List Entry → Option Entry
+last_of entries = slice_get entries (length entries - 1)
+
+-- an end of this outcome stands last, at this place, of the job with the number above the index
+pub record IsLastEnd (entries : List Entry) (end : LastEnd) : Type 0 where
+  pub count : ℕ
+  pub node : ℕ
+  pub number : end.number ≡ suc end.index
+  pub place : end.place ≡ length entries - 1
+  pub last : last_of entries ≡ Some (Ended (suc end.index) end.outcome count node)
+
+-- it is no end, or the end of the number 0
+abbrev pub EndsNoNumber : Option Entry → Type 0
+EndsNoNumber None = Unit {0}
+EndsNoNumber (Some (Posted lane job)) = Unit {0}
+EndsNoNumber (Some (Ended number o count node)) = number ≡ 0
+
+-- the number of an end, or 0
+abbrev pub number_in : Option Entry → ℕ
+number_in None = 0
+number_in (Some (Posted lane job)) = 0
+number_in (Some (Ended number o count node)) = number

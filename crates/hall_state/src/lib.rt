@@ -1,0 +1,24 @@
+//! What lies under the hall's lock: one kernel with its open comms, the passes that are still to be given, and what is kept for each job until
+//! who posted it has fetched it.
+//!
+//! To the layer above, which has the lock and the threads, it promises that a post, a turn of the runner, an answer and a change of the comms
+//! are those of the kernel that is here. Each post is counted by its pass and in a ledger, whose book is the number of posts in the minutes;
+//! what is made as a job ends is told once; and at the end the minutes are compared with what the frontends came away with.
+//!
+//! `state` has all of it. `turn` is what the runner does with the kernel and the bell, `pending_result` what stands beside a post,
+//! `passes` who may post, `minutes` what is left at the end.
+#![tactic(auto)]
+
+mod limit;
+mod minutes;
+mod passes;
+mod pending_result;
+mod state;
+mod turn;
+
+pub use limit::{PARTS_OF_POSTS, PASSES};
+pub use minutes::Minutes;
+pub use passes::Passes;
+pub use pending_result::PendingResult;
+pub use state::State;
+pub use turn::{Turn, turn_on};

@@ -1,0 +1,316 @@
+//! What lies under the hall's lock.
+ghost use Rattle.std.specs.Prelude.{◌≡◌, ◌+◌, ◌-◌, ◌^◌, ◌<◌, ◌≤◌, ◌↔◌, IsTrue, [], ◌∷◌, ◌++◌, IfOk, IfErr, OnErr, IfSome, IfNone, suc, length, true};
+ghost use Rattle.std.specs.Bool.{OnTrue, OnFalse};
+ghost use Rattle.kernel_core.specs.Request.{request_of};
+ghost use Rattle.kernel_core.specs.Minutes.{posted_in};
+ghost use Rattle.kernel_core.specs.LegalMinutes.{IsLegalMachine};
+ghost use Rattle.kernel_core.specs.Runs.{IsReady, IsRefusal, posted, shut, phase_of};
+ghost use Rattle.kernel_core.specs.outcome.Phase.TheVariants.{Idle};
+ghost use Rattle.kernel_ask.specs.Answer.{IsAnswer};
+ghost use Rattle.kernel_ask.specs.CommChanges.{IsChange};
+ghost use Rattle.kernel_audit.specs.Passes.{pass_of, ticket_of};
+ghost use Rattle.hall_state.specs.Turns.{IsTurn};
+ghost use Rattle.hall_state.specs.PendingResults.{IsNewPending, IsTold, SettlesLast, ends_job};
+ghost use Rattle.hall_state.specs.LastEnds.{last_of, number_in};
+ghost use Rattle.hall_state.specs.declared.limit.TheConstants.{PASSES, PARTS_OF_POSTS};
+ghost use Rattle.hall_state.specs.declared.pending_result.PendingResult.{PendingResult};
+ghost use Rattle.kernel_audit.specs.Ends.{HasEnd};
+ghost use Rattle.kernel_audit.specs.Audit.{Audited, IsAuditFault};
+
+use crate::minutes::Minutes;
+use crate::passes::Passes;
+use crate::pending_result::{PendingResult, fetch, last_number, settle_last};
+use crate::turn::{Turn, turn_on};
+use kernel_ask::{Answer, Ask, CommChange, Comms, Done, HallFault, Wish, ask_on, comm_on};
+use kernel_audit::{AuditFault, Pass, Ticket, audit};
+use kernel_bell::{Bell, RunnerSeat};
+use kernel_core::{Job, Kernel, Phase, PostFault};
+use std::alloc::Global;
+use std::sync::ledger::{Book, Ledger, Share};
+
+/// The lock's value. Its type keeps that the book is the number of posts in the minutes.
+#[derive(Drop)]
+pub struct State<W: Ledger, L: Ledger> {
+    kernel: Kernel<W>,
+    comms: Comms,
+    passes: Passes<L>,
+    pending_results: Vec<PendingResult>,
+    alloc: Global,
+    book: Book<L>,
+    pub ghost counted: { book.total ≡ posted_in kernel.machine.minutes },
+}
+
+impl<W: Ledger, L: Ledger> State<W, L> {
+    /// Around a kernel with no minutes, with the book of its posts and all shares in it.
+    pub fn new(
+        alloc: Global,
+        kernel: Kernel<W>,
+        comms: Comms,
+        book: Book<L>,
+        rest: Share<L>,
+    ) -> State<W, L>
+        requires fresh { kernel.machine.minutes ≡ [] }
+        requires book { book.total ≡ 0 }
+        requires parts { rest.parts ≡ PARTS_OF_POSTS }
+        requires amount { rest.amount ≡ 0 }
+        ensures kernel { result.kernel ≡ kernel }
+        ensures comms { result.comms ≡ comms }
+    {
+        State {
+            kernel,
+            comms,
+            passes: Passes::new(rest),
+            pending_results: Vec::new(alloc),
+            alloc,
+            book,
+        }
+    }
+
+    /// Posts a job for a pass, which counts it. The wishes stand beside it until it ends. A refused post drops the job and the wishes. The job
+    /// is in the ticket too, which shares the text of a cell with it: [`State::take`] makes no ticket.
+    pub fn post(
+        &mut self,
+        pass: &mut Pass<L>,
+        job: Job,
+        wishes: Vec<Wish>,
+    ) -> Result<Ticket, PostFault>
+        ensures ticket { IfOk result (λ t. t ≡ ticket_of pass.old (suc (posted_in self.old.kernel.machine.minutes)) job) }
+        ensures posted { IfOk result (λ t. self.new.kernel.machine ≡ posted self.old.kernel.machine pass.old.lane (request_of job)) }
+        ensures counted { IfOk result (λ t. pass.new ≡ pass_of pass.old.lane (pass.old.posts + 1)) }
+        ensures refusal { IfErr result (IsRefusal self.old.kernel.machine) }
+        ensures kernel { OnErr result (self.new.kernel.machine ≡ self.old.kernel.machine) }
+        ensures pass { OnErr result (pass.new ≡ pass.old) }
+        ensures comms { self.new.comms ≡ self.old.comms }
+        ensures pending_result { IfOk result
+            (λ t. (e : PendingResult) × IsNewPending (length self.old.kernel.machine.minutes) wishes.items e
+            × (self.new.pending_results.items ≡ self.old.pending_results.items ++ e ∷ [])) }
+        ensures pending_results { OnErr result (self.new.pending_results.items ≡ self.old.pending_results.items) }
+        ensures legal { IsLegalMachine self.old.kernel.machine }
+    {
+        show_legal(&self.kernel);
+        if let Some(fault) = self.kernel.post_fault() {
+            return Err(fault);
+        }
+        let Ok(copy) = job.try_clone() else {
+            return Err(PostFault::Memory);
+        };
+        let number = self.queue(pass, copy, wishes)?;
+        Ok(Ticket {
+            lane: pass.lane(),
+            nth: pass.posts(),
+            number,
+            job,
+        })
+    }
+
+    /// Posts a job for a pass as [`State::post`] does, and answers its number alone.
+    pub fn take(
+        &mut self,
+        pass: &mut Pass<L>,
+        job: Job,
+        wishes: Vec<Wish>,
+    ) -> Result<u64, PostFault>
+        ensures number { IfOk result (λ n. n ≡ suc (posted_in self.old.kernel.machine.minutes)) }
+        ensures posted { IfOk result (λ n. self.new.kernel.machine ≡ posted self.old.kernel.machine pass.old.lane (request_of job)) }
+        ensures counted { IfOk result (λ n. pass.new ≡ pass_of pass.old.lane (pass.old.posts + 1)) }
+        ensures refusal { IfErr result (IsRefusal self.old.kernel.machine) }
+        ensures kernel { OnErr result (self.new.kernel.machine ≡ self.old.kernel.machine) }
+        ensures pass { OnErr result (pass.new ≡ pass.old) }
+        ensures comms { self.new.comms ≡ self.old.comms }
+        ensures pending_result { IfOk result
+            (λ n. (e : PendingResult) × IsNewPending (length self.old.kernel.machine.minutes) wishes.items e
+            × (self.new.pending_results.items ≡ self.old.pending_results.items ++ e ∷ [])) }
+        ensures pending_results { OnErr result (self.new.pending_results.items ≡ self.old.pending_results.items) }
+        ensures legal { IsLegalMachine self.old.kernel.machine }
+    {
+        show_legal(&self.kernel);
+        if let Some(fault) = self.kernel.post_fault() {
+            return Err(fault);
+        }
+        self.queue(pass, job, wishes)
+    }
+
+    /// Queues a job, which only want of memory refuses.
+    fn queue(&mut self, pass: &mut Pass<L>, job: Job, wishes: Vec<Wish>) -> Result<u64, PostFault>
+        requires ready { IsReady self.old.kernel.machine }
+        ensures number { IfOk result (λ n. n ≡ suc (posted_in self.old.kernel.machine.minutes)) }
+        ensures posted { IfOk result (λ n. self.new.kernel.machine ≡ posted self.old.kernel.machine pass.old.lane (request_of job)) }
+        ensures counted { IfOk result (λ n. pass.new ≡ pass_of pass.old.lane (pass.old.posts + 1)) }
+        ensures refusal { IfErr result (IsRefusal self.old.kernel.machine) }
+        ensures kernel { OnErr result (self.new.kernel.machine ≡ self.old.kernel.machine) }
+        ensures pass { OnErr result (pass.new ≡ pass.old) }
+        ensures comms { self.new.comms ≡ self.old.comms }
+        ensures pending_result { IfOk result
+            (λ n. (e : PendingResult) × IsNewPending (length self.old.kernel.machine.minutes) wishes.items e
+            × (self.new.pending_results.items ≡ self.old.pending_results.items ++ e ∷ [])) }
+        ensures pending_results { OnErr result (self.new.pending_results.items ≡ self.old.pending_results.items) }
+    {
+        let State {
+            kernel,
+            pending_results,
+            alloc,
+            book,
+            ..
+        } = self;
+        let Ok(pending_result) = PendingResult::new(*alloc, kernel.minutes().len(), wishes) else {
+            return Err(PostFault::Memory);
+        };
+        if pending_results.reserve(1).is_err() {
+            return Err(PostFault::Memory);
+        }
+        let number = kernel.post(pass.lane(), job)?;
+        pending_results.push_reserved(pending_result);
+        pass.count(book);
+        Ok(number)
+    }
+
+    /// One turn of the runner. In a turn that ends a job its shown text and its values are made; what stands beside other jobs stays.
+    pub fn turn(&mut self, bell: &Bell, runner: &mut RunnerSeat, m: u64) -> Turn
+        requires own { runner.old.bell ≡ bell.now }
+        requires room { runner.old.knows.serial < 2 ^ 64 - 1 }
+        ensures turn { IsTurn self.old.kernel.machine runner.old m result self.new.kernel.machine runner.new }
+        ensures legal { IsLegalMachine self.old.kernel.machine }
+        ensures comms { self.new.comms ≡ self.old.comms }
+        ensures settled { OnTrue (ends_job result) (SettlesLast self.new.kernel.machine.minutes self.old.pending_results.items self.new.pending_results.items) }
+        ensures pending_results { OnFalse (ends_job result) (self.new.pending_results.items ≡ self.old.pending_results.items) }
+    {
+        show_legal(&self.kernel);
+        let State { kernel, .. } = self;
+        let turn = turn_on(kernel, bell, runner, m);
+        if turn.is_end() {
+            settle_last(self.alloc, &self.kernel, &mut self.pending_results);
+        }
+        turn
+    }
+
+    /// What came of the job of this number, if it has ended. What was made as it ended is told once.
+    pub fn done(&mut self, number: u64) -> Option<Done>
+        ensures number { IfSome result (λ d. d.number ≡ number) }
+        ensures end { IfSome result (HasEnd self.old.kernel.machine.minutes) }
+        ensures told { IfSome result (λ d. IsTold self.old.pending_results.items number d self.new.pending_results.items) }
+        ensures none { IfNone result (self.new.pending_results.items ≡ self.old.pending_results.items) }
+        ensures legal { IsLegalMachine self.old.kernel.machine }
+        ensures kernel { self.new.kernel ≡ self.old.kernel }
+        ensures comms { self.new.comms ≡ self.old.comms }
+    {
+        show_legal(&self.kernel);
+        fetch(self.alloc, &self.kernel, &mut self.pending_results, number)
+    }
+
+    /// The number of the job whose end stands last in the minutes; 0 where no end does.
+    pub fn last_ended(&self) -> u64
+        ensures { result ≡ number_in (last_of self.now.kernel.machine.minutes) }
+    {
+        last_number(self.kernel.minutes())
+    }
+
+    /// Whether there are at least as many minutes as posts.
+    pub fn has_seen(&self, posts: u64) -> bool
+        ensures { IsTrue result ↔ (posts ≤ length self.now.kernel.machine.minutes) }
+    {
+        posts <= self.kernel.minutes().len() as u64
+    }
+
+    /// A new pass, with no posts; `None` where all are given.
+    pub fn pass(&mut self) -> Option<Pass<L>>
+        ensures pass { IfSome result (λ p. p ≡ pass_of (self.old.passes + 1) 0) }
+        ensures lane { IfSome result (λ p. (1 ≤ p.lane) × (p.lane ≤ PASSES)) }
+        ensures given { IfSome result (λ p. self.new.passes ≡ self.old.passes + 1) }
+        ensures none { IfNone result (self.old.passes ≡ PASSES) }
+        ensures kernel { self.new.kernel ≡ self.old.kernel }
+        ensures comms { self.new.comms ≡ self.old.comms }
+        ensures pending_results { self.new.pending_results ≡ self.old.pending_results }
+    {
+        let State { passes, .. } = self;
+        passes.next()
+    }
+
+    /// How many minutes there are.
+    pub fn seen(&self) -> usize
+        ensures seen { result ≡ length self.now.kernel.machine.minutes }
+        ensures legal { IsLegalMachine self.now.kernel.machine }
+    {
+        show_legal(&self.kernel);
+        self.kernel.minutes().len()
+    }
+
+    /// Whether nothing is to be done.
+    pub fn is_idle(&self) -> bool
+        ensures { IsTrue result ↔ (phase_of self.now.kernel.machine.state.job self.now.kernel.machine.queue ≡ Idle) }
+    {
+        self.kernel.phase() == Phase::Idle
+    }
+
+    /// Whether the kernel is shut.
+    pub fn is_closing(&self) -> bool
+        ensures { result ≡ self.now.kernel.machine.closing }
+    {
+        self.kernel.is_closing()
+    }
+
+    /// Where memory is taken from.
+    pub fn alloc(&self) -> Global {
+        self.alloc
+    }
+
+    /// Answers a question: `ask_on` over the kernel and the comms.
+    pub fn ask(&self, ask: Ask<'_>) -> Result<Answer, HallFault>
+        ensures answer { IfOk result (IsAnswer self.now.kernel.machine self.now.comms ask.entry) }
+        ensures legal { IsLegalMachine self.now.kernel.machine }
+        ensures refusal { IfErr result (λ f. f ≡ HallFault.Memory) }
+    {
+        show_legal(&self.kernel);
+        ask_on(self.alloc, &self.kernel, &self.comms, ask)
+    }
+
+    /// Opens or closes a comm, and tells whether it did: `comm_on` over the comms.
+    pub fn comm(&mut self, change: CommChange<'_>) -> Result<bool, HallFault>
+        ensures change { IsChange self.old.comms change.entry result self.new.comms }
+        ensures kernel { self.new.kernel ≡ self.old.kernel }
+        ensures pending_results { self.new.pending_results ≡ self.old.pending_results }
+    {
+        let State { comms, .. } = self;
+        comm_on(comms, change)
+    }
+
+    /// Refuses later posts.
+    pub fn shut(&mut self)
+        ensures shut { self.new.kernel.machine ≡ shut self.old.kernel.machine }
+        ensures comms { self.new.comms ≡ self.old.comms }
+        ensures pending_results { self.new.pending_results ≡ self.old.pending_results }
+    {
+        let State { kernel, .. } = self;
+        kernel.shut();
+    }
+
+    /// Compares the minutes with what the frontends came away with. All of it is spent, the kernel too where something is missing or
+    /// untrue: as `PassMissing` where the posts of the passes don't add up to those of the minutes, else as `TicketUnknown` with a
+    /// number at which a ticket or an end doesn't stand, which two tickets share, or which is smaller than that of an earlier post of
+    /// its pass. It takes no memory.
+    pub fn close(
+        self,
+        passes: Vec<Pass<L>>,
+        mut tickets: Vec<Ticket>,
+        mut dones: Vec<Done>,
+    ) -> Result<Minutes<W>, AuditFault>
+        ensures minutes { IfOk result (λ m. m ≡ self.kernel.machine) }
+        ensures audited { IfOk result (λ m. Audited self.kernel.machine.minutes passes.items tickets.items dones.items) }
+        ensures fault { IfErr result (IsAuditFault self.kernel.machine.minutes passes.items tickets.items dones.items) }
+        ensures legal { IsLegalMachine self.kernel.machine }
+    {
+        show_legal(&self.kernel);
+        let State { kernel, .. } = self;
+        match audit(kernel.minutes(), &passes, &mut tickets, &mut dones) {
+            Ok(()) => Ok(Minutes { kernel }),
+            Err(fault) => Err(fault),
+        }
+    }
+}
+
+/// Does nothing: its contract says that a kernel's state and minutes are legal.
+fn show_legal<W: Ledger>(kernel: &Kernel<W>)
+    ensures { IsLegalMachine kernel.now.machine }
+{
+    let _ = kernel.world();
+    let _ = kernel.minutes();
+}

@@ -1,0 +1,58 @@
+//! One turn of the runner over the lent kernel.
+ghost use Rattle.std.specs.Prelude.{◌≡◌, ◌-◌, ◌^◌, ◌<◌};
+ghost use Rattle.kernel_core.specs.Minutes.{posted_in};
+ghost use Rattle.hall_state.specs.PendingResults.{ends_job};
+ghost use Rattle.hall_state.specs.Turns.{IsTurn};
+
+use kernel_bell::{Bell, RunnerSeat};
+use kernel_core::{Begun, Kernel, Phase, Sliced};
+use std::sync::ledger::Ledger;
+
+/// What a turn was.
+#[derive(Clone, Copy, PartialEq, Eq)]
+pub enum Turn {
+    /// One slice.
+    Cut(Sliced),
+    /// One begin.
+    Began(Begun),
+    /// Nothing: the bell's serials are used up.
+    Worn,
+}
+
+impl Turn {
+    /// Whether it ended a job.
+    pub fn is_end(self) -> bool
+        ensures { result ≡ ends_job self }
+    {
+        match self {
+            Turn::Cut(Sliced::Ended(_)) | Turn::Began(Begun::Ended(_)) => true,
+            Turn::Cut(_) | Turn::Began(_) | Turn::Worn => false,
+        }
+    }
+}
+
+/// One turn: one `slice` with the answer of one `asked` where the kernel is inside a cell, else one `begin`, with one serial of the bell
+/// where a posted job is taken.
+pub fn turn_on<W: Ledger>(
+    kernel: &mut Kernel<W>,
+    bell: &Bell,
+    runner: &mut RunnerSeat,
+    m: u64,
+) -> Turn
+    requires own { runner.old.bell ≡ bell.now }
+    requires room { runner.old.knows.serial < 2 ^ 64 - 1 }
+    ensures turn { IsTurn kernel.old.machine runner.old m result kernel.new.machine runner.new }
+    ensures posts { posted_in kernel.new.machine.minutes ≡ posted_in kernel.old.machine.minutes }
+{
+    match kernel.phase() {
+        Phase::Inside => {
+            let asked = bell.asked(runner);
+            Turn::Cut(kernel.slice(m, asked))
+        }
+        Phase::Queued => {
+            bell.begin(runner);
+            Turn::Began(kernel.begin())
+        }
+        Phase::Idle | Phase::Border => Turn::Began(kernel.begin()),
+    }
+}

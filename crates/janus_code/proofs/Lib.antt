@@ -1,0 +1,9 @@
+pub mod Cells
+pub mod Pairs
+pub mod Trees
+pub mod Flattened
+pub mod Meeting
+pub mod Placing
+pub mod Lists
+pub mod ClosedLemmas
+pub mod OnePrint

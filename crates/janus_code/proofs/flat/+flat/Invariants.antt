@@ -1,0 +1,24 @@
+use Rattle.std.proofs.Common.{◌≡◌, ℕ, ◌<◌, length, get_or}
+use Rattle.std.specs.Prelude.{slice_get, Some}
+use Rattle.janus_syntax.specs.View.{stm_of, block_of}
+use Rattle.janus_code.proofs.Meeting.{stm_weight, block_weight}
+use Rattle.janus_syntax.specs.declared.tree.Stm as code_stm
+use Rattle.janus_code.specs.Flat.{tree_at}
+use Rattle.janus_code.specs.Grown.{Grows}
+use Rattle.janus_code.specs.Numbered.{HaveNumbers}
+use Rattle.janus_code.proofs.flat.+flat.Given as goal
+
+abbrev pub invariant-flat_block-loop-i : goal.invariant-flat_block-loop-i
+invariant-flat_block-loop-i l = record {
+  as_many : length l.numbers.items ≡ l.i;
+  grows : Grows l.fn.draft.members.items l.fn.draft.statements.items l.draft.members.items l.draft.statements.items;
+  below : (j : ℕ) → j < l.i → get_or l.numbers.items j 0 < length l.draft.statements.items;
+  trees : (j : ℕ) (s : code_stm.Stm) → j < l.i → slice_get l.block j ≡ Some s → tree_at l.draft.members.items l.draft.statements.items (get_or l.numbers.items j 0) ≡ stm_of s;
+  numbered : HaveNumbers l.names l.fn.draft.statements.items → HaveNumbers l.names l.draft.statements.items;
+}
+
+abbrev pub decreases-flat_block : goal.decreases-flat_block
+decreases-flat_block l = block_weight (block_of l.block.now)
+
+abbrev pub decreases-flat_statement : goal.decreases-flat_statement
+decreases-flat_statement l = stm_weight (stm_of l.statement.now)

@@ -1,0 +1,11 @@
+pub mod Cells
+pub mod Expressions
+pub mod Numbered
+pub mod Met
+pub mod Flat
+pub mod CodeBlock
+pub mod Procedures
+pub mod Grown
+pub mod Fault
+pub mod Closed
+pub mod ProcedureTrees

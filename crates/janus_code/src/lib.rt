@@ -1,0 +1,35 @@
+//! Flat code, closed procedures, and inverse cells.
+//!
+//! To the layer above it promises that `invert` gives the inverse of a cell's statements, that `closed` gives a procedure with its local's
+//! name behind each `delocal`, that flat code stands for one block, that `flatten` gives code that stands for the cell's block, and
+//! `flatten_procedure` a procedure whose code stands for its body. `janus_invert` has the inverse of flat code; what it makes of copied
+//! names and expressions is copied here, where they stand. In flat code each name, of a variable or a procedure, stands with the number
+//! under which it was met, so that what runs compares no text.
+//! The inverse of a statement is that of Yokoyama and Glück (2007), "A reversible programming language and its invertible
+//! self-interpreter": `+=` and `-=` exchange, `^=` stays; an `if` exchanges its test and its assertion, a loop its entry and its
+//! exit, and their blocks stay where they are, each inverted; `skip` stays; `push` and `pop`, `call` and `uncall` exchange, a local
+//! exchanges its two expressions; a block is reversed with each of its statements inverted.
+#![tactic(auto)]
+
+ghost use Rattle.janus_code.specs.Cells.{InverseCellTwice};
+
+pub mod closed;
+pub mod code;
+mod copies;
+pub mod expression;
+mod fault;
+mod flat;
+mod inverse;
+mod procedure;
+
+pub use crate::code::{Block, Code, FlatExp, FlatParameter, FlatProcedure, Statement, Symbol};
+pub use crate::expression::flat_exp;
+pub use crate::fault::InvertFault;
+pub use crate::flat::flatten;
+pub use crate::inverse::{invert, opposite};
+pub use crate::procedure::flatten_procedure;
+
+/// A law about the definitions of `specs/`: the inverse of a cell's inverse is the cell. It does nothing.
+pub fn inverse_cell_twice_law()
+    ensures { InverseCellTwice }
+{}

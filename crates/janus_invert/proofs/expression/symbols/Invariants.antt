@@ -1,8 +1,0 @@
-use Rattle.std.proofs.Common.{◌≡◌, map, take}
-use Rattle.janus_syntax.specs.Tree.{names_view}
-use Rattle.janus_syntax.specs.View.{text_of}
-use Rattle.janus_invert.specs.Numbered.{HaveTheirNumbers, texts_of}
-use Rattle.janus_invert.proofs.expression.symbols.Given as goal
-
-abbrev pub invariant-loop-i : goal.invariant-loop-i
-invariant-loop-i l = (texts_of l.symbols.items ≡ map text_of (names_view (take l.i l.list))) × HaveTheirNumbers l.names l.symbols.items

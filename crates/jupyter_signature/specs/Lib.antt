@@ -1,0 +1,2 @@
+pub mod Hmac
+pub mod Signature
