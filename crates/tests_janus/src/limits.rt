@@ -1,6 +1,7 @@
 //! Rows of limits. Definitions cite these constants, so no contract has their numbers: the rows have.
 use cell_tree::NODE_LIMIT;
 use cells_program::INPUT_LIMIT;
+use janus_laying::RESULT_LIMIT;
 use janus_meaning::limit::{
     ARRAY_LIMIT, FRAME_LIMIT, LIVE_STACK_LIMIT, NAME_LIMIT, PARAMETER_LIMIT, PROCEDURE_LIMIT,
     STACK_VALUE_LIMIT, STEP_LIMIT,
@@ -28,6 +29,7 @@ fn limit_of(name: &str) -> u64 {
         "steps" => STEP_LIMIT,
         "array" => u64::from(ARRAY_LIMIT),
         "slice" => STEPS_OF_A_SLICE,
+        "results" => u64::from(RESULT_LIMIT),
         _ => count_of(name) as u64,
     }
 }

@@ -9,6 +9,7 @@
 mod cell_trees;
 mod checks;
 mod comms;
+mod laid;
 mod limits;
 mod lines;
 mod outlines;
@@ -54,6 +55,7 @@ fn tell(alloc: Global, subject: &str, calls: &str, out: &mut String) -> Result<(
         "lines" => lines::tell(alloc, calls, out),
         "limits" => limits::tell(alloc, calls, out),
         "comms" => comms::tell(alloc, calls, out),
+        "laid" => laid::tell(alloc, calls, out),
         "transcripts" => transcripts::tell(alloc, calls, out),
         _ => schedules::tell(alloc, calls, out),
     }
