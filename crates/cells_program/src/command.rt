@@ -8,7 +8,7 @@ ghost use Rattle.cells_program.specs.Lines.{trimmed as trimmed_of};
 ghost use Rattle.cells_program.specs.Command.{command_of, is_count, is_short_number};
 
 /// What a command line asks for.
-#[derive(Clone, Copy, PartialEq, Eq)]
+#[derive(Clone, Copy)]
 pub enum Command {
     /// To run the gathered text as a cell, also an empty one.
     Run,

@@ -39,14 +39,17 @@ pub(crate) fn run_counted<L: Ledger, R: Read, W: Write>(
     let Ok(mut kernel) = Kernel::<L>::new(alloc, blank) else {
         return Err(RunFault::Memory);
     };
-    let text = read_text(alloc, reader)?;
+    let text = match read_text(alloc, reader) {
+        Ok(text) => text,
+        Err(fault) => {
+            kernel.discard();
+            return Err(fault);
+        }
+    };
     let served = run_text(alloc, steps, &mut kernel, &text, writer);
-    let_go(kernel);
+    kernel.discard();
     match served {
         Ok(()) => Ok(()),
         Err(_) => Err(RunFault::Write),
     }
 }
-
-/// Lets a kernel go that is over.
-fn let_go<L: Ledger>(_kernel: Kernel<L>) {}

@@ -5,7 +5,7 @@ ghost use Rattle.cells_program.specs.Ending.{fault_line, run_status};
 use thiserror::Error;
 
 /// Why a run ends before its input is served.
-#[derive(Clone, Copy, Debug, PartialEq, Eq, Error)]
+#[derive(Clone, Copy, Debug, Error)]
 pub enum RunFault {
     /// The reader failed.
     #[error("cannot read")]

@@ -7,7 +7,7 @@ use crate::look::is_word;
 use serde_json::Value;
 
 /// What a broadcast is to a console.
-#[derive(Clone, Copy, Debug, PartialEq, Eq)]
+#[derive(Clone, Copy)]
 pub enum Heard {
     /// The kernel is done with a request.
     Idle,

@@ -7,7 +7,7 @@ use std::alloc::{AllocError, AllocFailed};
 use thiserror::Error;
 
 /// Why a console ends without an answer of the kernel.
-#[derive(Clone, Copy, Debug, PartialEq, Eq, Error)]
+#[derive(Clone, Copy, Debug, Error)]
 #[error("{}", self.reason())]
 pub enum ConsoleFault {
     /// The field of the connection file is missing or wrong; `file` where there is no such file, or where it is no JSON object.

@@ -11,7 +11,7 @@ use std::alloc::{AllocError, AllocFailed, Global};
 use thiserror::Error;
 
 /// What is printed of an answer, and whether all went well.
-#[derive(Debug, Drop, PartialEq, Eq)]
+#[derive(Drop)]
 pub struct Printed {
     /// The lines, each with its LF.
     pub lines: String,
@@ -31,7 +31,7 @@ impl Printed {
 }
 
 /// Why nothing is printed of an answer.
-#[derive(Clone, Copy, Debug, PartialEq, Eq, Error)]
+#[derive(Clone, Copy, Debug, Error)]
 pub enum AnswerFault {
     /// It is no answer to what was asked.
     #[error("no answer")]

@@ -8,7 +8,7 @@ use clap::error::ErrorKind;
 use std::alloc::{AllocError, Global};
 
 /// Why the words ask for nothing that the kernel is to do.
-#[derive(Clone, Copy, Debug, PartialEq, Eq)]
+#[derive(Clone, Copy)]
 pub enum RefusalKind {
     /// They ask for the help.
     Help,

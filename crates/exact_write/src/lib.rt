@@ -14,7 +14,7 @@ use std::io::Write;
 use thiserror::Error;
 
 /// The writer failed, or took nothing.
-#[derive(Clone, Copy, Debug, PartialEq, Eq, Error)]
+#[derive(Clone, Copy, Debug, Error)]
 #[error("cannot write")]
 pub struct WriteFailed;
 

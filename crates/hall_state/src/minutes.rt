@@ -34,5 +34,8 @@ impl<W: Ledger> Minutes<W> {
     }
 
     /// Discards the minutes, with their kernel: as `Hall::discard` does a hall.
-    pub fn discard(self) {}
+    pub fn discard(self) {
+        let Minutes { kernel } = self;
+        kernel.discard();
+    }
 }

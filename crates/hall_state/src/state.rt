@@ -302,8 +302,17 @@ impl<W: Ledger, L: Ledger> State<W, L> {
         let State { kernel, .. } = self;
         match audit(kernel.minutes(), &passes, &mut tickets, &mut dones) {
             Ok(()) => Ok(Minutes { kernel }),
-            Err(fault) => Err(fault),
+            Err(fault) => {
+                kernel.discard();
+                Err(fault)
+            }
         }
+    }
+
+    /// Discards what lies under the lock, the kernel by `Kernel::discard`.
+    pub fn discard(self) {
+        let State { kernel, .. } = self;
+        kernel.discard();
     }
 }
 

@@ -9,7 +9,7 @@ use kernel_core::{Begun, Kernel, Phase, Sliced};
 use std::sync::ledger::Ledger;
 
 /// What a turn was.
-#[derive(Clone, Copy, PartialEq, Eq)]
+#[derive(Clone, Copy)]
 pub enum Turn {
     /// One slice.
     Cut(Sliced),

@@ -14,7 +14,7 @@ use crate::token::{KEYWORDS, Keyword, Sign, Span, Token, TokenKind};
 use std::alloc::Global;
 
 /// The kinds of octets.
-#[derive(Clone, Copy, PartialEq, Eq, Debug)]
+#[derive(Clone, Copy)]
 enum Class {
     Letter,
     Digit,

@@ -30,7 +30,7 @@ impl Name {
 }
 
 /// An operator of an expression that reads both its sides.
-#[derive(Clone, Copy, PartialEq, Eq, Debug)]
+#[derive(Clone, Copy, Debug)]
 pub enum Operator {
     Add,
     Subtract,
@@ -106,7 +106,7 @@ impl Exp {
 }
 
 /// The operator of an assignment: `+=`, `-=` or `^=`.
-#[derive(Clone, Copy, PartialEq, Eq, Debug)]
+#[derive(Clone, Copy, Debug)]
 pub enum Update {
     Add,
     Subtract,
@@ -114,7 +114,7 @@ pub enum Update {
 }
 
 /// What a local is: a number or a stack.
-#[derive(Clone, Copy, PartialEq, Eq, Debug)]
+#[derive(Clone, Copy)]
 pub enum LocalKind {
     Int,
     Stack,

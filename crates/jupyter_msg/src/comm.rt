@@ -12,7 +12,7 @@ use serde_json::Value;
 use std::alloc::Global;
 
 /// What a comm message asks.
-#[derive(Clone, Copy, Debug, PartialEq, Eq)]
+#[derive(Clone, Copy, Debug)]
 pub enum CommAsk {
     /// Undo this number of cells.
     Undo(u32),

@@ -11,7 +11,7 @@ use crate::request_type::RequestType;
 use serde_json::Value;
 
 /// How the history is asked for.
-#[derive(Clone, Copy, Debug, PartialEq, Eq)]
+#[derive(Clone, Copy, Debug)]
 pub enum HistoryAccess {
     /// From `start` on, without `stop`.
     Range,

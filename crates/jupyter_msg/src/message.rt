@@ -21,7 +21,7 @@ use std::alloc::Global;
 const DELIMITER: &[u8] = b"<IDS|MSG>";
 
 /// A message: its parts as octets, as they were received or as they are sent.
-#[derive(Debug, Drop)]
+#[derive(Drop)]
 pub struct Message {
     /// The routing frames before the delimiter, sent back unchanged with a reply.
     pub identities: Vec<Vec<u8>>,
@@ -38,7 +38,7 @@ pub struct Message {
 }
 
 /// A message that was opened, with its header and its content as they were read.
-#[derive(Debug, Drop)]
+#[derive(Drop)]
 pub struct Opened {
     /// The message, octet for octet.
     pub message: Message,

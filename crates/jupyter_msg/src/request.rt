@@ -79,7 +79,7 @@ pub enum RequestContent {
 }
 
 /// What a message asks, with what its answer needs of it.
-#[derive(Debug, Drop)]
+#[derive(Drop)]
 pub struct Request {
     /// The routing frames of the message.
     pub identities: Vec<Vec<u8>>,

@@ -3,7 +3,7 @@ ghost use Rattle.std.specs.Prelude.{◌≡◌, Some, IfSome};
 ghost use Rattle.jupyter_msg.specs.RequestType.{type_name, type_named};
 
 /// What a request is, as its header's `msg_type` says.
-#[derive(Clone, Copy, Debug, PartialEq, Eq)]
+#[derive(Clone, Copy)]
 pub enum RequestType {
     /// `kernel_info_request`.
     KernelInfo,

@@ -8,7 +8,7 @@ use sha2::Digest;
 use std::alloc::{AllocError, Global};
 
 /// The four parts that are signed, as octets.
-#[derive(Clone, Copy, Debug)]
+#[derive(Clone, Copy)]
 pub struct Parts<'a> {
     /// The header.
     pub header: &'a [u8],

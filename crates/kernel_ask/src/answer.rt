@@ -75,7 +75,7 @@ pub struct Answer {
 }
 
 /// Why a question is not answered.
-#[derive(Clone, Copy, Debug, PartialEq, Eq, Error)]
+#[derive(Clone, Copy, Debug, Error)]
 pub enum HallFault {
     /// There was no memory for the answer.
     #[error("Memory")]

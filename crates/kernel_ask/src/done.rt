@@ -2,7 +2,7 @@
 use kernel_core::{Fault, Outcome, Refusal};
 
 /// Why an expression has no value.
-#[derive(Clone, Copy, Debug, PartialEq, Eq)]
+#[derive(Clone, Copy, Debug)]
 pub enum ExpFault {
     /// Its text is refused, at a place of its own text, or there was no memory.
     Refused(Refusal),

@@ -16,7 +16,7 @@ pub struct Input {
 }
 
 /// Which inputs are asked for.
-#[derive(Clone, Copy, PartialEq, Eq)]
+#[derive(Clone, Copy)]
 pub enum HistoryAsk {
     /// Those of a session from the number `start` on, without `stop`. The present session is 1, and also 0; of others nothing
     /// is kept.

@@ -6,7 +6,7 @@ use janus_syntax::{SyntaxFault, parse_cell};
 use std::alloc::Global;
 
 /// Whether code can be executed as it stands.
-#[derive(Clone, Copy, Debug, PartialEq, Eq)]
+#[derive(Clone, Copy, Debug)]
 pub enum Completeness {
     /// It is a cell.
     Complete,

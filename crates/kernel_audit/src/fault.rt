@@ -2,7 +2,7 @@
 use thiserror::Error;
 
 /// What the minutes don't hold.
-#[derive(Clone, Copy, Debug, PartialEq, Eq, Error)]
+#[derive(Clone, Copy, Debug, Error)]
 pub enum AuditFault {
     /// The posts of the passes don't add up to those of the minutes.
     #[error("PassMissing")]

@@ -263,9 +263,11 @@ impl<W: Ledger, L: Ledger> Hall<W, L> {
         state.into_inner().close(passes, tickets, dones)
     }
 
-    /// Discards the hall, with its kernel and its minutes. An owner who calls this, on each of his ways out, has nothing of the kernel to let
-    /// go himself, and so nothing to prove of that: it is proved once, here.
-    pub fn discard(self) {}
+    /// Discards the hall, with its kernel and its minutes, as `Kernel::discard` does a kernel.
+    pub fn discard(self) {
+        let Hall { state, .. } = self;
+        state.into_inner().discard();
+    }
 
     /// What the worker does behind a slice, with the lock free: frontends that came to the lock while it ran get it first.
     pub(crate) fn give_way(&self) {

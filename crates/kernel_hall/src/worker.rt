@@ -9,7 +9,7 @@ use std::sync::Wait;
 use std::sync::ledger::Ledger;
 
 /// When a gate is passed.
-#[derive(Clone, Copy, PartialEq, Eq)]
+#[derive(Clone, Copy)]
 pub enum Moment {
     BeforeBegin,
     AfterSlice,

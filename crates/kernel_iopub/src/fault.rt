@@ -3,7 +3,7 @@ use thiserror::Error;
 use zmtp_peer::PeerFault;
 
 /// Why a half of a subscriber's connection ends before its work is done.
-#[derive(Clone, Copy, Debug, PartialEq, Eq, Error)]
+#[derive(Clone, Copy, Debug, Error)]
 pub enum SubscriberFault {
     /// The reader failed, or no number is left for a read.
     #[error("Read")]

@@ -53,7 +53,7 @@ pub struct Subscriber<L: Ledger> {
 }
 
 /// What the writing half finds.
-#[derive(Clone, Copy, PartialEq, Eq)]
+#[derive(Clone, Copy)]
 pub(crate) struct Sight {
     pub joined: Option<Place>,
     pub is_silent: bool,

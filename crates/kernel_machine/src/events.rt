@@ -14,7 +14,7 @@ pub enum Event {
 }
 
 /// What the call of an event answered.
-#[derive(Clone, Copy, Debug, PartialEq, Eq)]
+#[derive(Clone, Copy, Debug)]
 pub enum Told {
     Post(Result<u64, PostFault>),
     Begin(Begun),

@@ -1,7 +1,7 @@
 //! How far an undo and a redo can go.
 
 /// How far an undo and a redo can go from the position, and how many nodes there are.
-#[derive(Clone, Copy, PartialEq, Eq)]
+#[derive(Clone, Copy)]
 pub struct Extent {
     /// How many cells can be undone.
     pub undo: usize,

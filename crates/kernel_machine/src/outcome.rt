@@ -159,7 +159,7 @@ pub enum Sliced {
 }
 
 /// What the next call is to be.
-#[derive(Clone, Copy, Debug, PartialEq, Eq)]
+#[derive(Clone, Copy, Debug)]
 pub enum Phase {
     /// No job is open, and none is posted.
     Idle,

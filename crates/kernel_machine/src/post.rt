@@ -62,7 +62,7 @@ impl Job {
 }
 
 /// Why a post was refused. It changed nothing.
-#[derive(Clone, Copy, Debug, PartialEq, Eq, Error)]
+#[derive(Clone, Copy, Debug, Error)]
 pub enum PostFault {
     /// The kernel was shut.
     #[error("Closing")]

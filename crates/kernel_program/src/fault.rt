@@ -7,7 +7,7 @@ use std::alloc::AllocError;
 use std::io::Write;
 
 /// Why the program does not run, or did not begin to serve.
-#[derive(Clone, Copy, PartialEq, Eq)]
+#[derive(Clone, Copy)]
 pub enum ProgramFault {
     /// There was no memory at the start, or no thread could be made.
     Memory,

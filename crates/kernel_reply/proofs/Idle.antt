@@ -24,9 +24,9 @@ use Rattle.kernel_reply.specs.Status.{idle}
 use Rattle.kernel_reply.specs.Problems.{Problem, cell_problem, post_problem}
 use Rattle.kernel_reply.specs.Replies.{kernel_info_reply, complete_reply, inspect_reply, is_complete_reply, history_reply, no_search_reply, interrupt_reply, shutdown_reply}
 use Rattle.kernel_reply.specs.Execution.{execute_input, execute_result, error, execute_broadcasts, execute_reply, error_reply}
-use Rattle.kernel_reply.specs.Comms.{is_target, comm_info_reply, comm_msg, comm_close, state_shown}
+use Rattle.kernel_reply.specs.Comms.{is_target, asks_target, comm_info_reply, comm_msg, comm_close, state_shown}
 use Rattle.kernel_reply.specs.Moves.{move_shown, unposted_shown}
-use Rattle.kernel_reply.specs.Answers.{only, status_alone, tells, tells_on_comm, is_of_cell, cell_says, cell_says_with, completion_says, inspection_says, completeness_says, inputs_say, history_says, comms_say, comm_open_says, state_says, comm_says, job_says, job_says_with, unposted_says, unposted_says_with, refusal_says, refusal_says_with, ask_says}
+use Rattle.kernel_reply.specs.Answers.{only, status_alone, tells, tells_on_comm, is_of_cell, cell_says, cell_says_with, completion_says, inspection_says, completeness_says, inputs_say, history_says, open_comms_say, comms_say, comm_open_says, state_says, comm_says, job_says, job_says_with, unposted_says, unposted_says_with, refusal_says, refusal_says_with, ask_says}
 use Rattle.kernel_reply.specs.Laws.{EndsIdle, JobsEndIdle, AsksEndIdle, RefusalsEndIdle}
 
 -- a reply or none, broadcasts, and then the status idle
@@ -193,14 +193,21 @@ module _ (asker : Asker) (stamp : Stamp) where
   history_ends Range output c = inputs_end output c
   history_ends Tail output c = inputs_end output c
 
+  open_comms_end : (name : Option (List ℕ)) (c : Content) → Ends (open_comms_say name c)
+  open_comms_end name (content.Comms ids) = only_ends (comm_info_reply name (map string_bytes ids.items))
+  open_comms_end name (content.State s) = alone_ends
+  open_comms_end name (content.Completion c) = alone_ends
+  open_comms_end name (content.Inspection known) = alone_ends
+  open_comms_end name (content.Completeness c) = alone_ends
+  open_comms_end name (content.History inputs) = alone_ends
+  open_comms_end name (content.IsOpen is) = alone_ends
+
+  comms_chosen_end : (b : Bool) (name : Option (List ℕ)) (c : Content) → Ends (if b then open_comms_say name c else only (comm_info_reply name []))
+  comms_chosen_end true name c = open_comms_end name c
+  comms_chosen_end false name c = only_ends (comm_info_reply name [])
+
   comms_end : (name : Option (List ℕ)) (c : Content) → Ends (comms_say name c)
-  comms_end name (content.Comms ids) = only_ends (comm_info_reply name (map string_bytes ids.items))
-  comms_end name (content.State s) = alone_ends
-  comms_end name (content.Completion c) = alone_ends
-  comms_end name (content.Inspection known) = alone_ends
-  comms_end name (content.Completeness c) = alone_ends
-  comms_end name (content.History inputs) = alone_ends
-  comms_end name (content.IsOpen is) = alone_ends
+  comms_end name c = comms_chosen_end (asks_target name) name c
 
   comm_open_ends : (r : CommOpen) (c : Content) → Ends (comm_open_says r c)
   comm_open_ends r (content.Comms ids) = alone_ends

@@ -1,5 +1,5 @@
 -- Requests are replied to by their own type.
-use Rattle.std.proofs.Common.{◌≡◌, ℕ, Bool, true, false, ◌&&◌, List, Option, Some, None, map, codes, option_map, string_bytes, refl, sym, ap, subst, if◌then◌else◌}
+use Rattle.std.proofs.Common.{◌≡◌, ℕ, Bool, true, false, ◌&&◌, List, [], Option, Some, None, map, codes, option_map, string_bytes, refl, sym, ap, subst, if◌then◌else◌}
 use Rattle.serde_json.specs.Data.{Data}
 use Rattle.jupyter_msg.specs.declared.comm.CommAsk.{CommAsk}
 use Rattle.jupyter_msg.specs.declared.comm.CommAsk.TheVariants as ask
@@ -20,10 +20,10 @@ use Rattle.kernel_message.specs.Said.{Said, Says}
 use Rattle.kernel_reply.specs.Problems.{Problem, cell_problem, post_problem}
 use Rattle.kernel_reply.specs.Replies.{inspect_reply}
 use Rattle.kernel_reply.specs.Execution.{error_reply, ran_reply, execute_reply}
-use Rattle.kernel_reply.specs.Comms.{is_target, comm_close, comm_info_reply}
+use Rattle.kernel_reply.specs.Comms.{is_target, asks_target, comm_close, comm_info_reply}
 use Rattle.kernel_reply.specs.Moves.{move_shown, unposted_shown}
-use Rattle.kernel_reply.specs.Answers.{status_alone, tells, tells_on_comm, is_of_cell, cell_says_with, completion_says, inspection_says, completeness_says, inputs_say, history_says, comms_say, comm_open_says, state_says, comm_says, refusal_says_with, ask_says}
-use Rattle.kernel_reply.specs.Laws.{IsReplied, is_completion, is_inspection, is_completeness, is_inputs, is_comms, is_state, is_history_for, is_end_for, is_refusal_for, is_answer_for, EndsAreReplied, RefusalsAreReplied, AnswersAreReplied}
+use Rattle.kernel_reply.specs.Answers.{status_alone, tells, tells_on_comm, is_of_cell, cell_says_with, completion_says, inspection_says, completeness_says, inputs_say, history_says, only, open_comms_say, comms_say, comm_open_says, state_says, comm_says, refusal_says_with, ask_says}
+use Rattle.kernel_reply.specs.Laws.{IsReplied, is_completion, is_inspection, is_completeness, is_inputs, is_comms, is_comms_for, is_state, is_history_for, is_end_for, is_refusal_for, is_answer_for, EndsAreReplied, RefusalsAreReplied, AnswersAreReplied}
 
 -- the type of the reply, if there is one
 abbrev type_of : Says → Option (List ℕ)
@@ -120,9 +120,17 @@ history_typed Range output c e = inputs_typed output c e
 history_typed Tail output c e = inputs_typed output c e
 history_typed Search output c e = refl
 
-comms_typed : (name : Option (List ℕ)) (c : Content) → is_comms c ≡ true → type_of (comms_say name c) ≡ Some (codes "comm_info_reply")
-comms_typed name (content.Comms ids) e = refl
-comms_typed name _ e = absurd cc
+open_comms_typed : (name : Option (List ℕ)) (c : Content) → is_comms c ≡ true → type_of (open_comms_say name c) ≡ Some (codes "comm_info_reply")
+open_comms_typed name (content.Comms ids) e = refl
+open_comms_typed name _ e = absurd cc
+
+comms_chosen_typed : (b : Bool) (name : Option (List ℕ)) (c : Content) → (if b then is_comms c else true) ≡ true
+    → type_of (if b then open_comms_say name c else only (comm_info_reply name [])) ≡ Some (codes "comm_info_reply")
+comms_chosen_typed true name c e = open_comms_typed name c e
+comms_chosen_typed false name c e = refl
+
+comms_typed : (name : Option (List ℕ)) (c : Content) → is_comms_for name c ≡ true → type_of (comms_say name c) ≡ Some (codes "comm_info_reply")
+comms_typed name c e = comms_chosen_typed (asks_target name) name c e
 
 open_untyped : (b : Bool) (id : List ℕ) → type_of (if b then status_alone else tells (comm_close id)) ≡ None
 open_untyped true id = refl

@@ -23,7 +23,7 @@ use Rattle.kernel_reply.specs.Problems.{cell_problem, post_problem}
 use Rattle.kernel_reply.specs.Replies.{kernel_info_reply, complete_reply, inspect_reply, is_complete_reply, history_reply, no_search_reply, interrupt_reply}
 use Rattle.kernel_reply.specs.Replies.{shutdown_reply}
 use Rattle.kernel_reply.specs.Execution.{execute_reply, error_reply, execute_broadcasts}
-use Rattle.kernel_reply.specs.Comms.{is_target, comm_info_reply, comm_msg, comm_close, state_shown}
+use Rattle.kernel_reply.specs.Comms.{is_target, asks_target, comm_info_reply, comm_msg, comm_close, state_shown}
 use Rattle.kernel_reply.specs.Moves.{move_shown, unposted_shown}
 
 -- a reply, and the status
@@ -146,9 +146,13 @@ history_says Search output c = only no_search_reply
 history_says Range output c = inputs_say output c
 history_says Tail output c = inputs_say output c
 
+abbrev pub open_comms_say : Option (List ℕ) → Content → Says
+open_comms_say name (content.Comms ids) = only (comm_info_reply name (map string_bytes ids.items))
+open_comms_say name _ = status_alone
+
+-- for another target no comm is open, whatever was answered
 abbrev pub comms_say : Option (List ℕ) → Content → Says
-comms_say name (content.Comms ids) = only (comm_info_reply name (map string_bytes ids.items))
-comms_say name _ = status_alone
+comms_say name c = if asks_target name then open_comms_say name c else only (comm_info_reply name [])
 
 -- an open is answered by a close where it is for another target, and where its comm is not open after it
 abbrev pub opened_says : CommOpen → Bool → Says

@@ -5,13 +5,14 @@ use Rattle.std.specs.Ordering.{nat_cmp}
 use Rattle.std.specs.Cmp.Lexicographic.{slice_cmp}
 use Rattle.std.specs.List.{Contains}
 use Rattle.std.specs.List.Sorted.{IsStrictlySortedBy}
-use Rattle.serde_json.specs.Data.{Members, no_members, member}
+use Rattle.serde_json.specs.Data.{Members, object, no_members, member}
 use Rattle.serde_json.specs.Find.{get_member}
 use Rattle.jupyter_msg.specs.Octets.{Octets}
 use Rattle.jupyter_msg.specs.declared.request.RequestContent.{RequestContent}
 use Rattle.jupyter_msg.specs.declared.request.RequestContent.TheVariants as request
 use Rattle.jupyter_msg.specs.declared.history.HistoryAccess.{HistoryAccess}
 use Rattle.jupyter_msg.specs.declared.history.HistoryAccess.TheVariants.{Range, Tail, Search}
+use Rattle.jupyter_msg.specs.declared.comm.CommInfoRequest.{CommInfoRequest}
 use Rattle.jupyter_msg.specs.declared.comm.CommOpen.{CommOpen}
 use Rattle.kernel_core.specs.post.PostFault.{PostFault}
 use Rattle.kernel_ask.specs.declared.done.Done.{Done}
@@ -24,10 +25,10 @@ use Rattle.kernel_message.specs.Message.{Asker, broadcast_message}
 use Rattle.kernel_message.specs.Sent.{sent, next_after}
 use Rattle.kernel_message.specs.Laws.{in_order}
 use Rattle.kernel_message.specs.declared.stamp.Stamp.{Stamp}
-use Rattle.kernel_reply.specs.Status.{idle}
-use Rattle.kernel_reply.specs.Comms.{is_target, comm_close, comm_shown, with_comms}
+use Rattle.kernel_reply.specs.Status.{idle, says}
+use Rattle.kernel_reply.specs.Comms.{is_target, asks_target, comm_info_content, comm_close, comm_shown, with_comms}
 use Rattle.kernel_reply.specs.Execution.{value_shown, with_values}
-use Rattle.kernel_reply.specs.Answers.{is_of_cell, job_says, job_says_with, ask_says, refusal_says, refusal_says_with, status_alone, tells}
+use Rattle.kernel_reply.specs.Answers.{is_of_cell, job_says, job_says_with, ask_says, refusal_says, refusal_says_with, only, status_alone, tells}
 
 -- ---- the status of the kernel
 
@@ -111,6 +112,10 @@ abbrev pub is_state : Content → Bool
 is_state (content.State s) = true
 is_state _ = false
 
+-- for another target nothing is asked, so each answer will do
+abbrev pub is_comms_for : Option (List ℕ) → Content → Bool
+is_comms_for name c = if asks_target name then is_comms c else true
+
 -- a search asks nothing, so each answer will do
 abbrev pub is_history_for : HistoryAccess → Content → Bool
 is_history_for Range c = is_inputs c
@@ -156,7 +161,7 @@ is_answer_for (request.Complete r) c = is_completion c
 is_answer_for (request.Inspect r) c = is_inspection c
 is_answer_for (request.IsComplete r) c = is_completeness c
 is_answer_for (request.History r) c = is_history_for r.access c
-is_answer_for (request.CommInfo r) c = is_comms c
+is_answer_for (request.CommInfo r) c = is_comms_for (option_map string_bytes r.target_name) c
 is_answer_for request.Interrupt c = true
 is_answer_for (request.Shutdown r) c = true
 is_answer_for (request.CommOpen r) c = true
@@ -197,6 +202,11 @@ OpensOfOpenComms = (r : CommOpen) (ids : List (List ℕ)) → is_open ids (strin
 abbrev pub OpensForOtherTargetsClose : Type 0
 OpensForOtherTargetsClose = (r : CommOpen) (is : Bool) → is_target (string_bytes r.target_name) ≡ false
     → ask_says (request.CommOpen r) (content.IsOpen is) ≡ tells (comm_close (string_bytes r.comm_id))
+
+-- A request for the comms of another target is told that there are none, whatever was answered.
+abbrev pub OtherTargetsHaveNone : Type 0
+OtherTargetsHaveNone = (r : CommInfoRequest) (target : List ℕ) (c : Content) → option_map string_bytes r.target_name ≡ Some target → is_target target ≡ false
+    → ask_says (request.CommInfo r) c ≡ only (says (codes "comm_info_reply") (comm_info_content (object no_members)))
 
 -- the names of an object's members, in order
 abbrev pub names : Members → List (List ℕ)

@@ -56,8 +56,9 @@ pub(crate) fn is_target(name: &str) -> bool
     name == COMM_TARGET
 }
 
-/// Whether the comms of the target are asked for.
-fn asks_target(name: Option<&str>) -> bool
+/// Whether a request for the comms of a target, or of all where it names none, asks for those that are opened here. For any other target no comm is
+/// open.
+pub fn asks_target(name: Option<&str>) -> bool
     ensures { result ≡ table.asks_target (option_map (λ t. t.now) name.entry) }
 {
     match name {

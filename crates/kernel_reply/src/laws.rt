@@ -2,7 +2,8 @@
 //! their order, and that their parent header is the header of the request, are laws of `kernel_message`.
 ghost use Rattle.kernel_reply.specs.Laws.{JobsEndIdle, AsksEndIdle, RefusalsEndIdle, EndsAreReplied, RefusalsAreReplied, AnswersAreReplied};
 ghost use Rattle.kernel_reply.specs.Laws.{JobsSayTheSame, RefusalsSayTheSame};
-ghost use Rattle.kernel_reply.specs.Laws.{OpensPastTheLimitClose, OpensOfOpenComms, OpensForOtherTargetsClose, ListsEachCommOnce, ListsEachWithItsTarget};
+ghost use Rattle.kernel_reply.specs.Laws.{OpensPastTheLimitClose, OpensOfOpenComms, OpensForOtherTargetsClose, OtherTargetsHaveNone};
+ghost use Rattle.kernel_reply.specs.Laws.{ListsEachCommOnce, ListsEachWithItsTarget};
 ghost use Rattle.kernel_reply.specs.Laws.{TellsEachNameOnce, TellsValuesByName};
 
 /// The last message of an answer to a job is the status idle.
@@ -47,6 +48,11 @@ pub fn opens_of_open_comms_law()
 /// An open of a comm for another target is answered by a close of its id, whatever comms are open.
 pub fn opens_for_other_targets_close_law()
     ensures { OpensForOtherTargetsClose }
+{}
+
+/// A request for the comms of another target is told that there are none, whatever was answered.
+pub fn other_targets_have_none_law()
+    ensures { OtherTargetsHaveNone }
 {}
 
 /// The list of open comms names each of the ids that it is handed once, in the order of their octets, and no other; under each stands

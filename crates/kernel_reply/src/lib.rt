@@ -22,5 +22,5 @@ mod status;
 mod tables;
 
 pub use crate::answering::{answer, answer_ask, opening, opening_by_header, refuse};
-pub use crate::comms::COMM_TARGET;
+pub use crate::comms::{COMM_TARGET, asks_target};
 pub use kernel_message::{Outgoing, Publication, Stamp};

@@ -5,7 +5,7 @@ ghost use Rattle.kernel_message.specs.Drafts.{says_of};
 ghost use Rattle.kernel_reply.specs.Answers as table;
 ghost use Rattle.kernel_reply.specs.Moves.{move_shown, unposted_shown};
 
-use crate::comms::{comm_close, comm_info_reply, is_target, state_msg};
+use crate::comms::{asks_target, comm_close, comm_info_reply, is_target, state_msg};
 use crate::execution::{error_reply, execute_broadcasts, execute_reply};
 use crate::moves::{move_msg, unposted_msg};
 use crate::problem::{cell_problem, post_problem};
@@ -245,7 +245,7 @@ fn history_drafts(
     }
 }
 
-/// The open comms.
+/// The open comms; of another target none.
 fn comms_drafts(
     alloc: Global,
     target: Option<&str>,
@@ -255,6 +255,9 @@ fn comms_drafts(
         ≡ table.comms_say (option_map (λ t. t.now) target.entry) content.now) }
     ensures few { IfOk result (λ s. vec_len s.broadcasts ≤ 3) }
 {
+    if !asks_target(target) {
+        return only(alloc, comm_info_reply(alloc, target, &[])?);
+    }
     match content {
         Content::Comms(ids) => only(alloc, comm_info_reply(alloc, target, ids)?),
         _ => status_alone(alloc),

@@ -60,6 +60,12 @@ impl<L: Ledger> LoneDesk<L> {
         }
     }
 
+    /// Discards the desk, with its kernel by `Kernel::discard`.
+    pub fn discard(self) {
+        let LoneDesk { kernel, .. } = self;
+        kernel.discard();
+    }
+
     /// The kernel. No job is open.
     pub fn kernel(&self) -> &Kernel<L>
         ensures machine { result.now.machine ≡ self.now.machine }

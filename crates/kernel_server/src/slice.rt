@@ -6,7 +6,7 @@ use kernel_core::STEPS_OF_A_SLICE;
 use std::collections::VecDeque;
 
 /// A slice of an open job.
-#[derive(Clone, Copy, PartialEq, Eq)]
+#[derive(Clone, Copy)]
 pub struct Slice {
     /// How many steps it takes at most.
     pub steps: u64,

@@ -1,8 +1,7 @@
 -- What holds of all sessions.
-use Rattle.std.proofs.Common.{◌≡◌, ◌≢◌, ℕ, Bool, true, false, List, [], ◌∷◌, ◌++◌, string_bytes, Option, Some, None, Result, Ok, Err, refl, sym, ap, ◌∙◌, subst, append_assoc, if◌then◌else◌}
+use Rattle.std.proofs.Common.{◌≡◌, ◌≢◌, ℕ, Bool, true, false, List, [], ◌∷◌, ◌++◌, string_bytes, Option, Some, None, option_map, Result, Ok, Err, refl, sym, ap, ◌∙◌, subst, append_assoc, if◌then◌else◌}
 use Rattle.std.specs.Str.{bytes_eq}
 use Rattle.jupyter_msg.specs.declared.request.Request.{Request as Asked}
-use Rattle.jupyter_msg.specs.declared.request.RequestContent.{RequestContent}
 use Rattle.jupyter_msg.specs.declared.request.RequestContent.TheVariants as request
 use Rattle.jupyter_msg.specs.declared.history.HistoryRequest.{HistoryRequest}
 use Rattle.jupyter_msg.specs.declared.history.HistoryAccess.{HistoryAccess}
@@ -16,7 +15,6 @@ use Rattle.kernel_ask.specs.declared.done.Done.{Done}
 use Rattle.kernel_ask.specs.declared.answer.Answer.{Answer}
 use Rattle.kernel_ask.specs.declared.answer.HallFault.{HallFault}
 use Rattle.kernel_message.specs.Message.{asker_of}
-use Rattle.kernel_message.specs.Said.{Says}
 use Rattle.kernel_message.specs.declared.stamp.Stamp.{Stamp}
 use Rattle.kernel_reply.specs.Laws.{EndsIdle}
 use Rattle.kernel_reply.specs.Comms.{target as undo_target}
@@ -25,15 +23,15 @@ use Rattle.kernel_session.specs.declared.socket.Socket.{Socket}
 use Rattle.kernel_session.specs.declared.flow.Flow.TheVariants.{OutOfMemory}
 use Rattle.kernel_session.specs.declared.talk.DeskReply.{DeskReply}
 use Rattle.kernel_session.specs.declared.talk.DeskReply.TheVariants.{Ended, Unposted, Answered}
-use Rattle.kernel_session.specs.Question.{Open, Close, IsOpen, Wishes}
+use Rattle.kernel_session.specs.Question.{Comms, Close, IsOpen, Wishes}
 use Rattle.kernel_session.specs.Call as call
 use Rattle.kernel_session.specs.Call.{Call}
 use Rattle.kernel_session.specs.Order as order
 use Rattle.kernel_session.specs.Order.{Order, AreOrders}
-use Rattle.kernel_session.specs.Action.{Action, asks}
-use Rattle.kernel_session.specs.Talk.{Heard, Talk, before, ask, post, history, open_then_ask, close_comm, if_open, follow, says_open, talk, says_of}
-use Rattle.kernel_session.specs.Session.{State, IsDated, opened, served, state_behind, IsServed, IsSession}
-use Rattle.kernel_session.specs.Laws.{IsFramed, BusyFirstAndIdleLast, is_told_open, job_orders, history_orders, opening_orders, comm_orders, orders_wanted, OrdersWhatIsWanted, InTwo, SessionsGoOn}
+use Rattle.kernel_session.specs.Action.{Action}
+use Rattle.kernel_session.specs.Talk.{Heard, Talk, before, ask, post, history, list_comms, open_then_ask, close_comm, if_open, follow, says_open, talk, says_of}
+use Rattle.kernel_session.specs.Session.{State, IsDated, opened, served, state_behind, IsSession}
+use Rattle.kernel_session.specs.Laws.{IsFramed, BusyFirstAndIdleLast, is_told_open, job_orders, history_orders, comm_info_orders, opening_orders, comm_orders, orders_wanted, OrdersWhatIsWanted, InTwo, SessionsGoOn}
 use Rattle.kernel_session.proofs.SessionLemmas.{session_join}
 
 -- ---- orders
@@ -64,6 +62,10 @@ chosen : (b : Bool) (x y : Talk) (xs ys : List Order) → Orders x xs → Orders
 chosen true x y xs ys p q = p
 chosen false x y xs ys p q = q
 
+comms_listed : (target : Option (List ℕ)) (a : Result Answer HallFault) → Orders (list_comms target a) (comm_info_orders target)
+comms_listed None a = refl
+comms_listed (Some name) a = chosen (bytes_eq name undo_target) _ _ (order.Ask Comms ∷ []) [] refl refl
+
 followed : (asked : CommAsk) (h : Heard) → Orders (follow asked h) (comm_orders asked h.job)
 followed (comm.Undo k) h = posted (Undo k) [] h.job h.answer
 followed (comm.Redo k) h = posted (Redo k) [] h.job h.answer
@@ -88,7 +90,7 @@ orders_what_is_wanted (request.Complete r) h = refl
 orders_what_is_wanted (request.Inspect r) h = refl
 orders_what_is_wanted (request.IsComplete r) h = refl
 orders_what_is_wanted (request.History r) h = inputs_asked r r.access h.answer
-orders_what_is_wanted (request.CommInfo r) h = refl
+orders_what_is_wanted (request.CommInfo r) h = comms_listed (option_map string_bytes r.target_name) h.answer
 orders_what_is_wanted request.Interrupt h = refl
 orders_what_is_wanted (request.Shutdown r) h = refl
 orders_what_is_wanted (request.CommOpen r) h =

@@ -10,10 +10,10 @@ use Rattle.kernel_ask.specs.declared.answer.HallFault.TheVariants as hall_fault
 use Rattle.kernel_session.specs.declared.talk.Consulted.{Consulted}
 use Rattle.kernel_session.specs.declared.talk.DeskReply.{DeskReply}
 use Rattle.kernel_session.specs.declared.talk.DeskReply.TheVariants.{Answered}
-use Rattle.kernel_reply.specs.Comms.{target as undo_target}
-use Rattle.kernel_session.specs.Question.{IsOpen}
+use Rattle.kernel_reply.specs.Comms.{asks_target, target as undo_target}
+use Rattle.kernel_session.specs.Question.{Comms, IsOpen}
 use Rattle.kernel_session.specs.Call.{Call, Asked}
-use Rattle.kernel_session.specs.Talk.{Heard, Talk, IsHeld, ask, before, says_open, if_open, open_then_ask, open_comm, follow, talk}
+use Rattle.kernel_session.specs.Talk.{Heard, Talk, IsHeld, ask, only, list_comms, before, says_open, if_open, open_then_ask, open_comm, follow, talk}
 use Rattle.jupyter_msg.specs.declared.comm.CommAsk.{CommAsk}
 use Rattle.jupyter_msg.specs.declared.comm.CommAsk.TheVariants as comm
 use Rattle.jupyter_msg.specs.declared.request.RequestContent.{RequestContent}
@@ -68,6 +68,14 @@ module _ {D : Type 0} (leads : D → Call → D → Type 0) (d d1 : D) where
       → IsHeld leads d (open_comm target id (heard_answer a)) told d1
   other_held target id a told e p =
       subst (λ (t : Bool). IsHeld leads d (if t then open_then_ask id unchanged a else ask (IsOpen id) a) told d1) (sym e) p
+
+  pub comms_held : (target : Option (List ℕ)) (a : Result Answer HallFault) (told : Option DeskReply)
+      → asks_target target ≡ true → IsHeld leads d (ask Comms a) told d1 → IsHeld leads d (list_comms target a) told d1
+  comms_held target a told e p = subst (λ (t : Bool). IsHeld leads d (if t then ask Comms a else only []) told d1) (sym e) p
+
+  pub no_comms_held : (target : Option (List ℕ)) (told : Option DeskReply)
+      → asks_target target ≡ false → IsHeld leads d (only []) told d1 → IsHeld leads d (list_comms target unasked) told d1
+  no_comms_held target told e p = subst (λ (t : Bool). IsHeld leads d (if t then ask Comms unasked else only []) told d1) (sym e) p
 
 -- what follows does not depend on what was told of the comm
 pub follow-comm : (asked : CommAsk) (a : Result Answer HallFault) (h : Heard) → follow asked (heard_comm a h) ≡ follow asked h

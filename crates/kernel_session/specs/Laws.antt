@@ -1,5 +1,5 @@
 -- What holds of all sessions.
-use Rattle.std.specs.Prelude.{◌≡◌, ◌≢◌, ◌↔◌, ℕ, Bool, false, List, [], ◌∷◌, ◌++◌, string_bytes, Result, Ok, Err, if◌then◌else◌}
+use Rattle.std.specs.Prelude.{◌≡◌, ◌≢◌, ◌↔◌, ℕ, Bool, false, List, [], ◌∷◌, ◌++◌, string_bytes, Option, Some, None, option_map, Result, Ok, Err, if◌then◌else◌}
 use Rattle.std.specs.Str.{bytes_eq}
 use Rattle.jupyter_msg.specs.declared.request.Request.{Request as Asked}
 use Rattle.jupyter_msg.specs.declared.request.RequestContent.{RequestContent}
@@ -51,6 +51,11 @@ history_orders r Range = order.Ask (History (inputs.Range r.session r.start r.st
 history_orders r Tail = order.Ask (History (inputs.Tail r.n)) ∷ []
 history_orders r Search = []
 
+-- the open comms are asked for where no target is named, or the one that comms have here; for another target nothing is asked
+abbrev pub comm_info_orders : Option (List ℕ) → List Order
+comm_info_orders None = order.Ask Comms ∷ []
+comm_info_orders (Some name) = if bytes_eq name undo_target then order.Ask Comms ∷ [] else []
+
 -- a comm is opened, and then it is asked whether it is open, unless there was no memory to open it
 abbrev pub opening_orders : List ℕ → Result Bool HallFault → List Order
 opening_orders id (Ok b) = order.Alter (Open id) ∷ order.Ask (IsOpen id) ∷ []
@@ -73,7 +78,7 @@ orders_wanted (request.Complete r) h = order.Ask (Complete (string_bytes r.code)
 orders_wanted (request.Inspect r) h = order.Ask (Inspect (string_bytes r.code) r.cursor) ∷ []
 orders_wanted (request.IsComplete r) h = order.Ask (IsComplete (string_bytes r.code)) ∷ []
 orders_wanted (request.History r) h = history_orders r r.access
-orders_wanted (request.CommInfo r) h = order.Ask Comms ∷ []
+orders_wanted (request.CommInfo r) h = comm_info_orders (option_map string_bytes r.target_name)
 orders_wanted request.Interrupt h = order.Ring ∷ []
 orders_wanted (request.Shutdown r) h = order.Shut ∷ order.Ring ∷ []
 orders_wanted (request.CommOpen r) h =

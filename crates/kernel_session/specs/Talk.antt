@@ -1,5 +1,5 @@
 -- What a request has the desk do, by what the desk says (Jupyter messaging page, version 5.4; the comms of the target `janus.undo`).
-use Rattle.std.specs.Prelude.{◌≡◌, ℕ, Bool, false, List, [], ◌∷◌, ◌++◌, string_bytes, Option, Some, None, Result, Ok, Err, if◌then◌else◌}
+use Rattle.std.specs.Prelude.{◌≡◌, ℕ, Bool, false, List, [], ◌∷◌, ◌++◌, string_bytes, Option, Some, None, option_map, Result, Ok, Err, if◌then◌else◌}
 use Rattle.std.specs.Str.{bytes_eq}
 use Rattle.jupyter_msg.specs.declared.request.RequestContent.{RequestContent}
 use Rattle.jupyter_msg.specs.declared.request.RequestContent.TheVariants as request
@@ -19,10 +19,10 @@ use Rattle.kernel_ask.specs.declared.answer.Content.TheVariants as content
 use Rattle.kernel_ask.specs.declared.answer.HallFault.{HallFault}
 use Rattle.kernel_message.specs.Said.{Says}
 use Rattle.kernel_reply.specs.Answers.{job_says, job_says_with, ask_says, refusal_says, refusal_says_with}
-use Rattle.kernel_reply.specs.Comms.{target as undo_target}
+use Rattle.kernel_reply.specs.Comms.{asks_target, target as undo_target}
 use Rattle.kernel_session.specs.declared.talk.DeskReply.{DeskReply}
 use Rattle.kernel_session.specs.declared.talk.DeskReply.TheVariants.{Ended, Unposted, Answered}
-use Rattle.kernel_session.specs.Question.{Question, Complete, Inspect, IsComplete, History, Comms, IsOpen, State, Change, Open, Close, Wishes}
+use Rattle.kernel_session.specs.Question.{Question, Complete, Inspect, IsComplete, History, Comms, IsOpen, State, Open, Close, Wishes}
 use Rattle.kernel_session.specs.Call.{Call, Posted, Asked, Changed, Rang, Shut, Leads}
 
 -- what the desk says to one request, as far as it is asked
@@ -71,6 +71,10 @@ history r Range a = ask (History (asked.Range r.session r.start r.stop)) a
 history r Tail a = ask (History (asked.Tail r.n)) a
 history r Search a = only []
 
+-- the open comms; for another target nothing is asked
+abbrev pub list_comms : Option (List ℕ) → Result Answer HallFault → Talk
+list_comms target a = if asks_target target then ask Comms a else only []
+
 -- a comm is opened, and then it is asked whether it is open
 abbrev pub open_then_ask : List ℕ → Result Bool HallFault → Result Answer HallFault → Talk
 open_then_ask id (Ok b) a = before (Changed (Open id) (Ok b) ∷ []) (ask (IsOpen id) a)
@@ -113,7 +117,7 @@ talk (request.Complete r) h = ask (Complete (string_bytes r.code) r.cursor) h.an
 talk (request.Inspect r) h = ask (Inspect (string_bytes r.code) r.cursor) h.answer
 talk (request.IsComplete r) h = ask (IsComplete (string_bytes r.code)) h.answer
 talk (request.History r) h = history r r.access h.answer
-talk (request.CommInfo r) h = ask Comms h.answer
+talk (request.CommInfo r) h = list_comms (option_map string_bytes r.target_name) h.answer
 talk request.Interrupt h = only (Rang ∷ [])
 talk (request.Shutdown r) h = only (Shut ∷ Rang ∷ [])
 talk (request.CommOpen r) h = open_comm (string_bytes r.target_name) (string_bytes r.comm_id) h

@@ -3,7 +3,7 @@ use thiserror::Error;
 use zmtp_peer::PeerFault;
 
 /// Why a connection ends before its input does.
-#[derive(Clone, Copy, Debug, PartialEq, Eq, Error)]
+#[derive(Clone, Copy, Debug, Error)]
 pub enum ServeFault {
     /// The reader failed, or no number is left for a read or for a request.
     #[error("Read")]

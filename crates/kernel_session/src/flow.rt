@@ -1,7 +1,7 @@
 //! How a session goes on.
 
 /// How a session goes on.
-#[derive(Clone, Copy, PartialEq, Eq)]
+#[derive(Clone, Copy)]
 pub enum Flow {
     /// The next event is taken.
     Going,

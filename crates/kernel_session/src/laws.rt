@@ -8,10 +8,11 @@ pub fn busy_first_and_idle_last_law()
 {}
 
 /// Each request orders of the desk what the table has for it, in this order, and nothing else: an execution its cell with its user
-/// expressions; a completion, an inspection, a question whether code is whole, a history and a question for the comms that question, with all
-/// that it carries; an interrupt a ring, and a shutdown to shut and then a ring; an opening for the one target its change and then the question
-/// whether its comm is open, and for another that question; a close its change; a message on a comm that question too, and, where its comm is
-/// open, its move or the state. Of a post that is refused the state is asked for.
+/// expressions; a completion, an inspection, a question whether code is whole, a history and a question for the comms of all targets or
+/// of the one that question, with all that it carries, and for the comms of another target nothing; an interrupt a ring, and a shutdown to
+/// shut and then a ring; an opening for the one target its change and then the question whether its comm is open, and for another that
+/// question; a close its change; a message on a comm that question too, and, where its comm is open, its move or the state. Of a post that
+/// is refused the state is asked for.
 pub fn orders_what_is_wanted_law()
     ensures { OrdersWhatIsWanted }
 {}

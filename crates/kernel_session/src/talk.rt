@@ -1,5 +1,5 @@
 //! What a request has the desk do.
-ghost use Rattle.std.specs.Prelude.{◌≡◌, ◌++◌, ◌∷◌, [], Bool, IfOk, OnOk, OnErr, Result, string_bytes};
+ghost use Rattle.std.specs.Prelude.{◌≡◌, ◌++◌, ◌∷◌, [], Bool, IfOk, OnOk, OnErr, Result, option_map, string_bytes};
 ghost use Rattle.std.specs.Str.{bytes_eq};
 ghost use Rattle.jupyter_msg.specs.Requests.{expressions_of};
 ghost use Rattle.kernel_core.specs.Request.{request_of, RunCell};
@@ -11,7 +11,7 @@ ghost use Rattle.kernel_session.specs.Question.{question_of, wishes_of, Complete
 ghost use Rattle.kernel_reply.specs.Comms.{target as undo_target};
 ghost use Rattle.kernel_session.specs.Call.{Rang, Shut};
 ghost use Rattle.kernel_session.specs.Talk.{Heard, IsHeld, ask as ask_talk, post as post_talk, answered as answered_by, says_open as says_open_of};
-ghost use Rattle.kernel_session.specs.Talk.{history as history_talk, open_then_ask as open_then_ask_talk, open_comm as open_talk, close_comm as close_talk};
+ghost use Rattle.kernel_session.specs.Talk.{history as history_talk, list_comms as list_talk, open_then_ask as open_then_ask_talk, open_comm as open_talk, close_comm as close_talk};
 ghost use Rattle.kernel_session.specs.Parts.{text_of, HasHandedOn};
 ghost use Rattle.kernel_session.specs.Talk.{follow as follow_talk, if_open, talk, only, no_answer as no_answer_is};
 
@@ -22,7 +22,7 @@ use jupyter_msg::{
 };
 use kernel_ask::{Answer, Ask, CommChange, Content, Done, HallFault, HistoryAsk, Wish};
 use kernel_core::{CellText, Job, PostFault};
-use kernel_reply::COMM_TARGET;
+use kernel_reply::{COMM_TARGET, asks_target};
 use std::alloc::{AllocError, Global};
 use std::mem;
 
@@ -168,6 +168,17 @@ fn history<D: Desk>(desk: &mut D, request: &HistoryRequest) -> Option<DeskReply>
         }
         HistoryAccess::Tail => ask(desk, Ask::History(HistoryAsk::Tail(request.n))),
         HistoryAccess::Search => Some(DeskReply::Answered(no_answer())),
+    }
+}
+
+/// Asks for the open comms, unless they are to be those of another target, for which none is open.
+fn list_comms<D: Desk>(desk: &mut D, target: Option<&str>) -> Option<DeskReply>
+    ensures { (a : Result Answer HallFault) × IsHeld D.leads desk.old (list_talk (option_map (λ t. t.now) target.entry) a) result desk.new }
+{
+    if asks_target(target) {
+        ask(desk, Ask::Comms)
+    } else {
+        Some(DeskReply::Answered(no_answer()))
     }
 }
 
@@ -328,7 +339,10 @@ pub(crate) fn consult<D: Desk>(
         RequestContent::Inspect(request) => Ok(kept(inspect(desk, request))),
         RequestContent::IsComplete(request) => Ok(kept(judge(desk, request))),
         RequestContent::History(request) => Ok(kept(history(desk, request))),
-        RequestContent::CommInfo(_) => Ok(kept(ask(desk, Ask::Comms))),
+        RequestContent::CommInfo(request) => Ok(kept(list_comms(
+            desk,
+            request.target_name.as_deref(),
+        ))),
         RequestContent::Interrupt => Ok(kept(interrupt(desk))),
         RequestContent::Shutdown(_) => Ok(kept(shut(desk))),
         RequestContent::CommOpen(request) => Ok(kept(open_comm(desk, request)?)),

@@ -6,7 +6,7 @@ ghost use Rattle.kernel_sockets.specs.Room.{IsStranger, time_of, MayLeave, Leave
 use crate::presence::STAY_MILLISECONDS;
 
 /// What was seen of a place.
-#[derive(Clone, Copy, PartialEq, Eq)]
+#[derive(Clone, Copy)]
 pub struct Sight {
     /// A connection is there.
     pub is_taken: bool,

@@ -7,8 +7,6 @@
 
 mod date;
 mod name;
-#[cfg(test)]
-mod tests;
 
 pub use date::{date_text, has_date};
 pub use name::session_name;

@@ -3,147 +3,150 @@
 //! refusals. `nodes`, `full`, `has`, `path`, `meet`, `parent`, `favourite` and `content` ask.
 ghost use Rattle.std.specs.Prelude.{◌≤◌, length};
 
+use crate::subject::{Subject, tell_rows};
 use cell_tree::{NODE_LIMIT, Node, Tree, TreeFault};
-use std::alloc::{AllocError, Global};
-use tests_rows::{cut, number, push_answer, push_both, shown};
+use tests_rows::{Sheet, cut, number};
 
 /// Makes the calls on a new tree, and writes each with its answer.
-pub(crate) fn tell(alloc: Global, calls: &str, out: &mut String) -> Result<(), AllocError> {
-    let mut tree = Tree::new(alloc)?;
-    for call in calls.lines() {
-        let answer = answer(alloc, &mut tree, call)?;
-        push_answer(out, call, &answer)?;
-    }
-    Ok(())
-}
-
-/// The answer to a call.
-fn answer(alloc: Global, tree: &mut Tree<char>, call: &str) -> Result<String, AllocError> {
-    let (word, rest) = cut(call);
-    let (first, second) = cut(rest);
-    let (node, other) = (number(first), number(second));
-    match word {
-        "grow" => shown(alloc, &grow(tree, node, second)),
-        "favour" => favour(alloc, tree, node, other),
-        "way" => way(alloc, tree, node, other),
-        "fill" => fill(alloc),
-        "faults" => faults(alloc),
-        _ => question(alloc, tree, word, node, other),
+pub(crate) fn tell(calls: &str, sheet: &mut Sheet) {
+    match Tree::<char>::new(sheet.alloc()) {
+        Ok(mut tree) => tell_rows(&mut tree, calls, sheet),
+        Err(_) => sheet.refuse(),
     }
 }
 
-/// Adds a node with a character below the parent, and answers its number.
-fn grow(tree: &mut Tree<char>, parent: usize, text: &str) -> Result<usize, TreeFault> {
+impl Subject for Tree<char> {
+    fn answer(&mut self, call: &str, sheet: &mut Sheet) {
+        let (word, rest) = cut(call);
+        let (first, second) = cut(rest);
+        let (node, other) = (number(first), number(second));
+        match word {
+            "grow" => grow(self, node, second, sheet),
+            "favour" => favour(self, node, other, sheet),
+            "way" => find_way(self, node, other, sheet),
+            "fill" => fill(sheet),
+            "faults" => tell_faults(sheet),
+            _ => ask(self, word, node, other, sheet),
+        }
+    }
+}
+
+/// Adds a node with a character below the parent, and tells its number.
+fn grow(tree: &mut Tree<char>, parent: usize, text: &str, sheet: &mut Sheet) {
+    let content = text.chars().next().unwrap_or('-');
+    sheet.show(&grown(tree, parent, content));
+}
+
+/// Adds a node with this content below the parent, and answers its number.
+fn grown(tree: &mut Tree<char>, parent: usize, content: char) -> Result<usize, TreeFault> {
     tree.room()?;
     if !tree.has(parent) {
         return Err(TreeFault::NoNode);
     }
-    let content = text.chars().next().unwrap_or('-');
     Ok(tree.add(Node { parent, content }))
 }
 
 /// Makes a child its node's favourite.
-fn favour(
-    alloc: Global,
-    tree: &mut Tree<char>,
-    node: usize,
-    child: usize,
-) -> Result<String, AllocError> {
+fn favour(tree: &mut Tree<char>, node: usize, child: usize, sheet: &mut Sheet) {
     if child == 0 || !tree.has(child) || tree.parent(child) != node {
-        return String::from_str(alloc, "no child");
+        return sheet.write("no child");
     }
     tree.set_favourite(node, child);
-    shown(alloc, &tree.favourite(node))
+    sheet.show(&tree.favourite(node));
 }
 
 /// The way from a node to another, and the nodes on its way down.
-fn way(alloc: Global, tree: &mut Tree<char>, from: usize, to: usize) -> Result<String, AllocError> {
+fn find_way(tree: &mut Tree<char>, from: usize, to: usize, sheet: &mut Sheet) {
     if !tree.has(from) {
-        return String::from_str(alloc, "no node");
+        return sheet.write("no node");
     }
     match tree.find_way(from, to) {
-        Err(fault) => shown(alloc, &fault),
+        Err(fault) => sheet.show(&fault),
         Ok(way) => {
-            let mut text = shown(alloc, &way)?;
-            push_nodes_down(alloc, &mut text, tree, way.down)?;
-            Ok(text)
+            sheet.show(&way);
+            tell_nodes_down(tree, way.down, sheet);
         }
     }
 }
 
 /// Writes the nodes on the way down, whose number is `down`.
-fn push_nodes_down(
-    alloc: Global,
-    text: &mut String,
-    tree: &Tree<char>,
-    down: usize,
-) -> Result<(), AllocError>
+fn tell_nodes_down(tree: &Tree<char>, down: usize, sheet: &mut Sheet)
     requires { down ≤ length tree.now.way }
 {
     for turn in 0..down {
-        let node = tree.next_down(down - turn);
-        push_both(text, " ", &shown(alloc, &node)?)?;
+        sheet.write(" ");
+        sheet.show(&tree.next_down(down - turn));
     }
-    Ok(())
+}
+
+/// Fills a new tree.
+fn fill(sheet: &mut Sheet) {
+    match Tree::<()>::new(sheet.alloc()) {
+        Ok(mut tree) => fill_tree(&mut tree, sheet),
+        Err(_) => sheet.refuse(),
+    }
 }
 
 /// Adds as many nodes as a tree has, and tells how many it has then, whether it is full, and what becomes of a further one.
-fn fill(alloc: Global) -> Result<String, AllocError> {
-    let mut tree = Tree::new(alloc)?;
+fn fill_tree(tree: &mut Tree<()>, sheet: &mut Sheet) {
     for _ in 0..NODE_LIMIT {
-        if tree.room().is_ok() {
-            tree.add(Node {
-                parent: 0,
-                content: (),
-            });
-        }
+        grow_root(tree);
     }
-    let (nodes, is_full, room) = (tree.nodes(), tree.is_full(), tree.room());
-    format!(in alloc; "{nodes} {is_full} {room:?}")
+    sheet.show(&tree.nodes());
+    sheet.write(" ");
+    sheet.show(&tree.is_full());
+    sheet.write(" ");
+    sheet.show(&tree.room());
+}
+
+/// Adds a node below the root, where there is room.
+fn grow_root(tree: &mut Tree<()>) {
+    if tree.room().is_ok() {
+        tree.add(Node {
+            parent: 0,
+            content: (),
+        });
+    }
 }
 
 /// The refusals, with their numbers and words.
-fn faults(alloc: Global) -> Result<String, AllocError> {
-    let mut text = String::new(alloc);
-    for fault in [TreeFault::HistoryFull, TreeFault::NoNode, TreeFault::Memory] {
-        let (number, name) = (fault.number(), fault.name());
-        text.push_str(&format!(in alloc; "{fault:?} {number} {name};")?)?;
-    }
-    Ok(text)
+fn tell_faults(sheet: &mut Sheet) {
+    tell_fault(TreeFault::HistoryFull, sheet);
+    tell_fault(TreeFault::NoNode, sheet);
+    tell_fault(TreeFault::Memory, sheet);
+}
+
+/// A refusal, with its number and word.
+fn tell_fault(fault: TreeFault, sheet: &mut Sheet) {
+    sheet.show(&fault);
+    sheet.write(" ");
+    sheet.show(&fault.number());
+    sheet.write(" ");
+    sheet.write(fault.name());
+    sheet.write(";");
 }
 
 /// The answer to a question that changes nothing.
-fn question(
-    alloc: Global,
-    tree: &Tree<char>,
-    word: &str,
-    node: usize,
-    other: usize,
-) -> Result<String, AllocError> {
+fn ask(tree: &Tree<char>, word: &str, node: usize, other: usize, sheet: &mut Sheet) {
     match word {
-        "nodes" => shown(alloc, &tree.nodes()),
-        "full" => shown(alloc, &tree.is_full()),
-        "has" => shown(alloc, &tree.has(node)),
-        "path" => shown(alloc, &tree.path(node)),
-        "meet" => shown(alloc, &tree.meet(node, other)),
-        _ => question_of_node(alloc, tree, word, node),
+        "nodes" => sheet.show(&tree.nodes()),
+        "full" => sheet.show(&tree.is_full()),
+        "has" => sheet.show(&tree.has(node)),
+        "path" => sheet.show(&tree.path(node)),
+        "meet" => sheet.show(&tree.meet(node, other)),
+        _ => ask_of_node(tree, word, node, sheet),
     }
 }
 
 /// The answer to a question about a node that there is.
-fn question_of_node(
-    alloc: Global,
-    tree: &Tree<char>,
-    word: &str,
-    node: usize,
-) -> Result<String, AllocError> {
+fn ask_of_node(tree: &Tree<char>, word: &str, node: usize, sheet: &mut Sheet) {
     if !tree.has(node) {
-        return String::from_str(alloc, "no node");
+        return sheet.write("no node");
     }
     match word {
-        "parent" => shown(alloc, &tree.parent(node)),
-        "favourite" => shown(alloc, &tree.favourite(node)),
-        "content" if node > 0 => shown(alloc, tree.content(node)),
-        _ => String::from_str(alloc, "no question"),
+        "parent" => sheet.show(&tree.parent(node)),
+        "favourite" => sheet.show(&tree.favourite(node)),
+        "content" if node > 0 => sheet.show(tree.content(node)),
+        _ => sheet.write("no question"),
     }
 }

@@ -1,39 +1,26 @@
 //! Rows of cells and the names before them. `declare` declares a name as a `number`, an `array` or a `stack`, and gives the kind of the
 //! name. `define` defines a procedure with parameters of these kinds, and gives their kinds. `check` says that a cell passes over
 //! these, or gives its fault: the number, and the fault with its place.
-use janus_check::{Env, Kind, check};
-use janus_syntax::parse_cell;
+use crate::subject::{Subject, tell_rows};
+use janus_check::{CheckFault, Checked, Env, Kind, check};
+use janus_syntax::{SyntaxFault, parse_cell};
 use std::alloc::{AllocError, Global};
-use tests_rows::{cut, push_answer, shown, written};
+use tests_rows::{Sheet, cut, written};
 
 /// Writes the calls, over no names at first, with their answers.
-pub(crate) fn tell(alloc: Global, calls: &str, out: &mut String) -> Result<(), AllocError> {
-    let mut env = Env::new(alloc);
-    tell_over(alloc, &mut env, calls, out)
+pub(crate) fn tell(calls: &str, sheet: &mut Sheet) {
+    tell_rows(&mut Env::new(sheet.alloc()), calls, sheet);
 }
 
-/// Writes the calls over these names with their answers.
-fn tell_over(
-    alloc: Global,
-    env: &mut Env,
-    calls: &str,
-    out: &mut String,
-) -> Result<(), AllocError> {
-    for call in calls.lines() {
-        let answer = answer(alloc, env, call)?;
-        push_answer(out, call, &answer)?;
-    }
-    Ok(())
-}
-
-/// The answer to a call.
-fn answer(alloc: Global, env: &mut Env, call: &str) -> Result<String, AllocError> {
-    let (word, rest) = cut(call);
-    let (first, second) = cut(rest);
-    match word {
-        "declare" => declare(alloc, env, first, kind_of(second)),
-        "define" => define(alloc, env, first, second),
-        _ => checked(alloc, env, rest),
+impl Subject for Env {
+    fn answer(&mut self, call: &str, sheet: &mut Sheet) {
+        let (word, rest) = cut(call);
+        let (first, second) = cut(rest);
+        match word {
+            "declare" => declare(self, first, kind_of(second), sheet),
+            "define" => define(self, first, second, sheet),
+            _ => check_row(self, rest, sheet),
+        }
     }
 }
 
@@ -46,37 +33,78 @@ fn kind_of(word: &str) -> Kind {
     }
 }
 
-/// Declares a name that isn't declared yet.
-fn declare(alloc: Global, env: &mut Env, name: &str, kind: Kind) -> Result<String, AllocError> {
+/// Declares a name that isn't declared yet, and tells its kind.
+fn declare(env: &mut Env, name: &str, kind: Kind, sheet: &mut Sheet) {
     if env.kind(name).is_none() {
-        env.declare(String::from_str(alloc, name)?, kind)?;
+        match String::from_str(sheet.alloc(), name) {
+            Ok(name) => keep(env.declare(name, kind), sheet),
+            Err(_) => sheet.refuse(),
+        }
     }
-    shown(alloc, &env.kind(name))
+    sheet.show(&env.kind(name));
 }
 
-/// Defines a procedure that isn't defined yet.
-fn define(alloc: Global, env: &mut Env, name: &str, words: &str) -> Result<String, AllocError> {
+/// Keeps whether memory was refused.
+fn keep(came: Result<(), AllocError>, sheet: &mut Sheet) {
+    if came.is_err() {
+        sheet.refuse();
+    }
+}
+
+/// Defines a procedure that isn't defined yet, and tells the kinds of its parameters.
+fn define(env: &mut Env, name: &str, words: &str, sheet: &mut Sheet) {
+    match kinds_of(sheet.alloc(), words) {
+        Ok(kinds) => define_with(env, name, kinds, sheet),
+        Err(_) => sheet.refuse(),
+    }
+    sheet.show(&env.head(name));
+}
+
+/// The kinds that words name.
+fn kinds_of(alloc: Global, words: &str) -> Result<Vec<Kind>, AllocError> {
     let mut kinds = Vec::new(alloc);
     for word in words.split_whitespace() {
         kinds.push(kind_of(word))?;
     }
+    Ok(kinds)
+}
+
+/// Defines a procedure with parameters of these kinds, if it isn't defined yet.
+fn define_with(env: &mut Env, name: &str, kinds: Vec<Kind>, sheet: &mut Sheet) {
     if env.head(name).is_none() {
-        env.define(String::from_str(alloc, name)?, kinds)?;
+        match String::from_str(sheet.alloc(), name) {
+            Ok(name) => keep(env.define(name, kinds), sheet),
+            Err(_) => sheet.refuse(),
+        }
     }
-    shown(alloc, &env.head(name))
+}
+
+/// What the check says of the cell of a row.
+fn check_row(env: &Env, row: &str, sheet: &mut Sheet) {
+    match written(sheet.alloc(), row) {
+        Ok(text) => check_text(env, &text, sheet),
+        Err(_) => sheet.refuse(),
+    }
 }
 
 /// What the check says of the cell of a text.
-fn checked(alloc: Global, env: &Env, text: &str) -> Result<String, AllocError> {
-    let text = written(alloc, text)?;
-    let Ok(cell) = parse_cell(alloc, &text) else {
-        return String::from_str(alloc, "is no cell");
-    };
-    match check(alloc, env, cell) {
-        Ok(_) => String::from_str(alloc, "passes"),
+fn check_text(env: &Env, text: &str, sheet: &mut Sheet) {
+    let alloc = sheet.alloc();
+    match parse_cell(alloc, text) {
+        Ok(cell) => tell_check(check(alloc, env, cell), sheet),
+        Err(SyntaxFault::Memory) => sheet.show(&SyntaxFault::Memory),
+        Err(_) => sheet.write("is no cell"),
+    }
+}
+
+/// What the check said of a cell.
+fn tell_check(checked: Result<Checked, CheckFault>, sheet: &mut Sheet) {
+    match checked {
+        Ok(_) => sheet.write("passes"),
         Err(fault) => {
-            let number = fault.number();
-            format!(in alloc; "{number} {fault:?}")
+            sheet.show(&fault.number());
+            sheet.write(" ");
+            sheet.show(&fault);
         }
     }
 }

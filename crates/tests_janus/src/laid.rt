@@ -1,43 +1,38 @@
-//! Rows of flat code: what is laid of a row of instructions.
+//! Rows of flat code: what is laid of a row of instructions. `in scope` assigns to the one number in scope, `elsewhere` to a name that has no place.
 use janus_code::{FlatExp, Statement, Symbol};
 use janus_flat::statements::Head;
 use janus_laying::{FlatRow, NamePlace, lay, place_row};
 use janus_linear::Instruction;
 use janus_syntax::tree::Update;
-use std::alloc::{AllocError, Global};
-use tests_rows::push_answer;
+use std::alloc::AllocError;
+use tests_rows::Sheet;
 
-/// Writes the calls with what is laid of their statement between the entry and the end of a block.
-pub(crate) fn tell(alloc: Global, calls: &str, out: &mut String) -> Result<(), AllocError> {
-    let statements = statements(alloc)?;
-    for call in calls.lines() {
-        let number = if call == "in scope" { 0 } else { 1 };
-        let laid = laid(alloc, &statements, number)?;
-        let answer = told(alloc, &laid)?;
-        push_answer(out, call, &answer)?;
+/// Writes what is laid of the statement of a call between the entry and the end of a block.
+pub(crate) fn answer(call: &str, sheet: &mut Sheet) {
+    let number = if call == "in scope" { 0 } else { 1 };
+    match String::from_str(sheet.alloc(), "x") {
+        Ok(name) => tell_with(name, number, sheet),
+        Err(_) => sheet.refuse(),
     }
-    Ok(())
 }
 
-/// An assignment to the one number in scope, and one to a name that has no place.
-fn statements(alloc: Global) -> Result<Vec<Statement>, AllocError> {
-    let mut statements = Vec::new(alloc);
-    statements.push(assignment(alloc, "x", 0)?)?;
-    statements.push(assignment(alloc, "y", 1)?)?;
-    Ok(statements)
+/// What is laid of the statement of this number, of which the first assigns to this name.
+fn tell_with(name: String, number: usize, sheet: &mut Sheet) {
+    match String::from_str(sheet.alloc(), "y") {
+        Ok(other) => tell_of([assignment(name, 0), assignment(other, 1)], number, sheet),
+        Err(_) => sheet.refuse(),
+    }
 }
 
 /// The assignment of one more to a name.
-fn assignment(alloc: Global, text: &str, number: usize) -> Result<Statement, AllocError> {
-    let name = Symbol {
-        text: String::from_str(alloc, text)?,
-        number,
-    };
-    Ok(Statement::Assign(name, Update::Add, FlatExp::Number(1)))
+fn assignment(text: String, number: usize) -> Statement {
+    let name = Symbol { text, number };
+    Statement::Assign(name, Update::Add, FlatExp::Number(1))
 }
 
-/// What is laid of a statement.
-fn laid(alloc: Global, statements: &[Statement], number: usize) -> Result<FlatRow, AllocError> {
+/// What is laid of the statement of this number.
+fn tell_of(statements: [Statement; 2], number: usize, sheet: &mut Sheet) {
+    let alloc = sheet.alloc();
     let instructions = [
         Instruction::Enter(9),
         Instruction::Run(number),
@@ -45,28 +40,41 @@ fn laid(alloc: Global, statements: &[Statement], number: usize) -> Result<FlatRo
         Instruction::Leave,
     ];
     let places = [NamePlace::Number(0)];
-    let row = place_row(alloc, statements, &instructions, &places)?;
-    lay(alloc, &row, 1)
+    match place_row(alloc, &statements, &instructions, &places) {
+        Ok(row) => tell_laid(lay(alloc, &row, 1), sheet),
+        Err(_) => sheet.refuse(),
+    }
+}
+
+/// What was laid.
+fn tell_laid(laid: Result<FlatRow, AllocError>, sheet: &mut Sheet) {
+    match laid {
+        Ok(row) => tell_row(&row, sheet),
+        Err(_) => sheet.refuse(),
+    }
 }
 
 /// How many primitives there are, and what stands at each statement.
-fn told(alloc: Global, row: &FlatRow) -> Result<String, AllocError> {
-    let count = row.primitives.len();
-    let mut told = format!(in alloc; "{count} primitives")?;
+fn tell_row(row: &FlatRow, sheet: &mut Sheet) {
+    sheet.show(&row.primitives.len());
+    sheet.write(" primitives");
     for head in &row.heads {
-        push_head(alloc, *head, &mut told)?;
+        tell_head(*head, sheet);
     }
-    Ok(told)
 }
 
-/// Adds what a statement costs, and the place of its entry.
-fn push_head(alloc: Global, head: Head, told: &mut String) -> Result<(), AllocError> {
+/// What a statement costs, and the place of its entry.
+fn tell_head(head: Head, sheet: &mut Sheet) {
     let Head { cost, entry, ticks } = head;
-    let text = if cost == u64::MAX {
-        format!(in alloc; ", left from {entry} behind {ticks}")?
+    if cost == u64::MAX {
+        sheet.write(", left from ");
+        sheet.show(&entry);
+        sheet.write(" behind ");
+        sheet.show(&ticks);
     } else {
-        format!(in alloc; ", {cost} steps from {entry}")?
-    };
-    told.push_str(&text)?;
-    Ok(())
+        sheet.write(", ");
+        sheet.show(&cost);
+        sheet.write(" steps from ");
+        sheet.show(&entry);
+    }
 }

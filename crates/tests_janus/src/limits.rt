@@ -9,17 +9,11 @@ use janus_meaning::limit::{
 use janus_store::CALL_LIMIT;
 use kernel_ask::{COMM_LIMIT, SHOWN_VALUES};
 use kernel_core::{MINUTES_LIMIT, QUEUE_LIMIT, STEPS_OF_A_SLICE};
-use std::alloc::{AllocError, Global};
-use tests_rows::push_answer;
+use tests_rows::Sheet;
 
-/// Writes the names of limits with their numbers.
-pub(crate) fn tell(alloc: Global, calls: &str, out: &mut String) -> Result<(), AllocError> {
-    for call in calls.lines() {
-        let limit = limit_of(call);
-        let answer = format!(in alloc; "{limit}")?;
-        push_answer(out, call, &answer)?;
-    }
-    Ok(())
+/// Writes the number of the limit of this name.
+pub(crate) fn answer(name: &str, sheet: &mut Sheet) {
+    sheet.show(&limit_of(name));
 }
 
 /// The limit of this name.

@@ -1,31 +1,23 @@
 //! Rows of the lines in which a frontend is told outcomes, faults and values. `outcome` gives an outcome by its place in the list
 //! below, and its line; `closing`, `met` and `memory` give the lines of faults, `negative` that of a number, and `ones` that of an array of a number of
 //! them.
+use crate::subject::write_made;
 use janus_store::ValueView;
 use kernel_ask::{ExpFault, exp_fault_line, outcome_line, post_fault_line, value_text};
 use kernel_core::{CheckFault, Fault, Outcome, PostFault, Refusal, Span, TravelEnd};
-use std::alloc::{AllocError, Global};
-use tests_rows::{cut, number, push_answer};
+use tests_rows::{Sheet, cut, number};
 
-/// Writes the calls with their answers.
-pub(crate) fn tell(alloc: Global, calls: &str, out: &mut String) -> Result<(), AllocError> {
-    for call in calls.lines() {
-        let answer = answer(alloc, call)?;
-        push_answer(out, call, &answer)?;
-    }
-    Ok(())
-}
-
-/// The answer to a call.
-fn answer(alloc: Global, call: &str) -> Result<String, AllocError> {
+/// Writes the answer to a call.
+pub(crate) fn answer(call: &str, sheet: &mut Sheet) {
+    let alloc = sheet.alloc();
     let (word, rest) = cut(call);
     match word {
-        "outcome" => outcome(alloc, number(rest)),
-        "closing" => post_fault_line(alloc, PostFault::Closing),
-        "met" => exp_fault_line(alloc, ExpFault::Met(Fault::DivisionByZero)),
-        "memory" => exp_fault_line(alloc, ExpFault::Refused(Refusal::Memory)),
-        "negative" => value_text(alloc, "x", ValueView::Number(-5)),
-        _ => ones(alloc, number(rest)),
+        "outcome" => tell_outcome(number(rest), sheet),
+        "closing" => write_made(post_fault_line(alloc, PostFault::Closing), sheet),
+        "met" => tell_fault(ExpFault::Met(Fault::DivisionByZero), sheet),
+        "memory" => tell_fault(ExpFault::Refused(Refusal::Memory), sheet),
+        "negative" => tell_value("x", ValueView::Number(-5), sheet),
+        _ => tell_ones(number(rest), sheet),
     }
 }
 
@@ -45,17 +37,28 @@ const OUTCOMES: [Outcome; 8] = [
 ];
 
 /// The outcome at a place of the list, and its line.
-fn outcome(alloc: Global, at: usize) -> Result<String, AllocError> {
-    if at >= OUTCOMES.len() {
-        return Ok(String::new(alloc));
+fn tell_outcome(at: usize, sheet: &mut Sheet) {
+    if let Some(outcome) = OUTCOMES.get(at) {
+        sheet.show(outcome);
+        sheet.write(" is ");
+        write_made(outcome_line(sheet.alloc(), outcome), sheet);
     }
-    let outcome = OUTCOMES[at];
-    let line = outcome_line(alloc, &outcome)?;
-    format!(in alloc; "{outcome:?} is {line}")
+}
+
+/// The line of the fault of an expression.
+fn tell_fault(fault: ExpFault, sheet: &mut Sheet) {
+    write_made(exp_fault_line(sheet.alloc(), fault), sheet);
+}
+
+/// The line of a name and its value.
+fn tell_value(name: &str, value: ValueView<'_>, sheet: &mut Sheet) {
+    write_made(value_text(sheet.alloc(), name, value), sheet);
 }
 
 /// The line of an array of a number of ones.
-fn ones(alloc: Global, count: usize) -> Result<String, AllocError> {
-    let many = vec![in alloc; 1i32; count]?;
-    value_text(alloc, "a", ValueView::Array(&many))
+fn tell_ones(count: usize, sheet: &mut Sheet) {
+    match vec![in sheet.alloc(); 1i32; count] {
+        Ok(many) => tell_value("a", ValueView::Array(&many), sheet),
+        Err(_) => sheet.refuse(),
+    }
 }

@@ -12,51 +12,54 @@ mod comms;
 mod laid;
 mod limits;
 mod lines;
+mod octets;
 mod outlines;
 mod questions;
 mod schedules;
 mod stores;
 mod streams;
+mod subject;
 mod sweeps;
 mod texts;
 mod transcripts;
 mod values;
 
+use crate::subject::{Plain, tell_rows};
 use std::alloc::{AllocError, Global};
 use std::io;
-use tests_rows::{cut_block, push_both};
+use tests_rows::{Sheet, cut_block};
 
-fn main(rt: HostRuntime) -> anyhow::Result<()> {
-    let alloc = rt.alloc();
-    let text = io::read_to_string(alloc, rt.stdin())?;
-    for block in text.split("\n\n") {
-        let told = told(alloc, block)?;
-        println!(rt; "{told}")?;
-    }
-    Ok(())
+fn main(rt: HostRuntime) -> io::Result<()> {
+    let text = io::read_to_string(rt.alloc(), rt.stdin())?;
+    let told = told(rt.alloc(), &text)?;
+    print!(rt; "{told}")
 }
 
-/// A block, with the answers to its calls.
-fn told(alloc: Global, block: &str) -> Result<String, AllocError> {
+/// The blocks of a text, with the answers to their calls.
+fn told(alloc: Global, text: &str) -> Result<String, AllocError> {
+    let mut sheet = Sheet::new(alloc);
+    for block in text.split("\n\n") {
+        tell_block(block, &mut sheet);
+    }
+    sheet.finish()
+}
+
+/// Writes a block, with the answers to its calls.
+fn tell_block(block: &str, sheet: &mut Sheet) {
     let (title, subject, calls) = cut_block(block);
-    let mut out = String::new(alloc);
-    push_both(&mut out, title, "\n")?;
-    tell(alloc, subject, calls, &mut out)?;
-    Ok(out)
+    sheet.write(title);
+    sheet.write("\n");
+    tell(subject, calls, sheet);
+    sheet.write("\n");
 }
 
 /// Writes the calls of a block with their answers.
-fn tell(alloc: Global, subject: &str, calls: &str, out: &mut String) -> Result<(), AllocError> {
+fn tell(subject: &str, calls: &str, sheet: &mut Sheet) {
     match subject {
-        "texts" => texts::tell(alloc, calls, out),
-        "cells" => checks::tell(alloc, calls, out),
-        "tree" => cell_trees::tell(alloc, calls, out),
-        "stores" => stores::tell(alloc, calls, out),
-        "lines" => lines::tell(alloc, calls, out),
-        "limits" => limits::tell(alloc, calls, out),
-        "comms" => comms::tell(alloc, calls, out),
-        "laid" => laid::tell(alloc, calls, out),
-        "transcripts" => transcripts::tell(alloc, calls, out),
-        _ => schedules::tell(alloc, calls, out),
+        "cells" => checks::tell(calls, sheet),
+        "tree" => cell_trees::tell(calls, sheet),
+        "comms" => comms::tell(calls, sheet),
+        "kernel" => schedules::tell(calls, sheet),
+        _ => tell_rows(&mut Plain { subject }, calls, sheet),
     }
 }

@@ -1,170 +1,171 @@
 //! Trees as texts: expressions in prefix form with a blank before each, blocks in braces, a semicolon behind each statement.
 use janus_syntax::tree::{Cell, Declaration, Exp, Name, Parameter, Procedure, Stm, Update};
-use std::alloc::{AllocError, Global};
-use tests_rows::{push_both, shown};
+use std::fmt::Debug;
+use tests_rows::Sheet;
 
 /// Writes an expression.
-pub(crate) fn push_exp(alloc: Global, out: &mut String, exp: &Exp) -> Result<(), AllocError> {
-    push_exp_head(alloc, out, exp)?;
+pub(crate) fn write_exp(exp: &Exp, sheet: &mut Sheet) {
+    write_exp_head(exp, sheet);
     match exp {
-        Exp::Number(_, _) | Exp::Variable(_) => return Ok(()),
+        Exp::Number(_, _) | Exp::Variable(_) => return,
         Exp::Empty(_) | Exp::Top(_) => {}
-        Exp::Element(_, operand) | Exp::Negative(operand) => push_exp(alloc, out, operand)?,
+        Exp::Element(_, operand) | Exp::Negative(operand) => write_exp(operand, sheet),
         Exp::Binary(_, left, right) | Exp::And(left, right) | Exp::Or(left, right) => {
-            push_exp(alloc, out, left)?;
-            push_exp(alloc, out, right)?;
+            write_exp(left, sheet);
+            write_exp(right, sheet);
         }
     }
-    out.push(')')
+    sheet.write(")");
 }
 
 /// Writes a number, a name, or the parenthesis of another expression with what it does.
-fn push_exp_head(alloc: Global, out: &mut String, exp: &Exp) -> Result<(), AllocError> {
+fn write_exp_head(exp: &Exp, sheet: &mut Sheet) {
     match exp {
-        Exp::Number(number, _) => push_both(out, " ", &shown(alloc, number)?),
-        Exp::Variable(name) => push_both(out, " ", &name.text),
-        Exp::Element(name, _) => push_both(out, " (at ", &name.text),
-        Exp::Empty(name) => push_both(out, " (empty ", &name.text),
-        Exp::Top(name) => push_both(out, " (top ", &name.text),
-        Exp::Negative(_) => out.push_str(" (Negative"),
-        Exp::Binary(operator, _, _) => push_both(out, " (", &shown(alloc, operator)?),
-        Exp::And(_, _) => out.push_str(" (And"),
-        Exp::Or(_, _) => out.push_str(" (Or"),
+        Exp::Number(number, _) => write_shown(" ", number, sheet),
+        Exp::Variable(name) => write_name(" ", name, sheet),
+        Exp::Element(name, _) => write_name(" (at ", name, sheet),
+        Exp::Empty(name) => write_name(" (empty ", name, sheet),
+        Exp::Top(name) => write_name(" (top ", name, sheet),
+        Exp::Negative(_) => sheet.write(" (Negative"),
+        Exp::Binary(operator, _, _) => write_shown(" (", operator, sheet),
+        Exp::And(_, _) => sheet.write(" (And"),
+        Exp::Or(_, _) => sheet.write(" (Or"),
     }
+}
+
+/// Writes a word and a value as `Debug` does.
+fn write_shown<T: Debug>(word: &str, value: &T, sheet: &mut Sheet) {
+    sheet.write(word);
+    sheet.show(value);
+}
+
+/// Writes a word and a name.
+fn write_name(word: &str, name: &Name, sheet: &mut Sheet) {
+    sheet.write(word);
+    sheet.write(&name.text);
+}
+
+/// Writes a word, a name, and names behind it.
+fn write_names(word: &str, name: &Name, names: &[Name], sheet: &mut Sheet) {
+    write_name(word, name, sheet);
+    for name in names {
+        write_name(" ", name, sheet);
+    }
+}
+
+/// Writes a word and two names.
+fn write_two_names(word: &str, name: &Name, other: &Name, sheet: &mut Sheet) {
+    write_name(word, name, sheet);
+    write_name(" ", other, sheet);
+}
+
+/// Writes a name, what stands behind it, and how it is changed.
+fn write_update(name: &Name, mark: &str, update: &Update, sheet: &mut Sheet) {
+    write_name("", name, sheet);
+    write_shown(mark, update, sheet);
 }
 
 /// Writes a statement.
 #[cycle(outline)]
-fn push_statement(alloc: Global, out: &mut String, statement: &Stm) -> Result<(), AllocError> {
-    push_statement_head(alloc, out, statement)?;
+fn write_statement(statement: &Stm, sheet: &mut Sheet) {
+    write_statement_head(statement, sheet);
     match statement {
         Stm::Skip | Stm::Push(_, _) | Stm::Pop(_, _) | Stm::Call(_, _) | Stm::Uncall(_, _) => {}
-        Stm::Assign(_, _, exp) => push_exp(alloc, out, exp)?,
+        Stm::Assign(_, _, exp) => write_exp(exp, sheet),
         Stm::AssignElement(_, index, _, exp) => {
-            push_exp(alloc, out, index)?;
-            push_exp(alloc, out, exp)?;
+            write_exp(index, sheet);
+            write_exp(exp, sheet);
         }
         Stm::If(first, one, other, last) | Stm::Loop(first, one, other, last) => {
-            push_exp(alloc, out, first)?;
-            push_block(alloc, out, one)?;
-            push_block(alloc, out, other)?;
-            push_exp(alloc, out, last)?;
+            write_exp(first, sheet);
+            write_block(one, sheet);
+            write_block(other, sheet);
+            write_exp(last, sheet);
         }
         Stm::LocalInt(_, first, body, again, last) => {
-            push_exp(alloc, out, first)?;
-            push_block(alloc, out, body)?;
-            push_both(out, " ", &again.text)?;
-            push_exp(alloc, out, last)?;
+            write_exp(first, sheet);
+            write_block(body, sheet);
+            write_name(" ", again, sheet);
+            write_exp(last, sheet);
         }
         Stm::LocalStack(_, body, again) => {
-            push_block(alloc, out, body)?;
-            push_both(out, " ", &again.text)?;
+            write_block(body, sheet);
+            write_name(" ", again, sheet);
         }
     }
-    out.push(';')
+    sheet.write(";");
 }
 
 /// Writes a block.
 #[cycle(outline)]
-fn push_block(alloc: Global, out: &mut String, block: &[Stm]) -> Result<(), AllocError> {
-    out.push_str(" {")?;
+fn write_block(block: &[Stm], sheet: &mut Sheet) {
+    sheet.write(" {");
     for i in 0..block.len() {
-        push_statement(alloc, out, &block[i])?;
+        write_statement(&block[i], sheet);
     }
-    out.push('}')
+    sheet.write("}");
 }
 
 /// Writes what a statement does, and the names to which it is done.
-fn push_statement_head(alloc: Global, out: &mut String, statement: &Stm) -> Result<(), AllocError> {
+fn write_statement_head(statement: &Stm, sheet: &mut Sheet) {
     match statement {
-        Stm::Skip => out.push_str("skip"),
-        Stm::Assign(name, update, _) => push_update(alloc, out, name, " ", *update),
-        Stm::AssignElement(name, _, update, _) => push_update(alloc, out, name, "[] ", *update),
-        Stm::Push(variable, stack) => push_words(out, "push ", variable, stack),
-        Stm::Pop(variable, stack) => push_words(out, "pop ", variable, stack),
-        Stm::If(_, _, _, _) => out.push_str("if"),
-        Stm::Loop(_, _, _, _) => out.push_str("from"),
-        Stm::LocalInt(name, _, _, _, _) => push_both(out, "local int ", &name.text),
-        Stm::LocalStack(name, _, _) => push_both(out, "local stack ", &name.text),
-        Stm::Call(name, arguments) => push_names(out, "call ", name, arguments),
-        Stm::Uncall(name, arguments) => push_names(out, "uncall ", name, arguments),
+        Stm::Skip => sheet.write("skip"),
+        Stm::Assign(name, update, _) => write_update(name, " ", update, sheet),
+        Stm::AssignElement(name, _, update, _) => write_update(name, "[] ", update, sheet),
+        Stm::Push(variable, stack) => write_two_names("push ", variable, stack, sheet),
+        Stm::Pop(variable, stack) => write_two_names("pop ", variable, stack, sheet),
+        Stm::If(_, _, _, _) => sheet.write("if"),
+        Stm::Loop(_, _, _, _) => sheet.write("from"),
+        Stm::LocalInt(name, _, _, _, _) => write_name("local int ", name, sheet),
+        Stm::LocalStack(name, _, _) => write_name("local stack ", name, sheet),
+        Stm::Call(name, arguments) => write_names("call ", name, arguments, sheet),
+        Stm::Uncall(name, arguments) => write_names("uncall ", name, arguments, sheet),
     }
-}
-
-/// Writes a name, what stands behind it, and how it is changed.
-fn push_update(
-    alloc: Global,
-    out: &mut String,
-    name: &Name,
-    mark: &str,
-    update: Update,
-) -> Result<(), AllocError> {
-    push_both(out, &name.text, mark)?;
-    out.push_str(&shown(alloc, &update)?)
-}
-
-/// Writes a word and two names.
-fn push_words(out: &mut String, word: &str, first: &Name, second: &Name) -> Result<(), AllocError> {
-    push_both(out, word, &first.text)?;
-    push_both(out, " ", &second.text)
-}
-
-/// Writes a word, a name, and names behind it.
-fn push_names(out: &mut String, word: &str, name: &Name, names: &[Name]) -> Result<(), AllocError> {
-    push_both(out, word, &name.text)?;
-    for name in names {
-        push_both(out, " ", &name.text)?;
-    }
-    Ok(())
 }
 
 /// Writes a cell: its declarations, its statements and its procedures.
-pub(crate) fn push_cell(alloc: Global, out: &mut String, cell: &Cell) -> Result<(), AllocError> {
-    for declaration in &cell.declarations {
-        push_declaration(alloc, out, declaration)?;
-    }
-    push_block(alloc, out, &cell.statements)?;
+pub(crate) fn write_cell(cell: &Cell, sheet: &mut Sheet) {
+    write_declarations(&cell.declarations, sheet);
+    write_block(&cell.statements, sheet);
     for procedure in &cell.procedures {
-        push_procedure(alloc, out, procedure)?;
+        write_procedure(procedure, sheet);
     }
-    Ok(())
+}
+
+/// Writes declarations.
+fn write_declarations(declarations: &[Declaration], sheet: &mut Sheet) {
+    for declaration in declarations {
+        write_declaration(declaration, sheet);
+        sheet.write(";");
+    }
 }
 
 /// Writes a declaration.
-fn push_declaration(
-    alloc: Global,
-    out: &mut String,
-    declaration: &Declaration,
-) -> Result<(), AllocError> {
+fn write_declaration(declaration: &Declaration, sheet: &mut Sheet) {
     match declaration {
-        Declaration::Int(name) => push_both(out, "int ", &name.text)?,
+        Declaration::Int(name) => write_name("int ", name, sheet),
         Declaration::Array(name, length, _) => {
-            push_both(out, "int ", &name.text)?;
-            push_both(out, " ", &shown(alloc, length)?)?;
+            write_name("int ", name, sheet);
+            write_shown(" ", length, sheet);
         }
-        Declaration::Stack(name) => push_both(out, "stack ", &name.text)?,
+        Declaration::Stack(name) => write_name("stack ", name, sheet),
     }
-    out.push(';')
 }
 
 /// Writes a procedure: its name, its parameters and its body.
-fn push_procedure(
-    alloc: Global,
-    out: &mut String,
-    procedure: &Procedure,
-) -> Result<(), AllocError> {
-    push_both(out, " procedure ", &procedure.name.text)?;
+fn write_procedure(procedure: &Procedure, sheet: &mut Sheet) {
+    write_name(" procedure ", &procedure.name, sheet);
     for parameter in &procedure.parameters {
-        push_parameter(out, parameter)?;
+        write_parameter(parameter, sheet);
     }
-    push_block(alloc, out, &procedure.body)
+    write_block(&procedure.body, sheet);
 }
 
 /// Writes a parameter.
-fn push_parameter(out: &mut String, parameter: &Parameter) -> Result<(), AllocError> {
+fn write_parameter(parameter: &Parameter, sheet: &mut Sheet) {
     match parameter {
-        Parameter::Int(name) => push_both(out, " int ", &name.text),
-        Parameter::Array(name) => push_both(out, " array ", &name.text),
-        Parameter::Stack(name) => push_both(out, " stack ", &name.text),
+        Parameter::Int(name) => write_name(" int ", name, sheet),
+        Parameter::Array(name) => write_name(" array ", name, sheet),
+        Parameter::Stack(name) => write_name(" stack ", name, sheet),
     }
 }

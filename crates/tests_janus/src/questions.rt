@@ -1,27 +1,37 @@
 //! Rows of questions to a kernel. `complete` and `inspect` have a cursor (or `-`) and code, `judge` has code, `tail` a number, `range` a
 //! session, a start and a stop (or `-`); `comms` and `state` have nothing. `evaluate` has an expression. `shown`
 //! is told behind a cell that ran, `unshown` behind one that was interrupted.
-use kernel_ask::{Ask, Comms, HistoryAsk, ask_on, evaluate, is_settled, shown_of_node};
+use crate::subject::show_made;
+use kernel_ask::{
+    Ask, Comms, HistoryAsk, ask_on, evaluate, is_settled, shown_of_node, stands_at_end,
+};
 use kernel_core::{Kernel, Outcome};
-use std::alloc::{AllocError, Global};
 use std::sync::ledger::Ledger;
-use tests_rows::{cut, shown};
+use tests_rows::{Sheet, cut};
 
-/// The answer to a question.
-pub(crate) fn question<L: Ledger>(
-    alloc: Global,
+/// Writes the answer to a question.
+pub(crate) fn tell_question<L: Ledger>(
     kernel: &Kernel<L>,
     word: &str,
     rest: &str,
-) -> Result<String, AllocError> {
+    sheet: &mut Sheet,
+) {
     match word {
-        "evaluate" => value(alloc, kernel, rest),
-        "shown" | "unshown" => shown_of(alloc, kernel, word == "shown"),
-        _ => shown(
-            alloc,
-            &ask_on(alloc, kernel, &Comms::new(alloc), ask_of(word, rest)),
+        "evaluate" => tell_value(kernel, rest, sheet),
+        "shown" => tell_shown(kernel, &Outcome::Ran(kernel.position(), 1), sheet),
+        "unshown" => tell_shown(kernel, &Outcome::Interrupted(1), sheet),
+        _ => ask(
+            kernel,
+            &Comms::new(sheet.alloc()),
+            ask_of(word, rest),
+            sheet,
         ),
     }
+}
+
+/// Asks a kernel beside these comms, and writes the answer.
+fn ask<L: Ledger>(kernel: &Kernel<L>, comms: &Comms, ask: Ask<'_>, sheet: &mut Sheet) {
+    sheet.show(&ask_on(sheet.alloc(), kernel, comms, ask));
 }
 
 /// A number; none for any other word.
@@ -61,23 +71,17 @@ fn range_of(session: &str, rest: &str) -> HistoryAsk {
 }
 
 /// The value of an expression, where no job is open.
-fn value<L: Ledger>(alloc: Global, kernel: &Kernel<L>, text: &str) -> Result<String, AllocError> {
+fn tell_value<L: Ledger>(kernel: &Kernel<L>, text: &str, sheet: &mut Sheet) {
     if !is_settled(kernel) {
-        return String::from_str(alloc, "a job is open");
+        return sheet.write("a job is open");
     }
-    shown(alloc, &evaluate(alloc, kernel, text))
+    sheet.show(&evaluate(sheet.alloc(), kernel, text));
 }
 
-/// What is shown of the cell at the position, whether it ran or was interrupted.
-fn shown_of<L: Ledger>(alloc: Global, kernel: &Kernel<L>, ran: bool) -> Result<String, AllocError> {
-    if !is_settled(kernel) {
-        return String::from_str(alloc, "a job is open");
+/// What is shown of a cell that came to this end, where no job is open and the kernel stands at it.
+fn tell_shown<L: Ledger>(kernel: &Kernel<L>, outcome: &Outcome, sheet: &mut Sheet) {
+    if !is_settled(kernel) || !stands_at_end(kernel, outcome) {
+        return sheet.write("a job is open");
     }
-    let node = kernel.position();
-    let outcome = if ran {
-        Outcome::Ran(node, 1)
-    } else {
-        Outcome::Interrupted(1)
-    };
-    shown(alloc, &shown_of_node(alloc, kernel, &outcome)?)
+    show_made(shown_of_node(sheet.alloc(), kernel, outcome), sheet);
 }

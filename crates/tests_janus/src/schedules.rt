@@ -4,158 +4,114 @@
 //! gives the last answers. `sweep` and `fault` are told by the module `sweeps`. Other rows are questions.
 ghost use Rattle.std.specs.Prelude.{◌≡◌, ◌<◌};
 
-use crate::questions::question;
-use crate::sweeps::swept;
-use crate::values::value_shown;
+use crate::questions::tell_question;
+use crate::subject::{Subject, tell_rows};
+use crate::sweeps::sweep;
+use crate::values::write_value;
 use kernel_core::{CellText, Event, Job, Kernel, run_events};
 use std::alloc::{AllocError, Global};
 use std::marker::Brand;
 use std::sync::ledger::{Blank, Ledger};
-use tests_rows::{cut, number, push_answer, push_both, shown, written};
+use tests_rows::{Sheet, cut, number, written};
 
 /// Makes the calls on a new kernel, and writes each with its answer.
-pub(crate) fn tell(alloc: Global, calls: &str, out: &mut String) -> Result<(), AllocError> {
-    out.push_str(&told(alloc, calls)?)
+pub(crate) fn tell(calls: &str, sheet: &mut Sheet) {
+    match String::from_str(sheet.alloc(), calls) {
+        Ok(calls) => tell_calls(&calls, sheet),
+        Err(_) => sheet.refuse(),
+    }
 }
 
-/// Makes the calls on a new kernel, and gives each with its answer.
-fn told(alloc: Global, calls: &str) -> Result<String, AllocError> {
-    let calls = String::from_str(alloc, calls)?;
-    told_in::<Brand>(alloc, Blank::new(1), calls)
+/// Makes the calls on a new kernel, and writes each with its answer.
+fn tell_calls(calls: &String, sheet: &mut Sheet) {
+    tell_in::<Brand>(Blank::new(1), calls, sheet);
 }
 
-/// Makes the calls on a new kernel over this ledger, and gives each with its answer.
-fn told_in<L: Ledger>(alloc: Global, blank: Blank, calls: String) -> Result<String, AllocError>
+/// Makes the calls on a new kernel over this ledger, and writes each with its answer.
+fn tell_in<L: Ledger>(blank: Blank, calls: &String, sheet: &mut Sheet)
     requires name { blank.name ≡ L.name }
     requires parts { blank.parts ≡ L.parts }
     requires some { 0 < L.parts }
 {
-    let mut kernel = Kernel::<L>::new(alloc, blank)?;
-    let told = told_by(alloc, &mut kernel, &calls);
-    let_go(kernel);
-    told
-}
-
-/// Lets a kernel go that is over.
-fn let_go<L: Ledger>(_kernel: Kernel<L>) {}
-
-/// Makes the calls, and gives each with its answer.
-fn told_by<L: Ledger>(
-    alloc: Global,
-    kernel: &mut Kernel<L>,
-    calls: &str,
-) -> Result<String, AllocError> {
-    let mut out = String::new(alloc);
-    for call in calls.lines() {
-        let answer = answered(alloc, kernel, call)?;
-        push_answer(&mut out, call, &answer)?;
-    }
-    Ok(out)
-}
-
-/// The answer to a call, to a sweep, or to the last of calls that are repeated.
-fn answered<L: Ledger>(
-    alloc: Global,
-    kernel: &mut Kernel<L>,
-    call: &str,
-) -> Result<String, AllocError> {
-    let (word, rest) = cut(call);
-    match word {
-        "sweep" | "fault" => swept(alloc, kernel, rest, word == "fault"),
-        "repeat" => repeated(alloc, kernel, rest),
-        _ => answer(alloc, kernel, call),
-    }
-}
-
-/// The answers to the last of calls that are repeated so often.
-fn repeated<L: Ledger>(
-    alloc: Global,
-    kernel: &mut Kernel<L>,
-    row: &str,
-) -> Result<String, AllocError> {
-    let (times, calls) = cut(row);
-    let mut last = String::new(alloc);
-    for _ in 0..number(times) {
-        last = answers(alloc, kernel, calls)?;
-    }
-    Ok(last)
-}
-
-/// The answers to calls with a semicolon between them.
-pub(crate) fn answers<L: Ledger>(
-    alloc: Global,
-    kernel: &mut Kernel<L>,
-    calls: &str,
-) -> Result<String, AllocError> {
-    let mut text = String::new(alloc);
-    for call in calls.split(';') {
-        push_both(&mut text, " ", &answer(alloc, kernel, call)?)?;
-    }
-    Ok(text)
-}
-
-/// The answer to a call.
-fn answer<L: Ledger>(
-    alloc: Global,
-    kernel: &mut Kernel<L>,
-    call: &str,
-) -> Result<String, AllocError> {
-    let (word, rest) = cut(call);
-    match word {
-        "begin" => begin(alloc, kernel),
-        "slice" | "ask" => slice(alloc, kernel, number(rest), word == "ask"),
-        "shut" => shut(alloc, kernel),
-        "events" => events(alloc, kernel),
-        "cell" | "silent" | "unstored" | "undo" | "redo" | "goto" => {
-            post(alloc, kernel, word, rest)
+    match Kernel::<L>::new(sheet.alloc(), blank) {
+        Ok(mut kernel) => {
+            tell_rows(&mut kernel, calls, sheet);
+            kernel.discard();
         }
-        _ => view(alloc, kernel, word, rest),
+        Err(_) => sheet.refuse(),
     }
 }
 
-/// Begins a job or its next cell.
-fn begin<L: Ledger>(alloc: Global, kernel: &mut Kernel<L>) -> Result<String, AllocError> {
-    shown(alloc, &kernel.begin())
+impl<L: Ledger> Subject for Kernel<L> {
+    fn answer(&mut self, call: &str, sheet: &mut Sheet) {
+        let (word, rest) = cut(call);
+        match word {
+            "sweep" => sweep(self, rest, false, sheet),
+            "fault" => sweep(self, rest, true, sheet),
+            "repeat" => repeat(self, rest, sheet),
+            _ => make(self, word, rest, sheet),
+        }
+    }
+}
+
+/// Makes calls so often, and writes the last answers.
+fn repeat<L: Ledger>(kernel: &mut Kernel<L>, row: &str, sheet: &mut Sheet) {
+    let (times, calls) = cut(row);
+    for _ in 1..number(times) {
+        make_untold(kernel, calls, sheet);
+    }
+    make_all(kernel, calls, sheet);
+}
+
+/// Makes calls with a semicolon between them, whose answers nobody is told.
+pub(crate) fn make_untold<L: Ledger>(kernel: &mut Kernel<L>, calls: &str, sheet: &mut Sheet) {
+    let mut untold = Sheet::new(sheet.alloc());
+    make_all(kernel, calls, &mut untold);
+    if untold.finish().is_err() {
+        sheet.refuse();
+    }
+}
+
+/// Makes calls with a semicolon between them, and writes each answer behind a blank.
+fn make_all<L: Ledger>(kernel: &mut Kernel<L>, calls: &str, sheet: &mut Sheet) {
+    for call in calls.split(';') {
+        let (word, rest) = cut(call);
+        sheet.write(" ");
+        make(kernel, word, rest, sheet);
+    }
+}
+
+/// Makes a call, and writes its answer.
+fn make<L: Ledger>(kernel: &mut Kernel<L>, word: &str, rest: &str, sheet: &mut Sheet) {
+    match word {
+        "begin" => sheet.show(&kernel.begin()),
+        "slice" => slice(kernel, rest, false, sheet),
+        "ask" => slice(kernel, rest, true, sheet),
+        "shut" => shut(kernel, sheet),
+        "events" => tell_events(kernel, sheet),
+        "cell" | "silent" | "unstored" | "undo" | "redo" | "goto" => {
+            post(kernel, word, rest, sheet)
+        }
+        _ => view(kernel, word, rest, sheet),
+    }
 }
 
 /// Takes a number of steps, asked to stop or not.
-fn slice<L: Ledger>(
-    alloc: Global,
-    kernel: &mut Kernel<L>,
-    steps: usize,
-    asked: bool,
-) -> Result<String, AllocError> {
-    shown(alloc, &kernel.slice(steps as u64, asked))
+fn slice<L: Ledger>(kernel: &mut Kernel<L>, steps: &str, asked: bool, sheet: &mut Sheet) {
+    sheet.show(&kernel.slice(number(steps) as u64, asked));
 }
 
 /// Shuts a kernel, and tells whether it is closing.
-fn shut<L: Ledger>(alloc: Global, kernel: &mut Kernel<L>) -> Result<String, AllocError> {
+fn shut<L: Ledger>(kernel: &mut Kernel<L>, sheet: &mut Sheet) {
     kernel.shut();
-    shown(alloc, &kernel.is_closing())
+    sheet.show(&kernel.is_closing());
 }
 
 /// Posts the job of a call.
-fn post<L: Ledger>(
-    alloc: Global,
-    kernel: &mut Kernel<L>,
-    word: &str,
-    rest: &str,
-) -> Result<String, AllocError> {
-    let job = job_of(alloc, word, rest)?;
-    shown(alloc, &kernel.post(7, job))
-}
-
-/// What is seen of a kernel.
-fn view<L: Ledger>(
-    alloc: Global,
-    kernel: &Kernel<L>,
-    word: &str,
-    rest: &str,
-) -> Result<String, AllocError> {
-    match word {
-        "world" => world(alloc, kernel),
-        "minutes" => minutes(alloc, kernel),
-        _ => question(alloc, kernel, word, rest),
+fn post<L: Ledger>(kernel: &mut Kernel<L>, word: &str, rest: &str, sheet: &mut Sheet) {
+    match job_of(sheet.alloc(), word, rest) {
+        Ok(job) => sheet.show(&kernel.post(7, job)),
+        Err(_) => sheet.refuse(),
     }
 }
 
@@ -174,40 +130,55 @@ fn job_of(alloc: Global, word: &str, rest: &str) -> Result<Job, AllocError> {
     }
 }
 
+/// What is seen of a kernel.
+fn view<L: Ledger>(kernel: &Kernel<L>, word: &str, rest: &str, sheet: &mut Sheet) {
+    match word {
+        "world" => tell_world(kernel, sheet),
+        "minutes" => tell_minutes(kernel, sheet),
+        _ => tell_question(kernel, word, rest, sheet),
+    }
+}
+
 /// The shown world: the position, and each name with its value.
-pub(crate) fn world<L: Ledger>(alloc: Global, kernel: &Kernel<L>) -> Result<String, AllocError> {
-    let mut text = shown(alloc, &kernel.position())?;
+fn tell_world<L: Ledger>(kernel: &Kernel<L>, sheet: &mut Sheet) {
+    sheet.show(&kernel.position());
     let world = kernel.world();
     for i in 0..world.len() {
         let (name, value) = world.entry(i);
-        let value = value_shown(alloc, value)?;
-        text.push_str(&format!(in alloc; " {name}={value}")?)?;
+        sheet.write(" ");
+        sheet.write(name);
+        sheet.write("=");
+        write_value(value, sheet);
     }
-    Ok(text)
 }
 
 /// The counter, the phase, and the entries of the minutes.
-fn minutes<L: Ledger>(alloc: Global, kernel: &Kernel<L>) -> Result<String, AllocError> {
-    let (counter, phase) = (kernel.counter(), kernel.phase());
-    let mut text = format!(in alloc; "{counter} {phase:?}")?;
+fn tell_minutes<L: Ledger>(kernel: &Kernel<L>, sheet: &mut Sheet) {
+    sheet.show(&kernel.counter());
+    sheet.write(" ");
+    sheet.show(&kernel.phase());
     for entry in kernel.minutes() {
-        text.push_str(&format!(in alloc; "; {entry:?}")?)?;
+        sheet.write("; ");
+        sheet.show(entry);
     }
-    Ok(text)
 }
 
 /// The answers to a list of events.
-fn events<L: Ledger>(alloc: Global, kernel: &mut Kernel<L>) -> Result<String, AllocError> {
-    let job = job_of(alloc, "cell", "int x x += 5")?;
-    let events = Vec::from_array(
-        alloc,
-        [
-            Event::Post(1, job),
-            Event::Begin,
-            Event::Slice(9, false),
-            Event::Post(2, Job::Redo(1)),
-            Event::Begin,
-        ],
-    )?;
-    shown(alloc, &run_events(alloc, kernel, &events))
+fn tell_events<L: Ledger>(kernel: &mut Kernel<L>, sheet: &mut Sheet) {
+    match job_of(sheet.alloc(), "cell", "int x x += 5") {
+        Ok(job) => run_all(kernel, job, sheet),
+        Err(_) => sheet.refuse(),
+    }
+}
+
+/// The answers to a list of events, the first of which posts this job.
+fn run_all<L: Ledger>(kernel: &mut Kernel<L>, job: Job, sheet: &mut Sheet) {
+    let events = [
+        Event::Post(1, job),
+        Event::Begin,
+        Event::Slice(9, false),
+        Event::Post(2, Job::Redo(1)),
+        Event::Begin,
+    ];
+    sheet.show(&run_events(sheet.alloc(), kernel, &events));
 }

@@ -3,51 +3,93 @@
 //!
 //! `sweep` tries each count below that number: the cell goes so far in one slice, and is then asked to stop by slices of 1, of 2, of 7
 //! and of all steps; of 2 and of 7 every other slice alone asks. `fault` has a cell that meets a fault behind a number of steps: from each
-//! count up to that one it goes on to the fault, and then goes back by such slices, without being asked. Where a slash and a further number stand behind the number of steps, the counts that
-//! are tried stand so far apart, and the last one is tried too. The position and the world behind each slice, its values and the texts of its
-//! procedures, are compared with those that were met at that count on the way out, by single steps, and those at the end with those before the begin,
-//! with the extent of the tree.
+//! count up to that one it goes on to the fault, and then goes back by such slices, without being asked. Where a slash and a further number stand
+//! behind the number of steps, the counts that are tried stand so far apart, and the last one is tried too. The position and the world behind each
+//! slice, its values and the texts of its procedures, are compared with those that were met at that count on the way out, by single steps, and those
+//! at the end with those before the begin, with the extent of the tree.
 //!
 //! Told are how many stops there were, how many slices they took back, behind how many steps of the way out the world was another one, how many
 //! answers and worlds were wrong, and the outcome of each stop, in which `here` stands for the count of the stop.
-use crate::schedules::{answers, world};
-use janus_store::{StackView, ValueView};
+use crate::octets::{push_seen, push_world};
+use crate::schedules::make_untold;
 use kernel_core::{Begun, Kernel, Outcome, Sliced};
-use kernel_text::procedure_text;
-use std::alloc::{AllocError, Global};
+use std::alloc::Global;
 use std::sync::ledger::Ledger;
-use tests_rows::{cut, number, shown};
+use tests_rows::{Sheet, cut, number};
 
 /// How many steps a slice takes back.
 const PIECES: [usize; 4] = [1, 2, 7, usize::MAX];
 
-/// The calls behind which a cell is begun, what was seen before the begin, the worlds that were met on the way out, by their counts, and how far
-/// apart the counts stand that are tried.
+/// The calls behind which a cell is begun, what was seen before the begin, the worlds that were met on the way out, by their counts, how far
+/// apart the counts stand that are tried, and whether the cell meets a fault behind the last.
 #[derive(Drop)]
 struct Way<'a> {
     calls: &'a str,
-    before: String,
+    before: Vec<u8>,
     met: Vec<Vec<u8>>,
     apart: usize,
+    is_fault: bool,
 }
 
-impl Way<'_> {
+impl<'a> Way<'a> {
+    /// A way on which nothing was met yet.
+    fn new(alloc: Global, calls: &'a str, apart: usize, is_fault: bool) -> Way<'a> {
+        Way {
+            calls,
+            before: Vec::new(alloc),
+            met: Vec::new(alloc),
+            apart,
+            is_fault,
+        }
+    }
+
     /// Whether a stop is tried at this count: at each that is so far from the one before, and at the last.
     fn is_tried(&self, count: usize) -> bool {
         count.checked_rem(self.apart) == Some(0) || count.saturating_add(1) == self.met.len()
     }
+
+    /// Whether this world was met at this count.
+    fn was_met(&self, count: usize, world: &[u8]) -> bool {
+        match self.met.get(count) {
+            Some(met) => met.as_slice() == world,
+            None => false,
+        }
+    }
+
+    /// Behind how many steps another world was met than before it.
+    fn changes(&self) -> usize {
+        let mut changes = 0usize;
+        for i in 1..self.met.len() {
+            if self.met[i].as_slice() != self.met[i - 1].as_slice() {
+                changes = changes.saturating_add(1);
+            }
+        }
+        changes
+    }
 }
 
-/// What was counted, and the outcome of the first stop.
+/// What was counted, the outcome of the first stop, and whether that was an interrupt at the count of its stop.
 #[derive(Drop)]
 struct Tally {
     stops: usize,
     slices: usize,
     wrong: usize,
-    outcome: String,
+    outcome: Option<Outcome>,
+    is_here: bool,
 }
 
 impl Tally {
+    /// Nothing was counted yet.
+    fn new() -> Tally {
+        Tally {
+            stops: 0,
+            slices: 0,
+            wrong: 0,
+            outcome: None,
+            is_here: false,
+        }
+    }
+
     /// Counts an answer or a world, which is right or not.
     fn judge(&mut self, is_right: bool) {
         if !is_right {
@@ -55,289 +97,223 @@ impl Tally {
         }
     }
 
-    /// Whether the first stop ended with this outcome.
-    fn ended_so(&self, outcome: &str) -> bool {
-        self.outcome.as_str() == outcome
-    }
-
-    /// Counts a stop that ended with this outcome, which is right where it is that of the first stop.
-    fn end(&mut self, outcome: String) {
+    /// Counts the end of a stop at this count, which is right where it is that of the first stop.
+    fn end(&mut self, outcome: Outcome, count: usize) {
         self.stops = self.stops.saturating_add(1);
-        if self.stops == 1 {
-            self.outcome = outcome;
-        } else {
-            let is_right = self.ended_so(&outcome);
-            self.judge(is_right);
+        let is_here = outcome == Outcome::Interrupted(count as u64);
+        match self.outcome {
+            None => {
+                self.outcome = Some(outcome);
+                self.is_here = is_here;
+            }
+            Some(first) => self.judge(is_here == self.is_here && (is_here || outcome == first)),
         }
     }
 }
 
 /// The answer to a row: that of a `fault` or of a `sweep`.
-pub(crate) fn swept<L: Ledger>(
-    alloc: Global,
+pub(crate) fn sweep<L: Ledger>(
     kernel: &mut Kernel<L>,
     row: &str,
     is_fault: bool,
-) -> Result<String, AllocError> {
+    sheet: &mut Sheet,
+) {
     let (counts, calls) = cut(row);
     let (steps, apart) = counts.split_once('/').unwrap_or((counts, "1"));
-    let steps = if is_fault {
-        number(steps)
+    let mut way = Way::new(sheet.alloc(), calls, number(apart), is_fault);
+    sweep_way(kernel, &mut way, number(steps), sheet);
+}
+
+/// Goes out so many steps, stops the cell at each count that is tried, and tells what was counted.
+fn sweep_way<L: Ledger>(
+    kernel: &mut Kernel<L>,
+    way: &mut Way<'_>,
+    steps: usize,
+    sheet: &mut Sheet,
+) {
+    let last = if way.is_fault {
+        steps
     } else {
-        number(steps).saturating_sub(1)
+        steps.saturating_sub(1)
     };
-    let way = way_out(alloc, kernel, calls, steps, number(apart))?;
-    let mut tally = Tally {
-        stops: 0,
-        slices: 0,
-        wrong: 0,
-        outcome: String::new(alloc),
-    };
+    go_out(kernel, way, last, sheet);
+    let mut tally = Tally::new();
     for piece in PIECES {
-        sweep(alloc, kernel, &way, &mut tally, piece, is_fault)?;
+        stop_at_each(kernel, way, &mut tally, piece, sheet);
     }
-    told(alloc, &tally, changes(&way.met))
+    tell(&tally, way.changes(), sheet);
 }
 
 /// What is told of a sweep with this number of changes on its way out.
-fn told(alloc: Global, tally: &Tally, changes: usize) -> Result<String, AllocError> {
-    let Tally {
-        stops,
-        slices,
-        wrong,
-        outcome,
-    } = tally;
-    format!(in alloc; "{stops} stops, {slices} slices, {changes} changes, {wrong} wrong, {outcome}")
+fn tell(tally: &Tally, changes: usize, sheet: &mut Sheet) {
+    tell_count(tally.stops, " stops, ", sheet);
+    tell_count(tally.slices, " slices, ", sheet);
+    tell_count(changes, " changes, ", sheet);
+    tell_count(tally.wrong, " wrong, ", sheet);
+    match &tally.outcome {
+        Some(_) if tally.is_here => sheet.write("Interrupted(here)"),
+        Some(outcome) => sheet.show(outcome),
+        None => {}
+    }
 }
 
-/// Begins the cell behind these calls, takes a number of single steps, and then takes them back. Gives what was met.
-fn way_out<'a, L: Ledger>(
-    alloc: Global,
-    kernel: &mut Kernel<L>,
-    calls: &'a str,
-    steps: usize,
-    apart: usize,
-) -> Result<Way<'a>, AllocError> {
-    answers(alloc, kernel, calls)?;
-    let before = seen(alloc, kernel)?;
+/// A count, and what it counts.
+fn tell_count(count: usize, words: &str, sheet: &mut Sheet) {
+    sheet.show(&count);
+    sheet.write(words);
+}
+
+/// Begins the cell behind the calls, takes a number of single steps, and then takes them back. Keeps what was met.
+fn go_out<L: Ledger>(kernel: &mut Kernel<L>, way: &mut Way<'_>, steps: usize, sheet: &mut Sheet) {
+    make_untold(kernel, way.calls, sheet);
+    push_seen(kernel, &mut way.before, sheet);
     kernel.begin();
-    let met = met_by_steps(alloc, kernel, steps)?;
-    kernel.slice(u64::MAX, true);
-    Ok(Way {
-        calls,
-        before,
-        met,
-        apart,
-    })
-}
-
-/// The world inside a cell as it stands, and behind each of a number of single steps.
-fn met_by_steps<L: Ledger>(
-    alloc: Global,
-    kernel: &mut Kernel<L>,
-    steps: usize,
-) -> Result<Vec<Vec<u8>>, AllocError> {
-    let mut met = Vec::new(alloc);
-    met.push(shown_world(alloc, kernel)?)?;
+    meet(kernel, way, sheet);
     for _ in 0..steps {
         kernel.slice(1, false);
-        met.push(shown_world(alloc, kernel)?)?;
+        meet(kernel, way, sheet);
     }
-    Ok(met)
+    kernel.slice(u64::MAX, true);
 }
 
-/// The position and the shown world: the names with their values, and the texts of the procedures.
-fn shown_world<L: Ledger>(alloc: Global, kernel: &Kernel<L>) -> Result<Vec<u8>, AllocError> {
-    let mut octets = Vec::new(alloc);
-    octets.extend_from_slice(&kernel.position().to_le_bytes())?;
-    let world = kernel.world();
-    for i in 0..world.len() {
-        let (name, value) = world.entry(i);
-        octets.extend_from_slice(name.as_bytes())?;
-        push_value(&mut octets, value)?;
+/// Keeps the world as it stands.
+fn meet<L: Ledger>(kernel: &Kernel<L>, way: &mut Way<'_>, sheet: &mut Sheet) {
+    let mut world = Vec::new(sheet.alloc());
+    push_world(kernel, &mut world, sheet);
+    if way.met.push(world).is_err() {
+        sheet.refuse();
     }
-    octets.extend_from_slice(procedures_shown(alloc, kernel)?.as_bytes())?;
-    Ok(octets)
-}
-
-/// The texts of the procedures, the newest of each name.
-fn procedures_shown<L: Ledger>(alloc: Global, kernel: &Kernel<L>) -> Result<String, AllocError> {
-    let mut text = String::new(alloc);
-    let world = kernel.world();
-    for procedure in &world.procedures(alloc)? {
-        text.push_str(&procedure_text(alloc, procedure)?)?;
-    }
-    Ok(text)
-}
-
-/// Writes what kind a value is of, how many numbers it has, and the numbers.
-fn push_value(octets: &mut Vec<u8>, value: ValueView<'_>) -> Result<(), AllocError> {
-    match value {
-        ValueView::Number(number) => push_numbers(octets, b'=', &[number]),
-        ValueView::Array(numbers) => push_numbers(octets, b'[', numbers),
-        ValueView::Stack(values) => push_stack(octets, &values),
-    }
-}
-
-/// Writes a kind, how many numbers there are, and the numbers.
-fn push_numbers(octets: &mut Vec<u8>, kind: u8, numbers: &[i32]) -> Result<(), AllocError> {
-    octets.push(kind)?;
-    octets.extend_from_slice(&numbers.len().to_le_bytes())?;
-    for number in numbers {
-        octets.extend_from_slice(&number.to_le_bytes())?;
-    }
-    Ok(())
-}
-
-/// Writes that it is a stack, how many numbers it has, and the numbers.
-fn push_stack(octets: &mut Vec<u8>, values: &StackView<'_>) -> Result<(), AllocError> {
-    octets.push(b'(')?;
-    octets.extend_from_slice(&values.len().to_le_bytes())?;
-    for value in *values {
-        octets.extend_from_slice(&value.to_le_bytes())?;
-    }
-    Ok(())
-}
-
-/// What is seen between two cells: the position, the world, how many cells are above, below along favourites and in the tree, and all procedures.
-fn seen<L: Ledger>(alloc: Global, kernel: &Kernel<L>) -> Result<String, AllocError> {
-    let mut text = world(alloc, kernel)?;
-    let extent = kernel.extent();
-    let (undo, redo, nodes) = (extent.undo, extent.redo, extent.nodes);
-    text.push_str(&format!(in alloc; " {undo} {redo} {nodes}")?)?;
-    text.push_str(&procedures_shown(alloc, kernel)?)?;
-    Ok(text)
-}
-
-/// Behind how many steps another world was met than before it.
-fn changes(met: &[Vec<u8>]) -> usize {
-    let mut count = 0usize;
-    for i in 1..met.len() {
-        if met[i] != met[i - 1] {
-            count = count.saturating_add(1);
-        }
-    }
-    count
 }
 
 /// Stops the cell at each count that is tried, and takes it back by slices of this size.
-fn sweep<L: Ledger>(
-    alloc: Global,
+fn stop_at_each<L: Ledger>(
     kernel: &mut Kernel<L>,
     way: &Way<'_>,
     tally: &mut Tally,
     piece: usize,
-    is_fault: bool,
-) -> Result<(), AllocError> {
+    sheet: &mut Sheet,
+) {
     for count in 0..way.met.len() {
         if way.is_tried(count) {
-            stop_at(alloc, kernel, way, tally, count, piece, is_fault)?;
+            stop_at(kernel, way, tally, count, sheet);
+            take_back(kernel, way, tally, count, piece, sheet);
         }
     }
-    Ok(())
 }
 
-/// Stops the cell at a count, and takes it back by slices of this size.
+/// Begins the cell behind the calls, and stops it at a count.
 fn stop_at<L: Ledger>(
-    alloc: Global,
     kernel: &mut Kernel<L>,
     way: &Way<'_>,
     tally: &mut Tally,
     count: usize,
-    piece: usize,
-    is_fault: bool,
-) -> Result<(), AllocError> {
-    answers(alloc, kernel, way.calls)?;
-    tally.judge(seen(alloc, kernel)? == way.before);
+    sheet: &mut Sheet,
+) {
+    make_untold(kernel, way.calls, sheet);
+    look_between(kernel, way, tally, sheet);
     tally.judge(kernel.begin() == Begun::Going);
     tally.judge(kernel.slice(count as u64, false) == Sliced::Going);
-    look(alloc, kernel, way, tally, count)?;
-    if is_fault {
-        meet_fault(alloc, kernel, way, tally, piece)
-    } else {
-        go_back(alloc, kernel, way, tally, count, piece, true)
-    }
+    look(kernel, way, tally, count, sheet);
+}
+
+/// Compares what is seen between two cells with what was seen before the first begin.
+fn look_between<L: Ledger>(
+    kernel: &Kernel<L>,
+    way: &Way<'_>,
+    tally: &mut Tally,
+    sheet: &mut Sheet,
+) {
+    let mut seen = Vec::new(sheet.alloc());
+    push_seen(kernel, &mut seen, sheet);
+    tally.judge(seen.as_slice() == way.before.as_slice());
 }
 
 /// Compares the shown world with the one that was met at this count.
 fn look<L: Ledger>(
-    alloc: Global,
     kernel: &Kernel<L>,
     way: &Way<'_>,
     tally: &mut Tally,
     count: usize,
-) -> Result<(), AllocError> {
-    let world = shown_world(alloc, kernel)?;
-    match way.met.get(count) {
-        Some(met) => tally.judge(*met == world),
-        None => tally.judge(false),
-    }
-    Ok(())
+    sheet: &mut Sheet,
+) {
+    let mut world = Vec::new(sheet.alloc());
+    push_world(kernel, &mut world, sheet);
+    tally.judge(way.was_met(count, &world));
 }
 
-/// Goes on to the fault behind all the steps that were met, and takes them back.
-fn meet_fault<L: Ledger>(
-    alloc: Global,
+/// Takes the cell back from a count by slices of this size, behind the fault where it meets one.
+fn take_back<L: Ledger>(
     kernel: &mut Kernel<L>,
     way: &Way<'_>,
     tally: &mut Tally,
+    count: usize,
     piece: usize,
-) -> Result<(), AllocError> {
+    sheet: &mut Sheet,
+) {
+    if !way.is_fault {
+        return go_back(kernel, way, tally, count, piece, sheet);
+    }
     let steps = way.met.len().saturating_sub(1);
     match kernel.slice(u64::MAX, false) {
-        Sliced::Ended(outcome) => end(alloc, kernel, way, tally, &outcome, steps),
+        Sliced::Ended(outcome) => end(kernel, way, tally, outcome, steps, sheet),
         sliced => {
             tally.judge(sliced == Sliced::Backing);
-            look(alloc, kernel, way, tally, steps)?;
-            go_back(alloc, kernel, way, tally, steps, piece, false)
+            look(kernel, way, tally, steps, sheet);
+            go_back(kernel, way, tally, steps, piece, sheet);
         }
     }
 }
 
-/// Takes slices of this size until the job ends, from this count, and looks behind each. Where it is to be asked, each slice of one step asks it
-/// again, and every other one of those of more steps.
+/// Takes slices of this size until the job ends, from this count, and looks behind each. Where no fault was met it is to be asked: each slice of one
+/// step asks it again, and every other one of those of more steps.
 fn go_back<L: Ledger>(
-    alloc: Global,
     kernel: &mut Kernel<L>,
     way: &Way<'_>,
     tally: &mut Tally,
     from: usize,
     piece: usize,
-    asked: bool,
-) -> Result<(), AllocError> {
-    let mut left = from;
+    sheet: &mut Sheet,
+) {
     for turn in 0..=from {
-        let again = piece == 1 || turn % 2 == 0;
-        let sliced = kernel.slice(piece as u64, asked && again);
-        tally.slices = tally.slices.saturating_add(1);
-        left = left.saturating_sub(piece);
-        if let Sliced::Ended(outcome) = sliced {
-            tally.judge(left == 0);
-            return end(alloc, kernel, way, tally, &outcome, from);
+        let is_asked = !way.is_fault && (piece == 1 || turn % 2 == 0);
+        let left = from.saturating_sub(turn.saturating_add(1).saturating_mul(piece));
+        if let Some(outcome) = take_slice(kernel, way, tally, piece, is_asked, left, sheet) {
+            return end(kernel, way, tally, outcome, from, sheet);
         }
-        tally.judge(sliced == Sliced::Backing && left > 0);
-        look(alloc, kernel, way, tally, left)?;
     }
     tally.judge(false);
-    Ok(())
+}
+
+/// Takes a slice of this size back, behind which so many steps are left. Where the job didn't end it looks; else it gives the outcome.
+fn take_slice<L: Ledger>(
+    kernel: &mut Kernel<L>,
+    way: &Way<'_>,
+    tally: &mut Tally,
+    piece: usize,
+    is_asked: bool,
+    left: usize,
+    sheet: &mut Sheet,
+) -> Option<Outcome> {
+    let sliced = kernel.slice(piece as u64, is_asked);
+    tally.slices = tally.slices.saturating_add(1);
+    if let Sliced::Ended(outcome) = sliced {
+        tally.judge(left == 0);
+        return Some(outcome);
+    }
+    tally.judge(sliced == Sliced::Backing && left > 0);
+    look(kernel, way, tally, left, sheet);
+    None
 }
 
 /// Counts the end of a stop at this count, and compares what is seen with what was seen before the begin.
 fn end<L: Ledger>(
-    alloc: Global,
     kernel: &Kernel<L>,
     way: &Way<'_>,
     tally: &mut Tally,
-    outcome: &Outcome,
+    outcome: Outcome,
     count: usize,
-) -> Result<(), AllocError> {
-    tally.judge(seen(alloc, kernel)? == way.before);
-    let outcome = match outcome {
-        Outcome::Interrupted(steps) if *steps == count as u64 => {
-            String::from_str(alloc, "Interrupted(here)")?
-        }
-        outcome => shown(alloc, outcome)?,
-    };
-    tally.end(outcome);
-    Ok(())
+    sheet: &mut Sheet,
+) {
+    look_between(kernel, way, tally, sheet);
+    tally.end(outcome, count);
 }

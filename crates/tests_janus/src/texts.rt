@@ -2,130 +2,152 @@
 //! number, and the fault with its place. `tree` gives the tree of a cell, `print` what is printed of it, `again` the tree of what
 //! is printed, `procedures` what is printed of each procedure alone, and `inverse` what is printed of the inverse. `exp` gives the tree of
 //! an expression, which is copied, and what is printed of the copy.
-use crate::outlines::{push_cell, push_exp};
+use crate::outlines::{write_cell, write_exp};
 use janus_invert::invert;
 use janus_syntax::token::{Token, TokenKind};
 use janus_syntax::tree::{Cell, Exp};
 use janus_syntax::{
     SyntaxFault, parse_cell, parse_exp, print_cell, print_exp, print_procedure, tokens,
 };
-use std::alloc::{AllocError, Global};
-use tests_rows::{cut, push_answer, push_both, shown, written};
+use std::alloc::AllocError;
+use tests_rows::{Sheet, cut, written};
 
-/// Writes the calls with their answers.
-pub(crate) fn tell(alloc: Global, calls: &str, out: &mut String) -> Result<(), AllocError> {
-    for call in calls.lines() {
-        let answer = answer(alloc, call)?;
-        push_answer(out, call, &answer)?;
-    }
-    Ok(())
-}
-
-/// The answer to a call, or the refusal of its text.
-fn answer(alloc: Global, call: &str) -> Result<String, AllocError> {
+/// Writes the answer to a call, or the refusal of its text.
+pub(crate) fn answer(call: &str, sheet: &mut Sheet) {
     let (word, rest) = cut(call);
-    let text = written(alloc, rest)?;
-    match of_text(alloc, word, &text) {
-        Ok(answer) => Ok(answer),
-        Err(fault) => {
-            let number = fault.number();
-            format!(in alloc; "{number} {fault:?}")
-        }
+    match written(sheet.alloc(), rest) {
+        Ok(text) => tell_text(word, &text, sheet),
+        Err(_) => sheet.refuse(),
     }
 }
 
 /// What is asked of a text.
-fn of_text(alloc: Global, word: &str, text: &str) -> Result<String, SyntaxFault> {
+fn tell_text(word: &str, text: &str, sheet: &mut Sheet) {
     match word {
-        "tokens" => tokens_of(alloc, text),
-        "exp" => exp_of(alloc, text),
-        _ => of_cell(alloc, word, &parse_cell(alloc, text)?),
+        "tokens" => tell_tokens(text, sheet),
+        "exp" => tell_exp(text, sheet),
+        _ => tell_cell(word, text, sheet),
+    }
+}
+
+/// The number of a refusal, and the fault.
+fn tell_fault(fault: SyntaxFault, sheet: &mut Sheet) {
+    sheet.show(&fault.number());
+    sheet.write(" ");
+    sheet.show(&fault);
+}
+
+/// Writes what was printed, or that there was no memory for it.
+fn tell_printed(printed: Result<String, AllocError>, sheet: &mut Sheet) {
+    match printed {
+        Ok(text) => sheet.write(&text),
+        Err(_) => tell_fault(SyntaxFault::Memory, sheet),
+    }
+}
+
+/// What is asked of the cell of a text.
+fn tell_cell(word: &str, text: &str, sheet: &mut Sheet) {
+    match parse_cell(sheet.alloc(), text) {
+        Ok(cell) => tell_of_cell(word, &cell, sheet),
+        Err(fault) => tell_fault(fault, sheet),
     }
 }
 
 /// What is asked of a cell.
-fn of_cell(alloc: Global, word: &str, cell: &Cell) -> Result<String, SyntaxFault> {
+fn tell_of_cell(word: &str, cell: &Cell, sheet: &mut Sheet) {
     match word {
-        "tree" => Ok(tree_of(alloc, cell)?),
-        "print" => Ok(print_cell(alloc, cell)?),
-        "again" => again(alloc, cell),
-        "procedures" => Ok(procedures_of(alloc, cell)?),
-        "inverse" => inverse_of(alloc, cell),
+        "tree" => write_cell(cell, sheet),
+        "print" => tell_printed(print_cell(sheet.alloc(), cell), sheet),
+        "again" => tell_again(cell, sheet),
+        "procedures" => tell_procedures(cell, sheet),
+        "inverse" => tell_inverse(cell, sheet),
         _ => {
-            let count = cell.statements.len();
-            Ok(format!(in alloc; "{count} statements")?)
+            sheet.show(&cell.statements.len());
+            sheet.write(" statements");
         }
     }
 }
 
-/// The tokens, a blank between them.
-fn tokens_of(alloc: Global, text: &str) -> Result<String, SyntaxFault> {
-    let mut out = String::new(alloc);
-    for token in &tokens(alloc, text)? {
-        push_token(alloc, &mut out, token)?;
+/// The tokens of a text, a blank behind each.
+fn tell_tokens(text: &str, sheet: &mut Sheet) {
+    match tokens(sheet.alloc(), text) {
+        Ok(tokens) => write_tokens(&tokens, sheet),
+        Err(fault) => tell_fault(fault, sheet),
     }
-    Ok(out)
 }
 
-/// Writes a token and a blank; before a word stands a quote.
-fn push_token(alloc: Global, out: &mut String, token: &Token) -> Result<(), AllocError> {
+/// Writes tokens, a blank behind each.
+fn write_tokens(tokens: &[Token], sheet: &mut Sheet) {
+    for token in tokens {
+        write_token(token, sheet);
+        sheet.write(" ");
+    }
+}
+
+/// Writes a token; before a word stands a quote.
+fn write_token(token: &Token, sheet: &mut Sheet) {
     match &token.kind {
-        TokenKind::Name(name) => push_both(out, name, " "),
-        TokenKind::Number(number) => push_both(out, &shown(alloc, number)?, " "),
-        TokenKind::Sign(sign) => push_both(out, sign.text(), " "),
+        TokenKind::Name(name) => sheet.write(name),
+        TokenKind::Number(number) => sheet.show(number),
+        TokenKind::Sign(sign) => sheet.write(sign.text()),
         TokenKind::Keyword(word) => {
-            out.push('\'')?;
-            push_both(out, word.text(), " ")
+            sheet.write("'");
+            sheet.write(word.text());
         }
     }
 }
 
-/// The tree of an expression, which is copied, and what is printed of the copy.
-fn exp_of(alloc: Global, text: &str) -> Result<String, SyntaxFault> {
-    let exp = parse_exp(alloc, text)?;
-    Ok(copy_of(alloc, &exp)?)
+/// The tree of the expression of a text, which is copied, and what is printed of the copy.
+fn tell_exp(text: &str, sheet: &mut Sheet) {
+    match parse_exp(sheet.alloc(), text) {
+        Ok(exp) => tell_copy(&exp, sheet),
+        Err(fault) => tell_fault(fault, sheet),
+    }
 }
 
 /// The tree of a copy of an expression, and what is printed of it.
-fn copy_of(alloc: Global, exp: &Exp) -> Result<String, AllocError> {
-    let copy = exp.copy(alloc)?;
-    exp_told(alloc, &copy)
+fn tell_copy(exp: &Exp, sheet: &mut Sheet) {
+    match exp.copy(sheet.alloc()) {
+        Ok(copy) => tell_of_exp(&copy, sheet),
+        Err(_) => tell_fault(SyntaxFault::Memory, sheet),
+    }
 }
 
 /// The tree of an expression, and what is printed of it.
-fn exp_told(alloc: Global, exp: &Exp) -> Result<String, AllocError> {
-    let mut out = String::new(alloc);
-    push_exp(alloc, &mut out, exp)?;
-    push_both(&mut out, " is ", &print_exp(alloc, exp)?)?;
-    Ok(out)
-}
-
-/// The tree of a cell.
-fn tree_of(alloc: Global, cell: &Cell) -> Result<String, AllocError> {
-    let mut out = String::new(alloc);
-    push_cell(alloc, &mut out, cell)?;
-    Ok(out)
+fn tell_of_exp(exp: &Exp, sheet: &mut Sheet) {
+    write_exp(exp, sheet);
+    sheet.write(" is ");
+    tell_printed(print_exp(sheet.alloc(), exp), sheet);
 }
 
 /// The tree of what is printed of a cell.
-fn again(alloc: Global, cell: &Cell) -> Result<String, SyntaxFault> {
-    let line = print_cell(alloc, cell)?;
-    Ok(tree_of(alloc, &parse_cell(alloc, &line)?)?)
+fn tell_again(cell: &Cell, sheet: &mut Sheet) {
+    match print_cell(sheet.alloc(), cell) {
+        Ok(line) => tell_tree(&line, sheet),
+        Err(_) => tell_fault(SyntaxFault::Memory, sheet),
+    }
+}
+
+/// The tree of the cell of a text.
+fn tell_tree(text: &str, sheet: &mut Sheet) {
+    match parse_cell(sheet.alloc(), text) {
+        Ok(cell) => write_cell(&cell, sheet),
+        Err(fault) => tell_fault(fault, sheet),
+    }
 }
 
 /// What is printed of each procedure.
-fn procedures_of(alloc: Global, cell: &Cell) -> Result<String, AllocError> {
-    let mut out = String::new(alloc);
+fn tell_procedures(cell: &Cell, sheet: &mut Sheet) {
     for procedure in &cell.procedures {
-        push_both(&mut out, &print_procedure(alloc, procedure)?, "; ")?;
+        tell_printed(print_procedure(sheet.alloc(), procedure), sheet);
+        sheet.write("; ");
     }
-    Ok(out)
 }
 
 /// What is printed of the inverse of a cell.
-fn inverse_of(alloc: Global, cell: &Cell) -> Result<String, SyntaxFault> {
-    match invert(alloc, cell) {
-        Ok(inverse) => Ok(print_cell(alloc, &inverse)?),
-        Err(_) => Err(SyntaxFault::Memory),
+fn tell_inverse(cell: &Cell, sheet: &mut Sheet) {
+    match invert(sheet.alloc(), cell) {
+        Ok(inverse) => tell_printed(print_cell(sheet.alloc(), &inverse), sheet),
+        Err(_) => tell_fault(SyntaxFault::Memory, sheet),
     }
 }

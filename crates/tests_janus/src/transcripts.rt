@@ -7,66 +7,71 @@ use cells_program::{
 };
 use std::alloc::{AllocError, Global};
 use std::io;
-use std::io::{ErrorKind, Read};
-use tests_rows::{cut, cut_cell, number, push_answer, shown, unescaped};
+use std::io::{ErrorKind, Read, Write};
+use tests_rows::{Sheet, cut, cut_cell, number, unescaped};
 
 /// How many steps a cell may take where that doesn't matter.
 const STEPS: u64 = 1000;
 
-/// Writes the calls with their answers.
-pub(crate) fn tell(alloc: Global, calls: &str, out: &mut String) -> Result<(), AllocError> {
-    for call in calls.lines() {
-        let answer = answer(alloc, call)?;
-        push_answer(out, call, &answer)?;
-    }
-    Ok(())
-}
-
-/// The answer to a call.
-fn answer(alloc: Global, call: &str) -> Result<String, AllocError> {
+/// Writes the answer to a call.
+pub(crate) fn answer(call: &str, sheet: &mut Sheet) {
     let (word, rest) = cut(call);
     match word {
-        "run" => ran(alloc, rest),
-        "words" => steps(alloc, rest),
-        "program" => ran_by_words(alloc, rest),
-        _ => ended(alloc, word, rest),
+        "run" => run_row(rest, sheet),
+        "words" => tell_words(rest, sheet),
+        "program" => run_by_words(rest, sheet),
+        _ => end(word, rest, sheet),
     }
 }
 
-/// A text in which one character stands for another one.
-fn exchanged(alloc: Global, text: &str, from: char, to: char) -> Result<String, AllocError> {
-    let mut out = String::new(alloc);
-    for c in text.chars() {
-        out.push(if c == from { to } else { c })?;
-    }
-    Ok(out)
-}
-
-/// What was written, in one line.
-fn in_one_line(alloc: Global, written: Vec<u8>) -> Result<String, AllocError> {
-    match String::from_utf8(written) {
-        Ok(lines) => exchanged(alloc, &lines, '\n', ';'),
-        Err(_) => String::from_str(alloc, "no text"),
+/// Writes a text in which another one stands for a character.
+fn write_exchanged(text: &str, from: char, to: &str, sheet: &mut Sheet) {
+    for (i, part) in text.split(from).enumerate() {
+        sheet.write(if i == 0 { "" } else { to });
+        sheet.write(part);
     }
 }
 
-/// Runs an input, and gives what was written, and the fault where there was one.
-fn run_over<R: Read>(alloc: Global, limit: u64, reader: &mut R) -> Result<String, AllocError> {
-    let mut writer = Vec::new(alloc);
-    let came = run(alloc, limit, reader, &mut writer);
-    let mut out = in_one_line(alloc, writer)?;
+/// The lines of a text with `;` at their ends.
+fn lines_of(alloc: Global, text: &str) -> Result<String, AllocError> {
+    let mut lines = Sheet::new(alloc);
+    write_exchanged(text, ';', "\n", &mut lines);
+    lines.finish()
+}
+
+/// Writes what was written, in one line.
+fn write_in_one_line(written: &[u8], sheet: &mut Sheet) {
+    match str::from_utf8(written) {
+        Ok(lines) => write_exchanged(lines, '\n', ";", sheet),
+        Err(_) => sheet.write("no text"),
+    }
+}
+
+/// Runs an input, and tells what was written, and the fault where there was one.
+fn run_over<R: Read>(limit: u64, reader: &mut R, sheet: &mut Sheet) {
+    let mut writer = Vec::new(sheet.alloc());
+    let came = run(sheet.alloc(), limit, reader, &mut writer);
+    write_in_one_line(&writer, sheet);
     if let Err(fault) = came {
-        out.push_str(&shown(alloc, &fault)?)?;
+        sheet.show(&fault);
     }
-    Ok(out)
 }
 
 /// Runs the input behind the number of steps.
-fn ran(alloc: Global, row: &str) -> Result<String, AllocError> {
+fn run_row(row: &str, sheet: &mut Sheet) {
     let (limit, input) = cut_cell(row);
-    let text = unescaped(alloc, input)?;
-    let text = exchanged(alloc, &text, ';', '\n')?;
-    run_over(alloc, number(limit) as u64, &mut text.as_bytes())
+    match unescaped(sheet.alloc(), input) {
+        Ok(input) => run_lines(number(limit), &input, sheet),
+        Err(_) => sheet.refuse(),
+    }
+}
+
+/// Runs an input with `;` at the ends of its lines.
+fn run_lines(limit: usize, input: &str, sheet: &mut Sheet) {
+    match lines_of(sheet.alloc(), input) {
+        Ok(lines) => run_over(limit as u64, &mut lines.as_bytes(), sheet),
+        Err(_) => sheet.refuse(),
+    }
 }
 
 /// The words of a row; `''` is one without a character.
@@ -82,56 +87,89 @@ fn words_of(alloc: Global, row: &str) -> Result<Vec<&str>, AllocError> {
 }
 
 /// How many steps the words of a row give a cell, or their status.
-fn steps(alloc: Global, row: &str) -> Result<String, AllocError> {
-    let words = words_of(alloc, row)?;
-    match steps_of(alloc, &words) {
-        Ok(steps) => shown(alloc, &steps),
-        Err(error) => shown(alloc, &(words_status(error.kind()), error.use_stderr())),
+fn tell_words(row: &str, sheet: &mut Sheet) {
+    match words_of(sheet.alloc(), row) {
+        Ok(words) => tell_steps(&words, sheet),
+        Err(_) => sheet.refuse(),
+    }
+}
+
+/// How many steps words give a cell, or their status.
+fn tell_steps(words: &[&str], sheet: &mut Sheet) {
+    match steps_of(sheet.alloc(), words) {
+        Ok(steps) => sheet.show(&steps),
+        Err(error) => sheet.show(&(words_status(error.kind()), error.use_stderr())),
     }
 }
 
 /// Runs the input behind the words of a row by these words.
-fn ran_by_words(alloc: Global, row: &str) -> Result<String, AllocError> {
+fn run_by_words(row: &str, sheet: &mut Sheet) {
     let (row, input) = cut_cell(row);
-    let words = words_of(alloc, row)?;
-    let text = exchanged(alloc, input, ';', '\n')?;
-    let mut writer = Vec::new(alloc);
-    let came = match program(alloc, &words, &mut text.as_bytes(), &mut writer) {
-        Ok(came) => status(came),
-        Err(error) => words_status(error.kind()),
-    };
-    let written = in_one_line(alloc, writer)?;
-    format!(in alloc; "{came} {written}")
-}
-
-/// How a run over streams that fail ended, and how such ends are told.
-fn ended(alloc: Global, word: &str, rest: &str) -> Result<String, AllocError> {
-    let input = b"%%\n%%\n%show\n".as_slice();
-    match word {
-        "broken" => run_over(alloc, STEPS, &mut Broken::new(b"int x\n%%\n")),
-        "no_text" => run_over(alloc, STEPS, &mut b"\xff\n".as_slice()),
-        "endless" => run_over(alloc, STEPS, &mut io::repeat(b' ')),
-        "unflushed" => shown(
-            alloc,
-            &run(alloc, STEPS, &mut b"%%\n".as_slice(), &mut Unflushed),
-        ),
-        "full" => {
-            let mut writer = Full::new(number(rest));
-            let mut reader = input;
-            shown(alloc, &run(alloc, STEPS, &mut reader, &mut writer))
-        }
-        _ => statuses(alloc),
+    match words_of(sheet.alloc(), row) {
+        Ok(words) => run_lines_by(&words, input, sheet),
+        Err(_) => sheet.refuse(),
     }
 }
 
+/// Runs an input with `;` at the ends of its lines by words.
+fn run_lines_by(words: &[&str], input: &str, sheet: &mut Sheet) {
+    match lines_of(sheet.alloc(), input) {
+        Ok(lines) => run_program(words, &lines, sheet),
+        Err(_) => sheet.refuse(),
+    }
+}
+
+/// Runs an input by words, and tells the status and what was written.
+fn run_program(words: &[&str], input: &str, sheet: &mut Sheet) {
+    let mut writer = Vec::new(sheet.alloc());
+    let status = status_by(words, input, &mut writer, sheet);
+    sheet.show(&status);
+    sheet.write(" ");
+    write_in_one_line(&writer, sheet);
+}
+
+/// Runs an input by words, and gives the status.
+fn status_by(words: &[&str], input: &str, writer: &mut Vec<u8>, sheet: &mut Sheet) -> u8 {
+    match program(sheet.alloc(), words, &mut input.as_bytes(), writer) {
+        Ok(came) => status(came),
+        Err(error) => words_status(error.kind()),
+    }
+}
+
+/// How a run over streams that fail ended, and how such ends are told.
+fn end(word: &str, rest: &str, sheet: &mut Sheet) {
+    match word {
+        "broken" => run_over(STEPS, &mut Broken::new(b"int x\n%%\n"), sheet),
+        "no_text" => run_over(STEPS, &mut b"\xff\n".as_slice(), sheet),
+        "endless" => run_over(STEPS, &mut io::repeat(b' '), sheet),
+        "unflushed" => run_to(&mut b"%%\n".as_slice(), &mut Unflushed, sheet),
+        "full" => run_to(
+            &mut b"%%\n%%\n%show\n".as_slice(),
+            &mut Full::new(number(rest)),
+            sheet,
+        ),
+        _ => tell_statuses(sheet),
+    }
+}
+
+/// Runs an input, and tells how it ended.
+fn run_to<R: Read, W: Write>(reader: &mut R, writer: &mut W, sheet: &mut Sheet) {
+    sheet.show(&run(sheet.alloc(), STEPS, reader, writer));
+}
+
 /// The line of a fault, and the statuses of ends and of words that could not be read.
-fn statuses(alloc: Global) -> Result<String, AllocError> {
-    let mut told = Vec::new(alloc);
+fn tell_statuses(sheet: &mut Sheet) {
+    let mut told = Vec::new(sheet.alloc());
     let _ = send_run_fault(&mut told, RunFault::NotText);
-    let line = in_one_line(alloc, told)?;
-    let well = status(Ok(()));
-    let unwritten = status(Err(RunFault::Write));
-    let wrong = unread_words_status(ErrorKind::InvalidData);
-    let memory = unread_words_status(ErrorKind::OutOfMemory);
-    format!(in alloc; "{line} {well} {unwritten} {wrong} {memory}")
+    write_in_one_line(&told, sheet);
+    tell_status(status(Ok(())), sheet);
+    tell_status(status(Err(RunFault::Write)), sheet);
+    tell_status(unread_words_status(ErrorKind::InvalidData), sheet);
+    tell_status(unread_words_status(ErrorKind::OutOfMemory), sheet);
+}
+
+/// A status behind a blank.
+fn tell_status(status: u8, sheet: &mut Sheet) {
+    sheet.write(" ");
+    sheet.show(&status);
 }

@@ -1,9 +1,9 @@
 //! Streams to the sockets of a kernel, octet for octet.
-use crate::frontend::{Port, connect, opening_as, opening_of, push_message, write_to};
+use crate::octets::{opening_as, opening_of};
+use crate::site::connect;
 use std::alloc::Global;
-use std::io::Read;
+use std::io::{ErrorKind, Read, Result, Write};
 use std::net::{Net, TcpListener, TcpStream};
-use std::process::Abort;
 use std::time::Duration;
 use zmtp_peer::Role;
 
@@ -13,89 +13,83 @@ const PATIENCE_SECONDS: u64 = 5;
 /// The reads that wait for what has to come.
 const READS: u32 = 1_000;
 
-/// The next octets of a stream, as many as are asked for.
-fn read_from(rt: &impl Abort, alloc: Global, stream: &TcpStream, count: usize) -> Vec<u8> {
+/// Whether the next octets of a stream are these.
+fn reads(alloc: Global, stream: &TcpStream, wanted: &[u8]) -> Result<bool> {
+    let mut octets = vec![in alloc; 0u8; wanted.len()]?;
     let mut reader = stream;
-    let mut octets = vec![in alloc; 0u8; count].expect(rt, "room for octets");
-    reader
-        .read_exact(&mut octets)
-        .expect(rt, "octets that come");
-    octets
+    match reader.read_exact(&mut octets) {
+        Ok(()) => Ok(octets.as_slice() == wanted),
+        Err(error) => Err(error),
+    }
 }
 
-/// Writes octets to a stream, and compares what comes back.
-pub(crate) fn check_back(
-    rt: &impl Abort,
+/// Writes octets to a stream, and tells whether these come back.
+fn comes_back(alloc: Global, stream: &TcpStream, said: &[u8], back: &[u8]) -> Result<bool> {
+    let mut writer = stream;
+    writer.write_all(said)?;
+    reads(alloc, stream, back)
+}
+
+/// How often these octets come back, up to the first time that others do, where octets are written a number of times.
+pub(crate) fn echoes(
     alloc: Global,
     stream: &TcpStream,
+    times: usize,
     said: &[u8],
     back: &[u8],
-) {
-    write_to(rt, stream, said);
-    let came = read_from(rt, alloc, stream, back.len());
-    assert!(rt; came.as_slice() == back);
+) -> Result<usize> {
+    for time in 0..times {
+        if !comes_back(alloc, stream, said, back)? {
+            return Ok(time);
+        }
+    }
+    Ok(times)
 }
 
-/// Opens a connection to a port, to an end in the second role, by a frontend in the first one.
-pub(crate) fn opened<R>(rt: &R, alloc: Global, port: Port, role: Role, back: Role) -> TcpStream
+/// Opens a connection over a stream, by a frontend in the first role, and tells whether what an end in the second one sends first comes back.
+fn opens(alloc: Global, stream: &TcpStream, role: Role, back: Role, minor: u8) -> Result<bool> {
+    stream.set_read_timeout(Some(Duration::from_secs(PATIENCE_SECONDS)))?;
+    let opening = opening_as(alloc, role, minor)?;
+    let wanted = opening_of(alloc, back)?;
+    comes_back(alloc, stream, &opening, &wanted)
+}
+
+/// Opens a connection to a port, by a frontend in the first role and of this minor version, to an end in the second one.
+pub(crate) fn opened<R>(
+    rt: &R,
+    alloc: Global,
+    port: u16,
+    role: Role,
+    back: Role,
+    minor: u8,
+) -> Result<TcpStream>
 where
-    R: Net<Listener = TcpListener, Stream = TcpStream> + Abort,
+    R: Net<Listener = TcpListener, Stream = TcpStream>,
 {
-    let stream = connect(rt, port).expect(rt, "a connection");
-    let patience = Duration::from_secs(PATIENCE_SECONDS);
-    stream
-        .set_read_timeout(Some(patience))
-        .expect(rt, "a time that a read waits");
-    let opening = opening_as(rt, alloc, role, port.minor);
-    check_back(rt, alloc, &stream, &opening, &opening_of(rt, alloc, back));
-    stream
+    let stream = connect(rt, port)?;
+    match opens(alloc, &stream, role, back, minor) {
+        Ok(true) => Ok(stream),
+        Ok(false) => Err(ErrorKind::InvalidData.into()),
+        Err(error) => Err(error),
+    }
 }
 
 /// Adds what comes next on a stream.
-fn push_next(rt: &impl Abort, stream: &TcpStream, octets: &mut Vec<u8>) {
+fn push_next(stream: &TcpStream, octets: &mut Vec<u8>) -> Result<()> {
     let mut room = [0u8; 4096];
     let mut reader = stream;
-    match reader.read(&mut room) {
-        Ok(count) => {
-            octets
-                .extend_from_slice(&room[..count])
-                .expect(rt, "room for octets");
-        }
-        Err(_) => panic!(rt; "no octets come"),
-    }
+    let count = reader.read(&mut room)?;
+    octets.extend_from_slice(&room[..count])?;
+    Ok(())
 }
 
-/// Reads what comes on a stream, until it ends in these octets.
-pub(crate) fn read_to(rt: &impl Abort, alloc: Global, stream: &TcpStream, end: &[u8]) {
-    let mut octets = Vec::new(alloc);
+/// Reads what comes on a stream to these octets, until it ends in others.
+pub(crate) fn read_to(stream: &TcpStream, octets: &mut Vec<u8>, end: &[u8]) -> Result<bool> {
     for _ in 0..READS {
-        push_next(rt, stream, &mut octets);
+        push_next(stream, octets)?;
         if octets.as_slice().ends_with(end) {
-            return;
+            return Ok(true);
         }
     }
-    panic!(rt; "the octets don't come")
-}
-
-/// A message of two frames, the first of them empty.
-fn beat(rt: &impl Abort, alloc: Global) -> Vec<u8> {
-    let frames = [Vec::new(alloc), b"beat".to_vec(alloc).expect(rt, "a frame")];
-    let mut octets = Vec::new(alloc);
-    push_message(rt, &mut octets, &frames);
-    octets
-}
-
-/// A message that is sent to the heartbeat comes back, octet for octet.
-pub(crate) fn check_echo(rt: &impl Abort, alloc: Global, stream: &TcpStream) {
-    let beat = beat(rt, alloc);
-    check_back(rt, alloc, stream, &beat, &beat);
-}
-
-/// A connection to the heartbeat is opened, and a message that is sent to it comes back.
-pub(crate) fn check_beat<R>(rt: &R, alloc: Global, port: Port)
-where
-    R: Net<Listener = TcpListener, Stream = TcpStream> + Abort,
-{
-    let stream = opened(rt, alloc, port, Role::Dealer, Role::Rep);
-    check_echo(rt, alloc, &stream);
+    Ok(false)
 }

@@ -1,97 +1,207 @@
-//! The desk before a hall, from one thread.
-ghost use Rattle.std.specs.Prelude.{◌≡◌, ◌<◌};
+//! Rows of a desk before a hall. `publish` (a topic) publishes a broadcast, and `broadcasts` gives the topics of those that the desk reads. `shut`
+//! shuts the kernel, and `was_shut` tells whether it was. `undo` (a number) has that many cells undone, and gives the outcome, or why the job is
+//! refused.
+ghost use Rattle.std.specs.Prelude.{◌≡◌, ◌<◌, IfOk};
 
-use kernel_ask::Comms;
+use kernel_ask::{Comms, Done};
 use kernel_bell::{Bell, RingerSeat};
 use kernel_board::Broadcast;
 use kernel_core::{Job, Kernel, PostFault};
 use kernel_desk::HallDesk;
-use kernel_hall::{Hall, Pass};
+use kernel_hall::Hall;
 use kernel_iopub::Bulletin;
 use kernel_session::Desk;
-use std::alloc::Global;
+use std::alloc::{AllocError, Global};
 use std::marker::Brand;
-use std::process::Abort;
+use std::str;
 use std::sync::Wait;
 use std::sync::atomic::AtomicBool;
 use std::sync::ledger::{Blank, Ledger};
 use std::time::Clock;
+use tests_rows::{Sheet, cut};
 
-/// A broadcast of this topic.
-fn broadcast(rt: &impl Abort, alloc: Global, topic: &str) -> Broadcast {
-    let topic = topic.as_bytes().to_vec(alloc).expect(rt, "a topic");
-    let frames = Vec::from_array(alloc, [topic]).expect(rt, "frames");
-    Broadcast::new(alloc, frames).expect(rt, "a broadcast")
-}
-
-/// Whether these are the one broadcast of this topic.
-fn is_one(kept: &[Broadcast], topic: &str) -> bool {
-    match kept {
-        [one] => one.topic() == topic.as_bytes(),
-        _ => false,
+/// Writes the calls at a desk before a hall of its own with their answers.
+pub(crate) fn tell<R: Wait + Clock>(rt: &R, calls: &str, sheet: &mut Sheet) {
+    match String::from_str(sheet.alloc(), calls) {
+        Ok(calls) => tell_owned(rt, calls, sheet),
+        Err(_) => sheet.refuse(),
     }
 }
 
-/// What a desk publishes it reads once; behind a shutdown it has no job done.
-fn visit<W: Ledger, L: Ledger, R: Wait + Clock + Abort>(
-    rt: &R,
-    alloc: Global,
-    mut desk: HallDesk<'_, W, L, R>,
-) {
-    desk.publish(broadcast(rt, alloc, "status"));
-    let kept = desk.broadcasts(alloc).expect(rt, "broadcasts");
-    assert!(rt; is_one(&kept, "status"));
-    let kept = desk.broadcasts(alloc).expect(rt, "broadcasts");
-    assert!(rt; kept.is_empty() && !desk.was_shut());
-    desk.shut();
-    assert!(rt; desk.was_shut());
-    let refused = desk.job(Job::Undo(0), Vec::new(alloc)).err();
-    assert!(rt; refused == Some(PostFault::Closing));
+/// Writes the calls at a desk before a hall of its own with their answers.
+fn tell_owned<R: Wait + Clock>(rt: &R, calls: String, sheet: &mut Sheet) {
+    tell_in::<Brand, Brand, R>(rt, Blank::new(1), Blank::new(65_537), calls, sheet);
 }
 
-/// Sits down at a desk before a hall, with a seat of its bell.
-fn sit_down<W: Ledger, L: Ledger, R: Wait + Clock + Abort>(
-    rt: &R,
-    alloc: Global,
-    hall: &Hall<W, L>,
-    seat: RingerSeat,
-)
-    requires { seat.bell ≡ hall.now }
-{
-    let bulletin = Bulletin::new(alloc).expect(rt, "a bulletin");
-    let pass: Pass<L> = hall.pass(rt).expect(rt, "a pass");
-    let trusted = AtomicBool::new(false);
-    visit(
-        rt,
-        alloc,
-        HallDesk::new(rt, hall, &bulletin, pass, seat, &trusted),
-    );
-}
-
-/// Tries a desk before a new hall.
-fn try_desk<W: Ledger, L: Ledger, R: Wait + Clock + Abort>(
-    rt: &R,
+/// A hall round a new kernel, and a seat of its bell.
+fn new_hall<W: Ledger, L: Ledger>(
     alloc: Global,
     writes: Blank,
     posts: Blank,
+) -> Result<(Hall<W, L>, RingerSeat), AllocError>
+    requires writes { (writes.name ≡ W.name) × (writes.parts ≡ W.parts) × (0 < W.parts) }
+    requires posts { (posts.name ≡ L.name) × (posts.parts ≡ 65537) × (posts.parts ≡ L.parts) }
+    ensures { IfOk result (λ made. made.1.bell ≡ made.0) }
+{
+    let (bell, _runner, mut ringers) = Bell::new(alloc, 1)?;
+    let Some(seat) = ringers.pop() else {
+        unreachable!()
+    };
+    let kernel = Kernel::<W>::new(alloc, writes)?;
+    let hall = Hall::<W, L>::new(alloc, posts, kernel, Comms::new(alloc), bell);
+    Ok((hall, seat))
+}
+
+/// Writes the calls at a desk with their answers, before a hall over these ledgers.
+fn tell_in<W: Ledger, L: Ledger, R: Wait + Clock>(
+    rt: &R,
+    writes: Blank,
+    posts: Blank,
+    calls: String,
+    sheet: &mut Sheet,
 )
     requires writes { (writes.name ≡ W.name) × (writes.parts ≡ W.parts) × (0 < W.parts) }
     requires posts { (posts.name ≡ L.name) × (posts.parts ≡ 65537) × (posts.parts ≡ L.parts) }
 {
-    let (bell, _runner, mut ringers) = Bell::new(alloc, 1).expect(rt, "a bell");
-    let seat = ringers.pop().expect(rt, "a seat");
-    let kernel = Kernel::<W>::new(alloc, writes).expect(rt, "a kernel");
-    let hall = Hall::<W, L>::new(alloc, posts, kernel, Comms::new(alloc), bell);
-    sit_down(rt, alloc, &hall, seat);
-    hall.discard();
+    match new_hall::<W, L>(sheet.alloc(), writes, posts) {
+        Ok((hall, seat)) => {
+            sit_down(rt, &hall, seat, &calls, sheet);
+            hall.discard();
+        }
+        Err(_) => sheet.refuse(),
+    }
 }
 
-/// Tries a desk before a hall of its own.
-fn play<R: Wait + Clock + Abort>(rt: &R, alloc: Global) {
-    try_desk::<Brand, Brand, R>(rt, alloc, Blank::new(1), Blank::new(65_537));
+/// Sits down at a desk before a hall, with a seat of its bell.
+fn sit_down<W: Ledger, L: Ledger, R: Wait + Clock>(
+    rt: &R,
+    hall: &Hall<W, L>,
+    seat: RingerSeat,
+    calls: &str,
+    sheet: &mut Sheet,
+)
+    requires { seat.bell ≡ hall.now }
+{
+    match Bulletin::new(sheet.alloc()) {
+        Ok(bulletin) => sit_at(rt, hall, &bulletin, seat, calls, sheet),
+        Err(_) => sheet.refuse(),
+    }
 }
 
-#[test]
-fn a_desk_that_was_shut_has_no_job_done(rt: HostRuntime) {
-    play(&rt, rt.alloc());
+/// Sits down at a desk before a hall and a bulletin.
+fn sit_at<W: Ledger, L: Ledger, R: Wait + Clock>(
+    rt: &R,
+    hall: &Hall<W, L>,
+    bulletin: &Bulletin,
+    seat: RingerSeat,
+    calls: &str,
+    sheet: &mut Sheet,
+)
+    requires { seat.bell ≡ hall.now }
+{
+    let trusted = AtomicBool::new(false);
+    match hall.pass(rt) {
+        Ok(pass) => {
+            let mut desk = HallDesk::new(rt, hall, bulletin, pass, seat, &trusted);
+            tell_calls(&mut desk, calls, sheet);
+        }
+        Err(fault) => sheet.write(fault.name()),
+    }
+}
+
+/// Writes the calls with their answers.
+fn tell_calls<W: Ledger, L: Ledger, R: Wait + Clock>(
+    desk: &mut HallDesk<'_, W, L, R>,
+    calls: &str,
+    sheet: &mut Sheet,
+) {
+    for call in calls.lines() {
+        sheet.write(call);
+        sheet.write(": ");
+        answer(desk, call, sheet);
+        sheet.write("\n");
+    }
+}
+
+/// Writes the answer to a call.
+fn answer<W: Ledger, L: Ledger, R: Wait + Clock>(
+    desk: &mut HallDesk<'_, W, L, R>,
+    call: &str,
+    sheet: &mut Sheet,
+) {
+    let (word, rest) = cut(call);
+    match word {
+        "publish" => publish(desk, rest, sheet),
+        "broadcasts" => broadcasts(desk, sheet),
+        "was_shut" => sheet.show(&desk.was_shut()),
+        "shut" => shut(desk, sheet),
+        _ => undo(desk, rest, sheet),
+    }
+}
+
+/// Publishes a broadcast of this topic.
+fn publish<W: Ledger, L: Ledger, R: Wait + Clock>(
+    desk: &mut HallDesk<'_, W, L, R>,
+    topic: &str,
+    sheet: &mut Sheet,
+) {
+    match broadcast(sheet.alloc(), topic) {
+        Ok(broadcast) => desk.publish(broadcast),
+        Err(_) => sheet.refuse(),
+    }
+    sheet.write("done");
+}
+
+/// Reads broadcasts, and writes their topics.
+fn broadcasts<W: Ledger, L: Ledger, R: Wait + Clock>(
+    desk: &mut HallDesk<'_, W, L, R>,
+    sheet: &mut Sheet,
+) {
+    match desk.broadcasts(sheet.alloc()) {
+        Ok(kept) => tell_topics(&kept, sheet),
+        Err(_) => sheet.refuse(),
+    }
+}
+
+/// Shuts the kernel.
+fn shut<W: Ledger, L: Ledger, R: Wait + Clock>(
+    desk: &mut HallDesk<'_, W, L, R>,
+    sheet: &mut Sheet,
+) {
+    desk.shut();
+    sheet.write("done");
+}
+
+/// Has cells undone.
+fn undo<W: Ledger, L: Ledger, R: Wait + Clock>(
+    desk: &mut HallDesk<'_, W, L, R>,
+    count: &str,
+    sheet: &mut Sheet,
+) {
+    let job = Job::Undo(count.parse::<u32>().unwrap_or(0));
+    tell_job(desk.job(job, Vec::new(sheet.alloc())), sheet);
+}
+
+/// A broadcast of this topic.
+fn broadcast(alloc: Global, topic: &str) -> Result<Broadcast, AllocError> {
+    let topic = Vec::from_slice(alloc, topic.as_bytes())?;
+    Broadcast::new(alloc, Vec::from_array(alloc, [topic])?)
+}
+
+/// Writes the topics of broadcasts.
+fn tell_topics(kept: &[Broadcast], sheet: &mut Sheet) {
+    sheet.show(&kept.len());
+    for broadcast in kept {
+        sheet.write(" ");
+        sheet.write(str::from_utf8(broadcast.topic()).unwrap_or("no text"));
+    }
+}
+
+/// Writes what came of a job.
+fn tell_job(ended: Result<Done, PostFault>, sheet: &mut Sheet) {
+    match ended {
+        Ok(done) => sheet.show(&done.outcome),
+        Err(PostFault::Memory) => sheet.refuse(),
+        Err(fault) => sheet.show(&fault),
+    }
 }

@@ -1,7 +1,23 @@
 //! The slices that a session's kernel is given.
-use anyhow::anyhow;
 use kernel_server::Slice;
-use std::alloc::Global;
+use tests_rows::Sheet;
+
+/// Reads the slices of a list, parted by commas: `3 go, 1 ask`. An empty text is the empty list.
+pub(crate) fn read_slices(list: &str, slices: &mut Vec<Slice>, sheet: &mut Sheet) {
+    for words in list.split_terminator(", ") {
+        match slice_of(words) {
+            Some(slice) => push(slice, slices, sheet),
+            None => sheet.write("a slice is a number of steps, and go or ask\n"),
+        }
+    }
+}
+
+/// Adds a slice.
+fn push(slice: Slice, slices: &mut Vec<Slice>, sheet: &mut Sheet) {
+    if slices.push(slice).is_err() {
+        sheet.refuse();
+    }
+}
 
 /// A slice, by the number of its steps and whether it lets the job go on or asks it to stop: `3 go`, `1 ask`.
 fn slice_of(words: &str) -> Option<Slice> {
@@ -13,16 +29,4 @@ fn slice_of(words: &str) -> Option<Slice> {
     };
     let steps = number.parse::<u64>().ok()?;
     Some(Slice { steps, is_asked })
-}
-
-/// The slices of a list, parted by commas: `3 go, 1 ask`. An empty text is the empty list.
-pub fn slices_of(alloc: Global, list: &str) -> anyhow::Result<Vec<Slice>> {
-    let mut slices = Vec::new(alloc);
-    for words in list.split_terminator(", ") {
-        let Some(slice) = slice_of(words) else {
-            return Err(anyhow!("a slice is a number of steps, and go or ask"));
-        };
-        slices.push(slice)?;
-    }
-    Ok(slices)
 }

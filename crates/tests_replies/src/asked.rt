@@ -1,11 +1,11 @@
 //! What a kernel tells of a request as it asks.
-use crate::kernels::ended;
+use crate::kernels::{cell_of, ended};
 use crate::report::{Report, answered};
 use jupyter_msg::{
-    CommAsk, ExecuteRequest, HistoryAccess, HistoryRequest, MsgFault, RequestContent,
+    CommAsk, ExecuteRequest, HistoryAccess, HistoryRequest, RequestContent, UserExpression,
 };
-use kernel_ask::{Ask, Comms, HistoryAsk, Wish};
-use kernel_core::{CellText, Job, Kernel};
+use kernel_ask::{Ask, Comms, HistoryAsk};
+use kernel_core::{Job, Kernel};
 use std::alloc::{AllocError, Global};
 use std::sync::ledger::Ledger;
 
@@ -16,14 +16,14 @@ pub(crate) fn asked<L: Ledger>(
     comms: &mut Comms,
     content: &RequestContent,
     calm: usize,
-) -> Result<Report, MsgFault> {
+) -> Result<Report, AllocError> {
     match content {
-        RequestContent::Execute(request) => Ok(executed(alloc, kernel, request, calm)?),
+        RequestContent::Execute(request) => executed(alloc, kernel, request, calm),
         RequestContent::CommMessage(message) => on_comm(alloc, kernel, comms, message.ask, calm),
-        _ => {
-            let ask = ask_of(comms, content)?;
-            answered(alloc, kernel, comms, ask)
+        RequestContent::CommOpen(request) => {
+            opened(alloc, kernel, comms, request.comm_id.as_str())
         }
+        _ => answered(alloc, kernel, comms, ask_of(content)),
     }
 }
 
@@ -34,24 +34,23 @@ fn executed<L: Ledger>(
     request: &ExecuteRequest,
     calm: usize,
 ) -> Result<Report, AllocError> {
-    let wishes = wishes_of(alloc, request)?;
-    let job = Job::Cell {
-        code: CellText::new(alloc, request.code.clone()?)?,
-        silent: request.silent,
-        store: request.store_history,
-    };
-    Ok(Report::Ended(ended(alloc, kernel, job, wishes, calm)?))
+    let code = request.code.clone()?;
+    let job = cell_of(alloc, code, request.silent, request.store_history)?;
+    run_job(alloc, kernel, job, &request.user_expressions, calm)
 }
 
-/// The user expressions of a request.
-fn wishes_of(alloc: Global, request: &ExecuteRequest) -> Result<Vec<Wish>, AllocError> {
-    let mut wishes = Vec::new(alloc);
-    for asked in &request.user_expressions {
-        let name = asked.name.clone()?;
-        let text = asked.expression.clone()?;
-        wishes.push(Wish::new(alloc, name, text))?;
+/// Runs a job, with the expressions beside it.
+fn run_job<L: Ledger>(
+    alloc: Global,
+    kernel: &mut Kernel<L>,
+    job: Job,
+    expressions: &[UserExpression],
+    calm: usize,
+) -> Result<Report, AllocError> {
+    match ended(alloc, kernel, job, expressions, calm) {
+        Ok(done) => Ok(Report::Ended(done)),
+        Err(_) => Err(AllocError),
     }
-    Ok(wishes)
 }
 
 /// Makes the move that is asked for on a comm, or asks for the state.
@@ -61,39 +60,43 @@ fn on_comm<L: Ledger>(
     comms: &Comms,
     ask: CommAsk,
     calm: usize,
-) -> Result<Report, MsgFault> {
-    let job = match ask {
-        CommAsk::Undo(count) => Job::Undo(count),
-        CommAsk::Redo(count) => Job::Redo(count),
-        CommAsk::Goto(node) => Job::Goto(node),
-        CommAsk::State | CommAsk::Other => return answered(alloc, kernel, comms, Ask::State),
-    };
-    Ok(Report::Ended(ended(alloc, kernel, job, Vec::new(alloc), calm)?))
+) -> Result<Report, AllocError> {
+    match ask {
+        CommAsk::Undo(count) => run_job(alloc, kernel, Job::Undo(count), &[], calm),
+        CommAsk::Redo(count) => run_job(alloc, kernel, Job::Redo(count), &[], calm),
+        CommAsk::Goto(node) => run_job(alloc, kernel, Job::Goto(node), &[], calm),
+        CommAsk::State | CommAsk::Other => answered(alloc, kernel, comms, Ask::State),
+    }
 }
 
-/// What is asked of the kernel, once a comm that is to be opened is open.
-fn ask_of<'a>(comms: &mut Comms, content: &'a RequestContent) -> Result<Ask<'a>, AllocError> {
+/// Opens a comm, and asks whether it is open.
+fn opened<L: Ledger>(
+    alloc: Global,
+    kernel: &Kernel<L>,
+    comms: &mut Comms,
+    id: &str,
+) -> Result<Report, AllocError> {
+    let _opened = comms.open(String::from_str(alloc, id)?)?;
+    answered(alloc, kernel, comms, Ask::IsOpen { id })
+}
+
+/// What is asked of the kernel by a request that changes nothing.
+fn ask_of(content: &RequestContent) -> Ask<'_> {
     match content {
-        RequestContent::Complete(request) => Ok(Ask::Complete {
+        RequestContent::Complete(request) => Ask::Complete {
             code: request.code.as_str(),
             cursor: request.cursor,
-        }),
-        RequestContent::Inspect(request) => Ok(Ask::Inspect {
+        },
+        RequestContent::Inspect(request) => Ask::Inspect {
             code: request.code.as_str(),
             cursor: request.cursor,
-        }),
-        RequestContent::IsComplete(request) => Ok(Ask::IsComplete {
+        },
+        RequestContent::IsComplete(request) => Ask::IsComplete {
             code: request.code.as_str(),
-        }),
-        RequestContent::History(request) => Ok(history_of(request)),
-        RequestContent::CommInfo(_) | RequestContent::CommClose(_) => Ok(Ask::Comms),
-        RequestContent::CommOpen(request) => {
-            let _opened = comms.open(request.comm_id.clone()?)?;
-            Ok(Ask::IsOpen {
-                id: request.comm_id.as_str(),
-            })
-        }
-        _ => Ok(Ask::State),
+        },
+        RequestContent::History(request) => history_of(request),
+        RequestContent::CommInfo(_) | RequestContent::CommClose(_) => Ask::Comms,
+        _ => Ask::State,
     }
 }
 

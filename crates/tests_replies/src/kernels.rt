@@ -1,11 +1,29 @@
 //! Jobs of a kernel, run to their ends.
+use jupyter_msg::UserExpression;
 use kernel_ask::{Done, NamedValue, Wish, is_settled, shown_of_node, stands_at_end};
-use kernel_core::{Begun, Job, Kernel, Outcome, Sliced};
+use kernel_core::{Begun, CellText, Job, Kernel, Outcome, Sliced};
 use std::alloc::{AllocError, Global};
 use std::sync::ledger::Ledger;
 
 /// How many slices a job gets at most.
 pub(crate) const SLICES: usize = 10;
+
+/// The job of a cell with this text.
+pub(crate) fn cell_of(
+    alloc: Global,
+    text: String,
+    silent: bool,
+    store: bool,
+) -> Result<Job, AllocError> {
+    match CellText::new(alloc, text) {
+        Ok(code) => Ok(Job::Cell {
+            code,
+            silent,
+            store,
+        }),
+        Err(_) => Err(AllocError),
+    }
+}
 
 /// Posts the job and runs it to its end in slices of 1,000 steps: its number and its outcome. Behind its first `calm` slices it is asked
 /// to stop.
@@ -30,17 +48,9 @@ pub(crate) fn post<L: Ledger>(kernel: &mut Kernel<L>, job: Job) -> Option<u64> {
 
 /// Begins a job or its next cell and takes a slice of it: the outcome, if the job ended.
 fn turn<L: Ledger>(kernel: &mut Kernel<L>, asked: bool) -> Option<Outcome> {
-    match begin(kernel) {
-        Some(outcome) => Some(outcome),
-        None => slice(kernel, asked),
-    }
-}
-
-/// Begins a job or its next cell: the outcome, if the job ended.
-fn begin<L: Ledger>(kernel: &mut Kernel<L>) -> Option<Outcome> {
     match kernel.begin() {
         Begun::Ended(outcome) => Some(outcome),
-        _ => None,
+        _ => slice(kernel, asked),
     }
 }
 
@@ -57,46 +67,58 @@ pub(crate) fn ended<L: Ledger>(
     alloc: Global,
     kernel: &mut Kernel<L>,
     job: Job,
-    wishes: Vec<Wish>,
+    expressions: &[UserExpression],
     calm: usize,
 ) -> Result<Done, AllocError> {
     let (number, outcome) = run(kernel, job, calm).unwrap_or((0, Outcome::Interrupted(0)));
-    Ok(Done {
+    let mut done = done(alloc, kernel, number, outcome);
+    match tell_done(alloc, kernel, expressions, &mut done) {
+        Ok(()) => Ok(done),
+        Err(_) => Err(AllocError),
+    }
+}
+
+/// What came of a job that ended so at the kernel's position, and shows nothing.
+pub(crate) fn done<L: Ledger>(
+    alloc: Global,
+    kernel: &Kernel<L>,
+    number: u64,
+    outcome: Outcome,
+) -> Done {
+    Done {
         number,
         outcome,
         count: kernel.counter(),
         node: kernel.position(),
-        shown: shown_after(alloc, kernel, &outcome)?,
-        values: values_after(alloc, kernel, &outcome, wishes)?,
-    })
+        shown: None,
+        values: Vec::new(alloc),
+    }
 }
 
-/// The values of the expressions after a job.
-fn values_after<L: Ledger>(
+/// Adds what is shown of a cell, and behind a cell that ran the values of the expressions.
+fn tell_done<L: Ledger>(
     alloc: Global,
     kernel: &Kernel<L>,
-    outcome: &Outcome,
-    wishes: Vec<Wish>,
-) -> Result<Vec<NamedValue>, AllocError> {
-    let mut values = Vec::new(alloc);
-    let ran = matches!(outcome, Outcome::Ran(_, _));
-    if !ran || !is_settled(kernel) || !stands_at_end(kernel, outcome) {
-        return Ok(values);
+    expressions: &[UserExpression],
+    done: &mut Done,
+) -> Result<(), AllocError> {
+    if !is_settled(kernel) || !stands_at_end(kernel, &done.outcome) {
+        return Ok(());
     }
-    for wish in wishes {
-        values.push(wish.evaluate(alloc, kernel))?;
+    done.shown = shown_of_node(alloc, kernel, &done.outcome)?;
+    if !matches!(done.outcome, Outcome::Ran(_, _)) {
+        return Ok(());
     }
-    Ok(values)
+    for asked in expressions {
+        let wish = wish_of(alloc, asked)?;
+        done.values.push(wish.evaluate(alloc, kernel))?;
+    }
+    Ok(())
 }
 
-/// What is shown of a cell.
-fn shown_after<L: Ledger>(
-    alloc: Global,
-    kernel: &Kernel<L>,
-    outcome: &Outcome,
-) -> Result<Option<String>, AllocError> {
-    if is_settled(kernel) && stands_at_end(kernel, outcome) {
-        return shown_of_node(alloc, kernel, outcome);
-    }
-    Ok(None)
+/// The wish for the value of an expression.
+fn wish_of(alloc: Global, asked: &UserExpression) -> Result<Wish, AllocError> {
+    let name = asked.name.clone()?;
+    let text = asked.expression.clone()?;
+    Ok(Wish::new(alloc, name, text))
 }

@@ -9,7 +9,8 @@
 //! A row of `messages` has, with bars between them: lines before the request, what is told, the type of the request, and its content.
 //! It stands on a new kernel. A row of a `connection` has a key and the frames of a request, each on the kernel as the row before
 //! left it. Under each row stand the messages that go out, in order, each with its frames, and before them the number of the next
-//! message. `lines` says what may stand as lines, and `report` what may be told.
+//! message. Where a call finds no memory the row has the one answer `Memory`, and the rows behind it go on. `lines` says what may stand
+//! as lines, and `report` what may be told.
 #![tactic(auto)]
 
 mod asked;
@@ -20,42 +21,35 @@ mod report;
 mod rows;
 mod stamps;
 
-use crate::rows::{answered_connection, answered_row};
-use jupyter_msg::MsgFault;
-use std::alloc::Global;
+use crate::rows::{tell_connection, tell_messages};
+use std::alloc::{AllocError, Global};
 use std::io;
-use tests_rows::{cut_block, push_answer, push_both, shown};
+use tests_rows::{Sheet, cut_block};
 
-fn main(rt: HostRuntime) -> anyhow::Result<()> {
-    let alloc = rt.alloc();
-    let text = io::read_to_string(alloc, rt.stdin())?;
+fn main(rt: HostRuntime) -> io::Result<()> {
+    let text = io::read_to_string(rt.alloc(), rt.stdin())?;
+    let told = told(rt.alloc(), &text)?;
+    print!(rt; "{told}")
+}
+
+/// The blocks of a text, with the answers to their rows.
+fn told(alloc: Global, text: &str) -> Result<String, AllocError> {
+    let mut sheet = Sheet::new(alloc);
     for block in text.split("\n\n") {
-        let answers = answered(alloc, block)?;
-        println!(rt; "{answers}")?;
+        tell_block(block, &mut sheet);
     }
-    Ok(())
+    sheet.finish()
 }
 
-/// A block, with the answers to its rows.
-fn answered(alloc: Global, block: &str) -> Result<String, MsgFault> {
+/// Writes a block, with the answers to its rows.
+fn tell_block(block: &str, sheet: &mut Sheet) {
     let (title, subject, rows) = cut_block(block);
-    let mut out = String::new(alloc);
-    push_both(&mut out, title, "\n")?;
+    sheet.write(title);
+    sheet.write("\n");
     if subject == "connection" {
-        out.push_str(&answered_connection(alloc, rows)?)?;
+        tell_connection(rows, sheet);
     } else {
-        push_rows(alloc, &mut out, rows)?;
+        tell_messages(rows, sheet);
     }
-    Ok(out)
-}
-
-/// Writes rows, each on a new kernel, with their answers.
-fn push_rows(alloc: Global, out: &mut String, rows: &str) -> Result<(), MsgFault> {
-    for row in rows.lines() {
-        match answered_row(alloc, row) {
-            Ok(answer) => push_answer(out, row, &answer)?,
-            Err(fault) => push_answer(out, row, &shown(alloc, &fault)?)?,
-        }
-    }
-    Ok(())
+    sheet.write("\n");
 }

@@ -3,9 +3,9 @@
 //! open is open), `judged` with a judgement, `outcome` with the outcome of a
 //! job, `values` (five values of a silent cell), and `unposted` with a refusal and the question that is answered beside it.
 use crate::asked::asked;
-use crate::kernels::SLICES;
-use jupyter_msg::{MsgFault, RequestContent};
-use kernel_ask::{Ask, Comms, Completeness, Content, Done, NamedValue, ask_on};
+use crate::kernels::{SLICES, done};
+use jupyter_msg::RequestContent;
+use kernel_ask::{Answer, Ask, Comms, Completeness, Content, Done, NamedValue, ask_on};
 use kernel_core::{Kernel, Outcome, PostFault, TravelEnd};
 use std::alloc::{AllocError, Global};
 use std::sync::ledger::Ledger;
@@ -17,27 +17,27 @@ pub(crate) enum Report {
     /// What came of the job.
     Ended(Done),
     /// The answer to a question.
-    Answered(Content),
+    Answered(Answer),
     /// Why the job was not posted, and the answer beside it.
-    Unposted(PostFault, Content),
+    Unposted(PostFault, Answer),
 }
 
 /// What is told of a request.
-pub(crate) fn tell<L: Ledger>(
+pub(crate) fn told_of<L: Ledger>(
     alloc: Global,
     kernel: &mut Kernel<L>,
     comms: &mut Comms,
     content: &RequestContent,
     how: &str,
-) -> Result<Report, MsgFault> {
+) -> Result<Report, AllocError> {
     let (word, rest) = cut(how);
     match word {
         "asked" => asked(alloc, kernel, comms, content, SLICES),
         "stopped" => asked(alloc, kernel, comms, content, 1),
         "unposted" => unposted(alloc, kernel, comms, rest),
-        "outcome" => Ok(Report::Ended(done(alloc, kernel, outcome_of(rest)))),
-        "values" => Ok(Report::Ended(with_values(alloc, kernel)?)),
-        "judged" => Ok(Report::Answered(Content::Completeness(judgement_of(rest)))),
+        "outcome" => Ok(Report::Ended(done(alloc, kernel, 1, outcome_of(rest)))),
+        "values" => with_values(alloc, kernel),
+        "judged" => Ok(judged(rest)),
         "open" => answered(alloc, kernel, comms, open_of(content)),
         _ => answered(alloc, kernel, comms, ask_of(word)),
     }
@@ -49,10 +49,10 @@ pub(crate) fn answered<L: Ledger>(
     kernel: &Kernel<L>,
     comms: &Comms,
     ask: Ask<'_>,
-) -> Result<Report, MsgFault> {
+) -> Result<Report, AllocError> {
     match ask_on(alloc, kernel, comms, ask) {
-        Ok(answer) => Ok(Report::Answered(answer.content)),
-        Err(_) => Err(MsgFault::Memory),
+        Ok(answer) => Ok(Report::Answered(answer)),
+        Err(_) => Err(AllocError),
     }
 }
 
@@ -62,16 +62,20 @@ fn unposted<L: Ledger>(
     kernel: &Kernel<L>,
     comms: &Comms,
     row: &str,
-) -> Result<Report, MsgFault> {
+) -> Result<Report, AllocError> {
     let (fault, question) = cut(row);
-    let fault = if fault == "Closing" {
+    match ask_on(alloc, kernel, comms, ask_of(question)) {
+        Ok(answer) => Ok(Report::Unposted(fault_of(fault), answer)),
+        Err(_) => Err(AllocError),
+    }
+}
+
+/// A refusal of a post by its name.
+fn fault_of(word: &str) -> PostFault {
+    if word == "Closing" {
         PostFault::Closing
     } else {
         PostFault::QueueFull
-    };
-    match ask_on(alloc, kernel, comms, ask_of(question)) {
-        Ok(answer) => Ok(Report::Unposted(fault, answer.content)),
-        Err(_) => Err(MsgFault::Memory),
     }
 }
 
@@ -94,6 +98,14 @@ fn open_of(content: &RequestContent) -> Ask<'_> {
     }
 }
 
+/// The answer with the judgement of this name.
+fn judged(word: &str) -> Report {
+    Report::Answered(Answer {
+        seen: 0,
+        content: Content::Completeness(judgement_of(word)),
+    })
+}
+
 /// A judgement by its name.
 fn judgement_of(word: &str) -> Completeness {
     match word {
@@ -114,18 +126,6 @@ fn outcome_of(words: &str) -> Outcome {
     }
 }
 
-/// What came of a job that ended so at the kernel's position, and shows nothing.
-fn done<L: Ledger>(alloc: Global, kernel: &Kernel<L>, outcome: Outcome) -> Done {
-    Done {
-        number: 1,
-        outcome,
-        count: kernel.counter(),
-        node: kernel.position(),
-        shown: None,
-        values: Vec::new(alloc),
-    }
-}
-
 /// Names of expressions, with their values.
 const VALUES: [(&str, i32); 5] = [
     ("\u{1f600}", 1),
@@ -136,18 +136,26 @@ const VALUES: [(&str, i32); 5] = [
 ];
 
 /// A cell that ran, with values.
-fn with_values<L: Ledger>(alloc: Global, kernel: &Kernel<L>) -> Result<Done, AllocError> {
-    let mut done = done(alloc, kernel, Outcome::Ran(kernel.position(), 1));
-    for (name, value) in VALUES {
-        push_value(alloc, &mut done, name, value)?;
+fn with_values<L: Ledger>(alloc: Global, kernel: &Kernel<L>) -> Result<Report, AllocError> {
+    let mut done = done(alloc, kernel, 1, Outcome::Ran(kernel.position(), 1));
+    match push_values(alloc, &mut done.values) {
+        Ok(()) => Ok(Report::Ended(done)),
+        Err(_) => Err(AllocError),
     }
-    Ok(done)
 }
 
-/// Adds the value of an expression.
-fn push_value(alloc: Global, done: &mut Done, name: &str, value: i32) -> Result<(), AllocError> {
-    let name = String::from_str(alloc, name)?;
-    let value = Ok(value);
-    done.values.push(NamedValue { name, value })?;
+/// Adds the values of expressions.
+fn push_values(alloc: Global, values: &mut Vec<NamedValue>) -> Result<(), AllocError> {
+    for (name, value) in VALUES {
+        values.push(value_of(String::from_str(alloc, name)?, value))?;
+    }
     Ok(())
+}
+
+/// The value of an expression.
+fn value_of(name: String, value: i32) -> NamedValue {
+    NamedValue {
+        name,
+        value: Ok(value),
+    }
 }

@@ -1,7 +1,7 @@
 //! Rows on a new kernel, and rows that follow one another on one.
 ghost use Rattle.std.specs.Prelude.{◌≡◌, ◌<◌};
 
-use crate::exchange::exchange;
+use crate::exchange::{exchange, tell_fault};
 use crate::lines::run_lines;
 use crate::stamps::stamp;
 use jupyter_msg::{Key, MsgFault};
@@ -11,100 +11,189 @@ use kernel_message::Stamp;
 use std::alloc::{AllocError, Global};
 use std::marker::Brand;
 use std::sync::ledger::{Blank, Ledger};
-use tests_rows::{cut_cell, cut_frame, frames_of, push_answer, shown};
+use tests_rows::{Sheet, cut_cell, cut_frame, frames_of};
 
-/// What goes out in answer to a row on a new kernel.
-pub(crate) fn answered_row(alloc: Global, row: &str) -> Result<String, MsgFault> {
-    let row = String::from_str(alloc, row)?;
-    row_in::<Brand>(alloc, Blank::new(1), row)
+/// Writes rows, each on a new kernel, with what goes out in answer to each.
+pub(crate) fn tell_messages(rows: &str, sheet: &mut Sheet) {
+    for row in rows.lines() {
+        sheet.write(row);
+        sheet.write(": ");
+        tell_on_new(row, false, sheet);
+        sheet.write("\n");
+    }
 }
 
-/// What goes out in answer to a row on a new kernel over this ledger.
-fn row_in<L: Ledger>(alloc: Global, blank: Blank, row: String) -> Result<String, MsgFault>
+/// Writes rows that follow one another on a new kernel, with what goes out in answer to each.
+pub(crate) fn tell_connection(rows: &str, sheet: &mut Sheet) {
+    tell_on_new(rows, true, sheet);
+}
+
+/// Tells a row, or the rows of a connection, on a new kernel.
+fn tell_on_new(rows: &str, is_connection: bool, sheet: &mut Sheet) {
+    match String::from_str(sheet.alloc(), rows) {
+        Ok(rows) => tell_alone(&rows, is_connection, sheet),
+        Err(_) => sheet.refuse(),
+    }
+}
+
+/// Tells a row, or the rows of a connection, on a new kernel.
+fn tell_alone(rows: &String, is_connection: bool, sheet: &mut Sheet) {
+    tell_in::<Brand>(Blank::new(1), rows, is_connection, sheet);
+}
+
+/// Tells a row, or the rows of a connection, on a new kernel over this ledger.
+fn tell_in<L: Ledger>(blank: Blank, rows: &String, is_connection: bool, sheet: &mut Sheet)
     requires name { blank.name ≡ L.name }
     requires parts { blank.parts ≡ L.parts }
     requires some { 0 < L.parts }
 {
-    let mut kernel = Kernel::<L>::new(alloc, blank)?;
-    let answer = row_by(alloc, &mut kernel, &row);
-    let_go(kernel);
-    answer
+    match Kernel::<L>::new(sheet.alloc(), blank) {
+        Ok(mut kernel) => {
+            tell_over(&mut kernel, rows, is_connection, sheet);
+            kernel.discard();
+        }
+        Err(_) => tell_no_kernel(is_connection, sheet),
+    }
 }
 
-/// Lets a kernel go that is over.
-fn let_go<L: Ledger>(_kernel: Kernel<L>) {}
+/// Tells that there was no memory for the kernel of a row. The rows of a connection have no answers then.
+fn tell_no_kernel(is_connection: bool, sheet: &mut Sheet) {
+    if is_connection {
+        sheet.refuse();
+    } else {
+        tell_fault(MsgFault::Memory, sheet);
+    }
+}
 
-/// What goes out in answer to a row on this kernel.
-fn row_by<L: Ledger>(alloc: Global, kernel: &mut Kernel<L>, row: &str) -> Result<String, MsgFault> {
-    let mut stamp = stamp(alloc)?;
-    let mut comms = Comms::new(alloc);
-    let (lines, rest) = cut_cell(row);
-    let (how, request) = cut_cell(rest);
-    run_lines(alloc, kernel, &mut comms, lines)?;
-    let frames = request_frames(alloc, request)?;
-    let key = Key::new(Vec::new(alloc));
-    exchange(alloc, kernel, &mut comms, &mut stamp, how, &key, frames)
+/// Tells a row, or the rows of a connection, on this kernel, with no comm open, at the first message.
+fn tell_over<L: Ledger>(
+    kernel: &mut Kernel<L>,
+    rows: &str,
+    is_connection: bool,
+    sheet: &mut Sheet,
+) {
+    match stamp(sheet.alloc()) {
+        Ok(mut stamp) => tell_from(kernel, &mut stamp, rows, is_connection, sheet),
+        Err(_) => sheet.refuse(),
+    }
+}
+
+/// Tells a row, or the rows of a connection, on this kernel, with no comm open.
+fn tell_from<L: Ledger>(
+    kernel: &mut Kernel<L>,
+    stamp: &mut Stamp,
+    rows: &str,
+    is_connection: bool,
+    sheet: &mut Sheet,
+) {
+    let mut comms = Comms::new(sheet.alloc());
+    if is_connection {
+        tell_rows(kernel, &mut comms, stamp, rows, sheet);
+    } else {
+        tell_message(kernel, &mut comms, stamp, rows, sheet);
+    }
+}
+
+/// Runs the lines of a row, and tells what goes out in answer to its request. Where they find no memory, that alone is told.
+fn tell_message<L: Ledger>(
+    kernel: &mut Kernel<L>,
+    comms: &mut Comms,
+    stamp: &mut Stamp,
+    row: &str,
+    sheet: &mut Sheet,
+) {
+    let (lines, request) = cut_cell(row);
+    if have_run(kernel, comms, lines, sheet.alloc()) {
+        tell_request(kernel, comms, stamp, request, sheet);
+    } else {
+        tell_fault(MsgFault::Memory, sheet);
+    }
+}
+
+/// Runs lines: whether there was memory for them.
+fn have_run<L: Ledger>(
+    kernel: &mut Kernel<L>,
+    comms: &mut Comms,
+    lines: &str,
+    alloc: Global,
+) -> bool {
+    let mut sheet = Sheet::new(alloc);
+    run_lines(kernel, comms, lines, &mut sheet);
+    sheet.finish().is_ok()
+}
+
+/// Tells what goes out in answer to the request of a row.
+fn tell_request<L: Ledger>(
+    kernel: &mut Kernel<L>,
+    comms: &mut Comms,
+    stamp: &mut Stamp,
+    row: &str,
+    sheet: &mut Sheet,
+) {
+    let (how, request) = cut_cell(row);
+    let key = Key::new(Vec::new(sheet.alloc()));
+    match request_frames(sheet.alloc(), request) {
+        Ok(frames) => exchange(kernel, comms, stamp, how, &key, frames, sheet),
+        Err(_) => sheet.refuse(),
+    }
 }
 
 /// The frames of a request that comes with the identity `who` under an empty key.
 fn request_frames(alloc: Global, request: &str) -> Result<Vec<Vec<u8>>, AllocError> {
     let (msg_type, content) = cut_cell(request);
-    let row = format!(in alloc;
-        "who ~ <IDS|MSG> ~  ~ {{\"msg_id\":\"a\",\"msg_type\":\"{msg_type}\",\"session\":\"s\"}} ~ {{}} ~ {{}} ~ {content}"
-    )?;
-    frames_of(alloc, &row)
+    let mut row = Sheet::new(alloc);
+    row.write("who ~ <IDS|MSG> ~  ~ {\"msg_id\":\"a\",\"msg_type\":\"");
+    row.write(msg_type);
+    row.write("\",\"session\":\"s\"} ~ {} ~ {} ~ ");
+    row.write(content);
+    frames_of(alloc, &row.finish()?)
 }
 
-/// Rows that follow one another on a new kernel, with what goes out in answer to each.
-pub(crate) fn answered_connection(alloc: Global, rows: &str) -> Result<String, MsgFault> {
-    let rows = String::from_str(alloc, rows)?;
-    connection_in::<Brand>(alloc, Blank::new(1), rows)
-}
-
-/// Rows that follow one another on a new kernel over this ledger.
-fn connection_in<L: Ledger>(alloc: Global, blank: Blank, rows: String) -> Result<String, MsgFault>
-    requires name { blank.name ≡ L.name }
-    requires parts { blank.parts ≡ L.parts }
-    requires some { 0 < L.parts }
-{
-    let mut kernel = Kernel::<L>::new(alloc, blank)?;
-    let answers = connection_by(alloc, &mut kernel, &rows);
-    let_go(kernel);
-    answers
-}
-
-/// Rows that follow one another on this kernel.
-fn connection_by<L: Ledger>(
-    alloc: Global,
-    kernel: &mut Kernel<L>,
-    rows: &str,
-) -> Result<String, MsgFault> {
-    let mut stamp = stamp(alloc)?;
-    let mut comms = Comms::new(alloc);
-    let mut out = String::new(alloc);
-    push_rows(alloc, kernel, &mut comms, &mut stamp, rows, &mut out)?;
-    let is_open = shown(alloc, &comms.is_open("c1"))?;
-    push_answer(&mut out, "the comm c1 is open", &is_open)?;
-    Ok(out)
-}
-
-/// Writes rows that follow one another, with what goes out in answer to each.
-fn push_rows<L: Ledger>(
-    alloc: Global,
+/// Writes rows that follow one another, with what goes out in answer to each, and whether the comm `c1` is open behind them.
+fn tell_rows<L: Ledger>(
     kernel: &mut Kernel<L>,
     comms: &mut Comms,
     stamp: &mut Stamp,
     rows: &str,
-    out: &mut String,
-) -> Result<(), MsgFault> {
+    sheet: &mut Sheet,
+) {
     for row in rows.lines() {
-        let (key, frames) = cut_frame(row);
-        let key = Key::new(key.as_bytes().to_vec(alloc)?);
-        let frames = frames_of(alloc, frames)?;
-        match exchange(alloc, kernel, comms, stamp, "asked", &key, frames) {
-            Ok(answer) => push_answer(out, row, &answer)?,
-            Err(fault) => push_answer(out, row, &shown(alloc, &fault)?)?,
-        }
+        sheet.write(row);
+        sheet.write(": ");
+        tell_row(kernel, comms, stamp, row, sheet);
+        sheet.write("\n");
     }
-    Ok(())
+    sheet.write("the comm c1 is open: ");
+    sheet.show(&comms.is_open("c1"));
+    sheet.write("\n");
+}
+
+/// Tells what goes out in answer to the row of a connection.
+fn tell_row<L: Ledger>(
+    kernel: &mut Kernel<L>,
+    comms: &mut Comms,
+    stamp: &mut Stamp,
+    row: &str,
+    sheet: &mut Sheet,
+) {
+    let (key, frames) = cut_frame(row);
+    match key.as_bytes().to_vec(sheet.alloc()) {
+        Ok(key) => tell_frames(kernel, comms, stamp, &Key::new(key), frames, sheet),
+        Err(_) => sheet.refuse(),
+    }
+}
+
+/// Tells what goes out in answer to the frames of a row under a key.
+fn tell_frames<L: Ledger>(
+    kernel: &mut Kernel<L>,
+    comms: &mut Comms,
+    stamp: &mut Stamp,
+    key: &Key,
+    frames: &str,
+    sheet: &mut Sheet,
+) {
+    match frames_of(sheet.alloc(), frames) {
+        Ok(frames) => exchange(kernel, comms, stamp, "asked", key, frames, sheet),
+        Err(_) => sheet.refuse(),
+    }
 }

@@ -3,13 +3,15 @@
 //!
 //! The input of such a crate is a text of blocks with an empty line between them. The first line of a block says what its rows
 //! are about, and behind a colon what they show. Each further line is a call: a word, and what stands behind it. What is printed
-//! are the same lines, each call with a colon and its answer.
+//! are the same lines, each call with a colon and its answer. Answers are written on a [`Sheet`], which keeps that memory was refused.
 #![tactic(auto)]
 
 mod octets;
+mod sheet;
 mod texts;
 
 pub use octets::{cut_frame, frames_of, frames_shown, octets_of};
+pub use sheet::Sheet;
 use std::alloc::{AllocError, Global};
 use std::fmt::Debug;
 pub use texts::{unescaped, written};

@@ -1,6 +1,8 @@
 //! Octets and frames as rows write them.
-use crate::written;
+use crate::{Sheet, written};
+use hex::FromHexError;
 use std::alloc::{AllocError, Global};
+use std::str;
 
 /// What stands between two frames of a row.
 const BETWEEN: &str = " ~ ";
@@ -10,6 +12,7 @@ pub fn octets_of(alloc: Global, row: &str) -> Result<Vec<u8>, AllocError> {
     let text = written(alloc, row)?;
     match hex::decode(alloc, text.as_str()) {
         Ok(octets) => Ok(octets),
+        Err(FromHexError::OutOfMemory) => Err(AllocError),
         Err(_) => Ok(Vec::new(alloc)),
     }
 }
@@ -41,22 +44,21 @@ pub fn cut_frame(row: &str) -> (&str, &str) {
 
 /// Frames as a row writes them.
 pub fn frames_shown(alloc: Global, frames: Vec<Vec<u8>>) -> Result<String, AllocError> {
-    let mut text = String::new(alloc);
-    for (i, frame) in frames.into_iter().enumerate() {
-        text.push_str(if i == 0 { "" } else { BETWEEN })?;
-        push_frame(alloc, &mut text, frame)?;
+    let mut sheet = Sheet::new(alloc);
+    for (i, frame) in frames.iter().enumerate() {
+        sheet.write(if i == 0 { "" } else { BETWEEN });
+        write_frame(frame, &mut sheet);
     }
-    Ok(text)
+    sheet.finish()
 }
 
 /// Writes a frame as text, or in hexadecimal where it is none.
-fn push_frame(alloc: Global, text: &mut String, frame: Vec<u8>) -> Result<(), AllocError> {
-    let digits = hex::encode(alloc, &frame)?;
-    match String::from_utf8(frame) {
-        Ok(frame) => text.push_str(&frame),
+fn write_frame(frame: &[u8], sheet: &mut Sheet) {
+    match str::from_utf8(frame) {
+        Ok(text) => sheet.write(text),
         Err(_) => {
-            text.push_str("hex:")?;
-            text.push_str(&digits)
+            sheet.write("hex:");
+            sheet.write_hex(frame);
         }
     }
 }

@@ -1,4 +1,4 @@
-//! A desk that has no kernel behind it: it judges code, takes down what it is asked, keeps what is published, and refuses jobs.
+//! A desk that has no kernel behind it: it judges code, takes down what it is called for, keeps what is published, and refuses jobs.
 use kernel_ask::{
     Answer, Ask, CommChange, Content, Done, HallFault, HistoryAsk, Wish, is_complete,
 };
@@ -7,66 +7,63 @@ use kernel_core::{Job, PostFault};
 use kernel_message::Stamp;
 use kernel_session::Desk;
 use std::alloc::{AllocError, Global};
+use tests_rows::Sheet;
 
+/// The desk without a kernel. The comm `c` is open.
 #[derive(Drop)]
 pub(crate) struct NoKernel {
-    pub alloc: Global,
+    alloc: Global,
     pub kept: Vec<Broadcast>,
-    pub is_shut: bool,
-    pub is_rung: bool,
     /// Whether it finds no memory for an answer.
     pub is_poor: bool,
-    /// The questions, each in a line.
-    pub asks: Vec<String>,
-    pub jobs: Vec<Job>,
+    /// What it was called for, each in a line.
+    pub calls: Sheet,
 }
 
 impl NoKernel {
+    /// A desk that was called for nothing.
     pub(crate) fn new(alloc: Global) -> NoKernel {
         NoKernel {
             alloc,
             kept: Vec::new(alloc),
-            is_shut: false,
-            is_rung: false,
             is_poor: false,
-            asks: Vec::new(alloc),
-            jobs: Vec::new(alloc),
+            calls: Sheet::new(alloc),
         }
     }
 }
 
-/// The comm `c` is the open one.
-fn open_comms(alloc: Global) -> Result<Vec<String>, AllocError> {
-    Ok(Vec::from_array(alloc, [String::from_str(alloc, "c")?])?)
-}
-
 /// What is answered to a question.
-fn content(alloc: Global, ask: Ask<'_>) -> Result<Content, AllocError> {
+fn content(alloc: Global, ask: Ask<'_>) -> Content {
     match ask {
-        Ask::IsComplete { code } => Ok(Content::Completeness(is_complete(alloc, code))),
-        Ask::Comms => Ok(Content::Comms(open_comms(alloc)?)),
-        Ask::IsOpen { id } => Ok(Content::IsOpen(id == "c")),
-        _ => Ok(Content::Inspection(None)),
+        Ask::IsComplete { code } => Content::Completeness(is_complete(alloc, code)),
+        Ask::IsOpen { id } => Content::IsOpen(id == "c"),
+        _ => Content::Inspection(None),
     }
 }
 
-/// A question in a line.
-fn line_of(alloc: Global, ask: Ask<'_>) -> Result<String, AllocError> {
+/// Writes a question.
+fn write_question(ask: Ask<'_>, calls: &mut Sheet) {
+    calls.write("\n  asked: ");
     match ask {
-        Ask::Complete { code, cursor } => format!(in alloc; "complete {code} {cursor:?}"),
-        Ask::Inspect { code, cursor } => format!(in alloc; "inspect {code} {cursor:?}"),
-        Ask::IsComplete { code } => format!(in alloc; "judge {code}"),
-        Ask::History(HistoryAsk::Tail(n)) => format!(in alloc; "tail {n}"),
-        Ask::History(
-            HistoryAsk::Range {
-                session,
-                start,
-                stop,
-            },
-        ) => format!(in alloc; "range {session} {start} {stop:?}"),
-        Ask::Comms => String::from_str(alloc, "comms"),
-        Ask::IsOpen { id } => format!(in alloc; "open {id}"),
-        Ask::State => String::from_str(alloc, "state"),
+        Ask::Complete { code, cursor } => calls.show(&("complete", code, cursor)),
+        Ask::Inspect { code, cursor } => calls.show(&("inspect", code, cursor)),
+        Ask::IsComplete { code } => calls.show(&("judge", code)),
+        Ask::History(asked) => write_history(asked, calls),
+        Ask::Comms => calls.write("comms"),
+        Ask::IsOpen { id } => calls.show(&("open", id)),
+        Ask::State => calls.write("state"),
+    }
+}
+
+/// Writes a question for the history.
+fn write_history(asked: HistoryAsk, calls: &mut Sheet) {
+    match asked {
+        HistoryAsk::Tail(n) => calls.show(&("tail", n)),
+        HistoryAsk::Range {
+            session,
+            start,
+            stop,
+        } => calls.show(&("range", session, start, stop)),
     }
 }
 
@@ -74,39 +71,38 @@ impl Desk for NoKernel {
     ghost leads = { λ old call new. Unit {0} };
 
     fn job(&mut self, job: Job, _wishes: Vec<Wish>) -> Result<Done, PostFault> {
-        let _ = self.jobs.push(job);
+        self.calls.write("\n  posted: ");
+        self.calls.show(&job);
         Err(PostFault::Closing)
     }
 
     fn ask(&mut self, ask: Ask<'_>) -> Result<Answer, HallFault> {
-        let answer = content(self.alloc, ask);
-        if let Ok(line) = line_of(self.alloc, ask) {
-            let _ = self.asks.push(line);
+        write_question(ask, &mut self.calls);
+        if self.is_poor {
+            return Err(HallFault::Memory);
         }
-        match answer {
-            Ok(content) if !self.is_poor => Ok(Answer { seen: 0, content }),
-            _ => Err(HallFault::Memory),
-        }
+        Ok(Answer {
+            seen: 0,
+            content: content(self.alloc, ask),
+        })
     }
 
     fn comm(&mut self, _change: CommChange<'_>) -> Result<bool, HallFault> {
-        if self.is_poor {
-            Err(HallFault::Memory)
-        } else {
-            Ok(false)
-        }
+        Ok(false)
     }
 
     fn ring(&mut self) {
-        self.is_rung = true;
+        self.calls.write("\n  rung");
     }
 
     fn shut(&mut self) {
-        self.is_shut = true;
+        self.calls.write("\n  shut");
     }
 
     fn publish(&mut self, broadcast: Broadcast) {
-        let _ = self.kept.push(broadcast);
+        if self.kept.push(broadcast).is_err() {
+            self.calls.refuse();
+        }
     }
 
     fn wake(&mut self) {}

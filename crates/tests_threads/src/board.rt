@@ -1,71 +1,77 @@
-//! The board of broadcasts.
-use kernel_board::{
-    BROADCASTS_OF_A_READ, Board, BoardFault, Broadcast, KEPT_BROADCASTS, Place, Read,
-};
-use std::alloc::Global;
-use std::process::Abort;
+//! Rows of the board of broadcasts. `join` gives the number of the place after the last broadcast. `publish` (a number, and how many) publishes the
+//! broadcasts of the numbers from the first on, and gives how many of them got their own number. `follow` (two numbers, and how many turns at most)
+//! gives where a reader stands that reads on from the first place up to the second, and how many broadcasts it read and missed; it is wrong where a
+//! read is not in order from its place on, or a lag doesn't lead it forward. `followed` (how many readers, and how many broadcasts) publishes while
+//! readers on threads read on from the start: how many broadcasts got their number, and how many readers went wrong. `clone` (a number, and frames)
+//! gives the topic and the octets of a broadcast of that many times these frames, and of its clone once it is gone itself. `constants` gives how a
+//! fault is told: its number, its name and its text; and how many broadcasts are kept, and how many a read gives at most.
+use crate::broadcasts::{cloned, in_order, numbered};
+use crate::lines::{begin, note};
+use kernel_board::{BROADCASTS_OF_A_READ, Board, BoardFault, KEPT_BROADCASTS, Place, Read};
+use std::alloc::{AllocError, Global};
 use std::sync::Wait;
 use std::sync::atomic::{AtomicU64, Ordering};
 use std::thread;
 use std::thread::Threads;
+use tests_rows::{Sheet, cut, number};
 
-/// The broadcasts that are published while readers follow.
-const PUBLISHED: u64 = 20_000;
+/// No reader on a thread takes more turns than these.
+const TURNS: usize = 1_000_000;
 
-/// The threads that read.
-const READERS: usize = 3;
-
-/// No reader takes more turns than these.
-const TURNS: u32 = 1_000_000;
-
-/// A broadcast whose second frame is the number.
-fn numbered<R: Abort>(rt: &R, alloc: Global, number: u64) -> Broadcast {
-    let topic = Vec::from_array(alloc, *b"status").expect(rt, "a topic");
-    let body = Vec::from_array(alloc, number.to_be_bytes()).expect(rt, "a body");
-    let frames = Vec::from_array(alloc, [topic, body]).expect(rt, "frames");
-    Broadcast::new(alloc, frames).expect(rt, "a broadcast")
-}
-
-/// Whether this is the broadcast of the number: the topic with MORE behind it, and the eight octets of the number.
-fn is_numbered(broadcast: &Broadcast, number: u64) -> bool {
-    let bytes = number.to_be_bytes();
-    match broadcast.octets() {
-        Some(octets) => {
-            broadcast.topic() == b"status".as_slice()
-                && octets.len() == 18
-                && octets.starts_with(b"\x01\x06status\x00\x08")
-                && octets.ends_with(&bytes)
-        }
-        None => false,
+/// Writes the calls over a new board with their answers.
+pub(crate) fn tell<R: Threads + Wait + Sync>(rt: &R, calls: &str, sheet: &mut Sheet) {
+    match Board::new(sheet.alloc()) {
+        Ok(board) => tell_calls(rt, &board, calls, sheet),
+        Err(_) => sheet.refuse(),
     }
 }
 
-/// Whether these are the broadcasts from a place on, in order, and this is the place after them.
-fn are_numbered(got: &[Broadcast], from: Place, next: Place) -> bool {
-    let mut number = from.number;
-    for broadcast in got {
-        if !is_numbered(broadcast, number) {
-            return false;
-        }
-        number = number.saturating_add(1);
+/// Writes the calls with their answers.
+fn tell_calls<R: Threads + Wait + Sync>(rt: &R, board: &Board, calls: &str, sheet: &mut Sheet) {
+    for call in calls.lines() {
+        begin(call, sheet);
+        answer(rt, board, call, sheet);
+        sheet.write("\n");
     }
-    next.number == number
 }
 
-/// Publishes the broadcasts of some numbers. Whether each got its number.
-fn publish_all<R: Wait + Abort>(
+/// Writes the answer to a call.
+fn answer<R: Threads + Wait + Sync>(rt: &R, board: &Board, call: &str, sheet: &mut Sheet) {
+    let (word, rest) = cut(call);
+    let (first, rest) = cut(rest);
+    match word {
+        "join" => sheet.show(&board.join(rt).number),
+        "publish" => publish(rt, board, number(first), number(rest), sheet),
+        "follow" => follow_row(rt, board, number(first), rest, sheet),
+        "followed" => followed(rt, board, number(first), number(rest), sheet),
+        "clone" => cloned(number(first), rest, sheet),
+        _ => constants(sheet),
+    }
+}
+
+/// Publishes broadcasts of the numbers from the first on, up to one that doesn't get its number: how many got theirs.
+fn published<R: Wait>(
     rt: &R,
     alloc: Global,
     board: &Board,
     first: u64,
-    end: u64,
-) -> bool {
-    for number in first..end {
-        if board.publish(rt, numbered(rt, alloc, number)) != number {
-            return false;
+    count: u64,
+) -> Result<u64, AllocError> {
+    for turn in 0..count {
+        let number = first.saturating_add(turn);
+        if board.publish(rt, numbered(alloc, number)?) != number {
+            return Ok(turn);
         }
     }
-    true
+    Ok(count)
+}
+
+/// Publishes broadcasts, and writes how many got their number.
+fn publish<R: Wait>(rt: &R, board: &Board, first: usize, count: usize, sheet: &mut Sheet) {
+    match published(rt, sheet.alloc(), board, first as u64, count as u64) {
+        Ok(count) => sheet.show(&count),
+        Err(_) => sheet.refuse(),
+    }
 }
 
 /// What a reader came by.
@@ -79,6 +85,8 @@ struct Account {
     missed: u64,
     /// Whether each read began at its place and was in order, and each lag led it forward.
     is_good: bool,
+    /// Whether a read was refused for want of memory.
+    is_refused: bool,
 }
 
 impl Account {
@@ -88,46 +96,51 @@ impl Account {
             read: 0,
             missed: 0,
             is_good: true,
+            is_refused: false,
         }
-    }
-
-    /// Whether it stands at this place, after `read` broadcasts read and `missed` missed, and all was good.
-    fn is(&self, place: u64, read: u64, missed: u64) -> bool {
-        self.is_good && self.place.number == place && self.read == read && self.missed == missed
     }
 
     /// Takes what the reader was told. Whether there was any news.
     fn take(&mut self, told: Result<Read, BoardFault>) -> bool {
         match told {
             Ok(Read::Got(got, next)) => {
-                let is_good = are_numbered(&got, self.place, next)
+                let count = got.len() as u64;
+                let is_good = in_order(&got, self.place) == count
+                    && next.number == self.place.number.saturating_add(count)
                     && got.len() <= BROADCASTS_OF_A_READ;
                 self.is_good = self.is_good && is_good;
-                self.read = self.read.saturating_add(got.len() as u64);
+                self.read = self.read.saturating_add(count);
                 self.place = next;
-                !got.is_empty()
+                count > 0
             }
             Ok(Read::Lagged(oldest)) => {
-                self.is_good = self.is_good && self.place.number < oldest.number;
-                self.missed = self
-                    .missed
-                    .saturating_add(oldest.number.saturating_sub(self.place.number));
+                let missed = oldest.number.saturating_sub(self.place.number);
+                self.is_good = self.is_good && missed > 0;
+                self.missed = self.missed.saturating_add(missed);
                 self.place = oldest;
                 true
             }
             Err(_) => {
-                self.is_good = false;
+                self.is_refused = true;
                 false
             }
         }
     }
+
+    /// Whether it stands at this place, with each broadcast before it read or missed.
+    fn is_whole(&self, end: u64) -> bool {
+        self.is_good
+            && self.place.number == end
+            && self.missed == end.saturating_sub(self.read)
+            && self.read <= end
+    }
 }
 
-/// Reads on from a place up to another.
-fn follow<R: Wait>(rt: &R, board: &Board, from: Place, end: u64) -> Account {
+/// Reads on from a place up to another, in as many turns at most.
+fn follow<R: Wait>(rt: &R, board: &Board, from: Place, end: u64, turns: usize) -> Account {
     let mut account = Account::at(from);
-    for _ in 0..TURNS {
-        if account.place.number >= end || !account.is_good {
+    for _ in 0..turns {
+        if account.place.number >= end || !account.is_good || account.is_refused {
             break;
         }
         let told = board.read_from(rt, account.place);
@@ -139,106 +152,81 @@ fn follow<R: Wait>(rt: &R, board: &Board, from: Place, end: u64) -> Account {
     account
 }
 
-/// Whether a reader at its place was told that there is nothing new.
-fn is_no_news(told: Result<Read, BoardFault>, place: Place) -> bool {
-    match told {
-        Ok(Read::Got(got, next)) => got.is_empty() && next == place,
-        _ => false,
+/// Reads on from a place, and writes what the reader came by.
+fn follow_row<R: Wait>(rt: &R, board: &Board, from: usize, rest: &str, sheet: &mut Sheet) {
+    let (end, turns) = cut(rest);
+    let from = Place {
+        number: from as u64,
+    };
+    let account = follow(rt, board, from, number(end) as u64, number(turns));
+    if account.is_refused {
+        sheet.refuse();
     }
+    note(
+        if account.is_good { "at " } else { "wrong at " },
+        &account.place.number,
+        sheet,
+    );
+    note(", read ", &account.read, sheet);
+    note(", missed ", &account.missed, sheet);
 }
 
-#[test]
-fn the_last_4096_are_kept(rt: HostRuntime) {
-    let alloc = rt.alloc();
-    let board = Board::new(alloc).expect(&rt, "a board");
-    let start = board.join(&rt);
-    assert!(rt; start.number == 0 && is_no_news(board.read_from(&rt, start), start));
-    assert!(rt; publish_all(&rt, alloc, &board, 0, 4096));
-    let mut account = Account::at(start);
-    assert!(rt; account.take(board.read_from(&rt, start)) && account.is(64, 64, 0));
-    assert!(rt; publish_all(&rt, alloc, &board, 4096, 4097));
-    let mut account = Account::at(start);
-    assert!(rt; account.take(board.read_from(&rt, start)) && account.is(1, 0, 1));
-    let account = follow(&rt, &board, start, 4097);
-    assert!(rt; account.is(4097, 4096, 1) && account.place == board.join(&rt));
-    assert!(rt; is_no_news(board.read_from(&rt, account.place), account.place));
-}
-
-#[test]
-fn a_fault_has_its_number_and_name(rt: HostRuntime) {
-    let fault = BoardFault::Memory;
-    let text = format!(in rt.alloc(); "{fault}").expect(&rt, "a text");
-    assert!(rt; fault.number() == 76 && fault.name() == "Memory" && text.as_str() == "Memory");
-    assert!(rt; KEPT_BROADCASTS == 4096 && BROADCASTS_OF_A_READ == 64);
-}
-
-/// A clone is the same broadcast, and stands when the first is gone.
-#[test]
-fn a_clone_is_the_same_broadcast(rt: HostRuntime) {
-    let alloc = rt.alloc();
-    let first = numbered(&rt, alloc, 7);
-    let second = first.clone().expect(&rt, "a clone");
-    assert!(rt; is_numbered(&first, 7));
-    drop(first);
-    assert!(rt; is_numbered(&second, 7));
-    let empty = Broadcast::new(alloc, Vec::new(alloc)).expect(&rt, "a broadcast");
-    assert!(rt; empty.octets().expect(&rt, "no octets").is_empty() && empty.topic().is_empty());
-}
-
-/// A broadcast that passes a limit of the wire has no octets there, and a topic all the same.
-#[test]
-fn a_long_broadcast_has_no_octets(rt: HostRuntime) {
-    let alloc = rt.alloc();
-    let mut frames = Vec::new(alloc);
-    for _ in 0..1025 {
-        let frame = Vec::from_array(alloc, *b"status").expect(&rt, "a frame");
-        frames.push(frame).expect(&rt, "frames");
-    }
-    let long = Broadcast::new(alloc, frames).expect(&rt, "a broadcast");
-    assert!(rt; long.octets().is_none());
-    assert_eq!(rt; long.topic(), b"status".as_slice());
-}
-
-/// Reads on up to the end, and counts itself as wrong where it went wrong.
-fn follow_to_the_end<R: Wait>(rt: &R, board: &Board, from: Place, wrong: &AtomicU64) {
-    let account = follow(rt, board, from, PUBLISHED);
-    if !account.is(
-        PUBLISHED,
-        account.read,
-        PUBLISHED.saturating_sub(account.read),
-    ) {
+/// Reads on from the start up to the end, and counts itself where it went wrong.
+fn follow_to_the_end<R: Wait>(rt: &R, board: &Board, end: u64, wrong: &AtomicU64) {
+    let account = follow(rt, board, Place { number: 0 }, end, TURNS);
+    if account.is_refused || !account.is_whole(end) {
         wrong.fetch_add(1, Ordering::SeqCst);
     }
 }
 
-/// Publishes, while threads read on from the start: whether each broadcast got its number, and how many readers went wrong.
-fn followed_by_threads<R: Threads + Wait + Abort + Sync>(
+/// Publishes, while threads read on from the start: how many broadcasts got their number, and how many readers went wrong.
+fn followed_by_threads<R: Threads + Wait + Sync>(
     rt: &R,
     alloc: Global,
     board: &Board,
-    start: Place,
-) -> (bool, u64) {
+    readers: usize,
+    count: u64,
+) -> (Result<u64, AllocError>, u64) {
     let wrong = AtomicU64::new(0);
     let wrong_seen = &wrong;
-    let is_published = thread::scope(thread::scope_env(), rt, |scope| {
-        for _ in 0..READERS {
-            let started = scope.spawn(move || follow_to_the_end(rt, board, start, wrong_seen));
+    let published = thread::scope(thread::scope_env(), rt, |scope| {
+        for _ in 0..readers {
+            let started = scope.spawn(move || follow_to_the_end(rt, board, count, wrong_seen));
             if started.is_err() {
                 wrong_seen.fetch_add(1, Ordering::SeqCst);
             }
         }
-        publish_all(rt, alloc, board, 0, PUBLISHED)
+        published(rt, alloc, board, 0, count)
     });
-    (is_published, wrong.into_inner())
+    (published, wrong.into_inner())
 }
 
-#[test]
-fn readers_on_threads_miss_nothing_untold(rt: HostRuntime) {
-    let alloc = rt.alloc();
-    let board = Board::new(alloc).expect(&rt, "a board");
-    let start = board.join(&rt);
-    let (is_published, wrong) = followed_by_threads(&rt, alloc, &board, start);
-    assert!(rt; is_published && wrong == 0);
-    let slow = follow(&rt, &board, start, PUBLISHED);
-    assert!(rt; slow.is(PUBLISHED, 4096, PUBLISHED - 4096));
+/// Publishes while readers on threads read on, and writes what came of it.
+fn followed<R: Threads + Wait + Sync>(
+    rt: &R,
+    board: &Board,
+    readers: usize,
+    count: usize,
+    sheet: &mut Sheet,
+) {
+    match followed_by_threads(rt, sheet.alloc(), board, readers, count as u64) {
+        (Ok(count), wrong) => {
+            note("published ", &count, sheet);
+            note(", wrong ", &wrong, sheet);
+        }
+        (Err(_), _) => sheet.refuse(),
+    }
+}
+
+/// How the fault of a read is told, and the limits.
+fn constants(sheet: &mut Sheet) {
+    let fault = BoardFault::Memory;
+    note("", &fault.number(), sheet);
+    note(" ", &fault.name(), sheet);
+    match format!(in sheet.alloc(); "{fault}") {
+        Ok(text) => note(" ", &text, sheet),
+        Err(_) => sheet.refuse(),
+    }
+    note(" ", &KEPT_BROADCASTS, sheet);
+    note(" ", &BROADCASTS_OF_A_READ, sheet);
 }

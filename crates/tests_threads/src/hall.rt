@@ -1,277 +1,222 @@
-//! The hall, from one thread.
+//! Rows of a hall. A block is a new hall, which its last row ends: `close` closes the hall with what the frontends came away with, and gives how many
+//! minutes it had, or what is missing or untrue; `discard` lets it go. The rows before it are those of `frontends`, and of the runner (`desk`), whose
+//! turns are taken by this thread. Behind a row `beside` the worker takes the turns on a thread of its own, and there are the rows of `posters` and
+//! `gate` too. Behind a row `after`, and at the last row, that thread has ended. It ends by itself once the hall is shut, so a block with a row
+//! `beside` has a row `shut` before it, or behind it and before `after`.
 ghost use Rattle.std.specs.Prelude.{◌≡◌, ◌<◌};
 
-use crate::desk::{Desk, cell, is_one, is_world, pass, post};
-use kernel_ask::{Answer, Ask, Content, Done, HallFault, Wish};
-use kernel_core::{Begun, Job, Outcome, PostFault, Refusal, Sliced};
-use kernel_hall::{CommChange, Gate, Hall, Moment, PASSES, Pass, Turn, work};
-use std::alloc::Global;
+use crate::desk::{Desk, Worker};
+use crate::frontends;
+use crate::frontends::Away;
+use crate::gate::{await_held, gate, let_go};
+use crate::lines::{begin, note};
+use crate::posters::posters;
+use kernel_hall::Hall;
 use std::marker::Brand;
-use std::process::Abort;
-use std::sync::Wait;
+use std::sync::atomic::AtomicU64;
 use std::sync::ledger::{Blank, Ledger};
+use std::sync::{Mutex, Wait};
+use std::thread;
+use std::thread::Threads;
+use tests_rows::{Sheet, cut};
 
-/// What is tried in a hall.
-#[derive(Clone, Copy)]
-enum Scene {
-    AllPasses,
-    FirstWait,
-    Comms,
-    Ring,
-    LateRing,
-    /// A cell `int x x +=` this, after which the world is asked for.
-    State(&'static str, &'static str),
-}
-
-/// Each pass has the next lane, and there are no more than these.
-fn all_passes<W: Ledger, L: Ledger, R: Wait + Abort>(rt: &R, hall: &Hall<W, L>) {
-    for given in 0..PASSES {
-        let next = pass(rt, hall);
-        assert!(rt; next.lane() == given + 1 && next.posts() == 0);
-    }
-    assert!(rt; hall.pass(rt).err() == Some(HallFault::NoPass));
-}
-
-/// Whether this was told of the cell, beside what was made for it.
-fn is_five(done: &Done) -> bool {
-    done.number == 1 && done.outcome == Outcome::Ran(1, 3) && done.count == 1 && done.node == 1
-}
-
-/// Whether what is shown is this text.
-fn is_shown(done: &Done, text: &str) -> bool {
-    match &done.shown {
-        Some(shown) => shown.as_str() == text,
-        None => false,
+/// Writes the calls before a new hall with their answers. Its gate holds the worker, or doesn't.
+pub(crate) fn tell<R: Threads + Wait + Sync>(rt: &R, calls: &str, holds: bool, sheet: &mut Sheet) {
+    match String::from_str(sheet.alloc(), calls) {
+        Ok(calls) => tell_owned(rt, calls, holds, sheet),
+        Err(_) => sheet.refuse(),
     }
 }
 
-/// Whether there is one value, with this name and number.
-fn is_valued(done: &Done, name: &str, number: i32) -> bool {
-    match done.values.as_slice() {
-        [one] => one.name.as_str() == name && one.value == Ok(number),
-        _ => false,
-    }
+/// Writes the calls before a new hall with their answers.
+fn tell_owned<R: Threads + Wait + Sync>(rt: &R, calls: String, holds: bool, sheet: &mut Sheet) {
+    tell_in::<Brand, Brand, R>(rt, Blank::new(1), Blank::new(65_537), calls, holds, sheet);
 }
 
-/// The wish for twice `x`, named `a`.
-fn wishes<R: Abort>(rt: &R, alloc: Global) -> Vec<Wish> {
-    let name = String::from_str(alloc, "a").expect(rt, "a name");
-    let text = String::from_str(alloc, "x * 2").expect(rt, "an expression");
-    let wish = Wish::new(alloc, name, text);
-    Vec::from_array(alloc, [wish]).expect(rt, "a list")
-}
-
-/// The shown text and the values go to the first wait alone.
-fn first_wait<W: Ledger, L: Ledger, R: Wait + Abort>(rt: &R, alloc: Global, desk: &mut Desk<W, L>) {
-    let job = cell(rt, alloc, "int x x += 5");
-    let posted = desk
-        .hall
-        .post(rt, pass(rt, &desk.hall), job, wishes(rt, alloc));
-    let (ticket, _) = posted.ok().expect(rt, "a post");
-    assert!(rt; desk.run(rt) == Some(Outcome::Ran(1, 3)));
-    let first = desk.hall.wait(rt, &ticket);
-    assert!(rt; is_five(&first) && is_shown(&first, "x = 5") && is_valued(&first, "a", 10));
-    let second = desk.hall.wait(rt, &ticket);
-    assert!(rt; is_five(&second) && second.shown.is_none() && second.values.is_empty());
-}
-
-/// The id of the comm `k`.
-fn comm_id<R: Abort>(rt: &R, alloc: Global) -> String {
-    String::from_str(alloc, "k").expect(rt, "an id")
-}
-
-/// Opens the comm `k`.
-fn open_comm<W: Ledger, L: Ledger, R: Wait + Abort>(
+/// Writes the calls with their answers, before a hall over these ledgers.
+fn tell_in<W: Ledger + Send + Sync, L: Ledger + Send + Sync, R: Threads + Wait + Sync>(
     rt: &R,
-    alloc: Global,
-    hall: &Hall<W, L>,
-    pass: &Pass<L>,
-) -> Result<bool, HallFault> {
-    hall.comm(rt, pass, CommChange::Open(comm_id(rt, alloc)))
-}
-
-/// Whether that comm is the open one.
-fn is_listed<W: Ledger, L: Ledger, R: Wait>(rt: &R, hall: &Hall<W, L>, pass: &Pass<L>) -> bool {
-    match hall.ask(rt, pass, Ask::Comms) {
-        Ok(
-            Answer {
-                seen: 0,
-                content: Content::Comms(ids),
-            },
-        ) => is_one(&ids, "k"),
-        _ => false,
+    writes: Blank,
+    posts: Blank,
+    calls: String,
+    holds: bool,
+    sheet: &mut Sheet,
+)
+    requires writes { (writes.name ≡ W.name) × (writes.parts ≡ W.parts) × (0 < W.parts) }
+    requires posts { (posts.name ≡ L.name) × (posts.parts ≡ 65537) × (posts.parts ≡ L.parts) }
+{
+    match Desk::<W, L>::new(sheet.alloc(), writes, posts) {
+        Ok(desk) => tell_desk(rt, desk, &calls, holds, sheet),
+        Err(_) => sheet.refuse(),
     }
 }
 
-/// A comm is opened once, is listed, and is closed once.
-fn comms<W: Ledger, L: Ledger, R: Wait + Abort>(rt: &R, alloc: Global, hall: &Hall<W, L>) {
-    let pass = pass(rt, hall);
-    assert!(rt; open_comm(rt, alloc, hall, &pass) == Ok(true));
-    assert!(rt; open_comm(rt, alloc, hall, &pass) == Ok(false));
-    assert!(rt; is_listed(rt, hall, &pass));
-    assert!(rt; hall.comm(rt, &pass, CommChange::Close("k")) == Ok(true));
-    assert!(rt; !is_listed(rt, hall, &pass));
+/// Writes the calls with their answers, and ends the hall as its last row says.
+fn tell_desk<W: Ledger + Send + Sync, L: Ledger + Send + Sync, R: Threads + Wait + Sync>(
+    rt: &R,
+    desk: Desk<W, L>,
+    calls: &str,
+    holds: bool,
+    sheet: &mut Sheet,
+) {
+    let (calls, end) = calls.rsplit_once('\n').unwrap_or(("", calls));
+    let all = Mutex::new(Away::new(sheet.alloc()));
+    let hall = tell_parts(rt, desk, &all, calls, holds, sheet);
+    sheet.write(end);
+    end_hall(hall, all.into_inner(), end == "close", sheet);
 }
 
-/// A gate that holds nobody.
-#[derive(Drop)]
-struct Open;
-
-impl Gate for Open {
-    fn pass(&mut self, _moment: Moment) {}
-}
-
-/// After a shutdown a post is refused and the pass comes back, a job that waits is refused, and the worker ends.
-fn shut<W: Ledger, L: Ledger, R: Wait + Abort>(rt: &R, alloc: Global, desk: Desk<W, L>) {
+/// Writes the calls of the parts of a block with their answers.
+fn tell_parts<W: Ledger + Send + Sync, L: Ledger + Send + Sync, R: Threads + Wait + Sync>(
+    rt: &R,
+    mut desk: Desk<W, L>,
+    all: &Mutex<Away<L>>,
+    calls: &str,
+    holds: bool,
+    sheet: &mut Sheet,
+) -> Hall<W, L> {
+    let (alone, rest) = calls.split_once("beside\n").unwrap_or((calls, ""));
+    let word = AtomicU64::new(0);
+    tell_alone(rt, &mut desk, all, &word, alone, sheet);
     let Desk { hall, seat, .. } = desk;
-    let (ticket, first) = post(rt, alloc, &hall, pass(rt, &hall), Job::Undo(0));
-    hall.shut(rt);
-    let refused = hall.post(rt, first, Job::Undo(0), Vec::new(alloc));
-    let (fault, first) = refused.err().expect(rt, "a refusal");
-    assert!(rt; fault == PostFault::Closing && first.lane() == 1 && first.posts() == 1);
-    work(&hall, rt, seat, &mut Open);
-    let done = hall.wait(rt, &ticket);
-    assert!(rt; done.outcome == Outcome::Refused(Refusal::Closing));
-    hall.discard();
+    tell_rest(
+        rt,
+        Worker { hall: &hall, seat },
+        all,
+        &word,
+        rest,
+        holds,
+        sheet,
+    );
+    hall
 }
 
-/// A hall answers of its own world.
-fn own_state<W: Ledger, L: Ledger, R: Wait + Abort>(
+/// Writes the calls beside the worker, and those behind its end, with their answers; there may be none.
+fn tell_rest<'a, W: Ledger + Send + Sync, L: Ledger + Send + Sync, R: Threads + Wait + Sync>(
     rt: &R,
-    alloc: Global,
-    desk: &mut Desk<W, L>,
-    code: &str,
-    line: &str,
+    worker: Worker<'a, W, L>,
+    all: &Mutex<Away<L>>,
+    word: &'a AtomicU64,
+    calls: &str,
+    holds: bool,
+    sheet: &mut Sheet,
 ) {
-    let pass = pass(rt, &desk.hall);
-    let (_, pass) = post(rt, alloc, &desk.hall, pass, cell(rt, alloc, code));
-    assert!(rt; desk.run(rt) == Some(Outcome::Ran(1, 3)));
-    assert!(rt; is_world(rt, &desk.hall, &pass, 2, line));
+    if calls.is_empty() {
+        return;
+    }
+    let (beside, after) = calls.split_once("after\n").unwrap_or((calls, ""));
+    let hall = worker.hall;
+    sheet.write("beside\n");
+    tell_beside(rt, worker, all, word, beside, holds, sheet);
+    sheet.write(if after.is_empty() { "" } else { "after\n" });
+    tell_rows(rt, hall, all, word, after, sheet);
 }
 
-/// Takes the turn that begins a posted cell, and the two slices that it takes then.
-fn begin<W: Ledger, L: Ledger, R: Wait + Abort>(rt: &R, desk: &mut Desk<W, L>) {
-    assert!(rt; desk.turn(rt) == Turn::Began(Begun::Going));
-    assert!(rt; desk.turn(rt) == Turn::Cut(Sliced::Going));
-    assert!(rt; desk.turn(rt) == Turn::Cut(Sliced::Going));
-}
-
-/// A ring for a cell that runs stops it, and leaves all as before it.
-fn ring<W: Ledger, L: Ledger, R: Wait + Abort>(rt: &R, alloc: Global, desk: &mut Desk<W, L>) {
-    let short = cell(rt, alloc, "int x x += 5");
-    let (_, pass) = post(rt, alloc, &desk.hall, pass(rt, &desk.hall), short);
-    assert!(rt; desk.run(rt) == Some(Outcome::Ran(1, 3)));
-    let long = cell(rt, alloc, "from x = 5 do x += 1 until x = 4");
-    let (ticket, pass) = post(rt, alloc, &desk.hall, pass, long);
-    begin(rt, desk);
-    desk.ring();
-    assert!(rt; desk.turn(rt) == Turn::Cut(Sliced::Backing));
-    assert!(rt; desk.run(rt) == Some(Outcome::Interrupted(8192)));
-    let done = desk.hall.wait(rt, &ticket);
-    assert!(rt; done.outcome == Outcome::Interrupted(8192) && done.node == 1);
-    assert!(rt; is_world(rt, &desk.hall, &pass, 4, "x = 5"));
-}
-
-/// A ring that comes once its job has ended does not stop the next one, which waits already.
-fn late_ring<W: Ledger, L: Ledger, R: Wait + Abort>(rt: &R, alloc: Global, desk: &mut Desk<W, L>) {
-    let short = cell(rt, alloc, "int x x += 5");
-    let (_, pass) = post(rt, alloc, &desk.hall, pass(rt, &desk.hall), short);
-    let (_, pass) = post(rt, alloc, &desk.hall, pass, cell(rt, alloc, "x += 1"));
-    assert!(rt; desk.run(rt) == Some(Outcome::Ran(1, 3)));
-    desk.ring();
-    assert!(rt; desk.run(rt) == Some(Outcome::Ran(2, 3)));
-    assert!(rt; is_world(rt, &desk.hall, &pass, 4, "x = 6"));
-}
-
-/// Tries something in a hall.
-fn play_at<W: Ledger, L: Ledger, R: Wait + Abort>(
+/// Writes calls with their answers, where this thread is the runner's too.
+fn tell_alone<W: Ledger + Send + Sync, L: Ledger + Send + Sync, R: Threads + Wait + Sync>(
     rt: &R,
-    alloc: Global,
     desk: &mut Desk<W, L>,
-    scene: Scene,
+    all: &Mutex<Away<L>>,
+    word: &AtomicU64,
+    calls: &str,
+    sheet: &mut Sheet,
 ) {
-    match scene {
-        Scene::AllPasses => all_passes(rt, &desk.hall),
-        Scene::FirstWait => first_wait(rt, alloc, desk),
-        Scene::Comms => comms(rt, alloc, &desk.hall),
-        Scene::Ring => ring(rt, alloc, desk),
-        Scene::LateRing => late_ring(rt, alloc, desk),
-        Scene::State(code, line) => own_state(rt, alloc, desk, code, line),
+    for call in calls.lines() {
+        begin(call, sheet);
+        if !desk.answers(rt, call, sheet) {
+            answer(rt, &desk.hall, all, word, call, sheet);
+        }
+        sheet.write("\n");
     }
 }
 
-/// Tries something in a new hall, and lets it go.
-fn play_in<W: Ledger, L: Ledger, R: Wait + Abort>(
+/// Writes calls with their answers.
+fn tell_rows<W: Ledger + Send + Sync, L: Ledger + Send + Sync, R: Threads + Wait + Sync>(
     rt: &R,
-    alloc: Global,
-    writes: Blank,
-    posts: Blank,
-    scene: Scene,
-)
-    requires writes { (writes.name ≡ W.name) × (writes.parts ≡ W.parts) × (0 < W.parts) }
-    requires posts { (posts.name ≡ L.name) × (posts.parts ≡ 65537) × (posts.parts ≡ L.parts) }
-{
-    let mut desk = Desk::<W, L>::new(alloc, writes, posts).expect(rt, "a desk");
-    play_at(rt, alloc, &mut desk, scene);
-    desk.discard();
+    hall: &Hall<W, L>,
+    all: &Mutex<Away<L>>,
+    word: &AtomicU64,
+    calls: &str,
+    sheet: &mut Sheet,
+) {
+    for call in calls.lines() {
+        begin(call, sheet);
+        answer(rt, hall, all, word, call, sheet);
+        sheet.write("\n");
+    }
 }
 
-/// Shuts a new hall, and lets it go.
-fn shut_in<W: Ledger, L: Ledger, R: Wait + Abort>(
+/// Writes the answer to a call that isn't the runner's.
+fn answer<W: Ledger + Send + Sync, L: Ledger + Send + Sync, R: Threads + Wait + Sync>(
     rt: &R,
-    alloc: Global,
-    writes: Blank,
-    posts: Blank,
-)
-    requires writes { (writes.name ≡ W.name) × (writes.parts ≡ W.parts) × (0 < W.parts) }
-    requires posts { (posts.name ≡ L.name) × (posts.parts ≡ 65537) × (posts.parts ≡ L.parts) }
-{
-    let desk = Desk::<W, L>::new(alloc, writes, posts).expect(rt, "a desk");
-    shut(rt, alloc, desk);
+    hall: &Hall<W, L>,
+    all: &Mutex<Away<L>>,
+    word: &AtomicU64,
+    call: &str,
+    sheet: &mut Sheet,
+) {
+    let (name, rest) = cut(call);
+    match name {
+        "held" => sheet.write(await_held(word)),
+        "free" => sheet.write(let_go(word)),
+        "posters" => posters(rt, hall, all, rest, sheet),
+        _ => {
+            let mut away = all.lock(rt);
+            frontends::answer(rt, hall, &mut *away, call, sheet);
+        }
+    }
 }
 
-/// Tries something in a new hall.
-fn play<R: Wait + Abort>(rt: &R, alloc: Global, scene: Scene) {
-    play_in::<Brand, Brand, R>(rt, alloc, Blank::new(1), Blank::new(65_537), scene);
+/// Writes calls with their answers beside the worker, and waits until it ends. It does where the hall is shut by one of them, or was before.
+fn tell_beside<'a, W: Ledger + Send + Sync, L: Ledger + Send + Sync, R: Threads + Wait + Sync>(
+    rt: &R,
+    worker: Worker<'a, W, L>,
+    all: &Mutex<Away<L>>,
+    word: &'a AtomicU64,
+    calls: &str,
+    holds: bool,
+    sheet: &mut Sheet,
+) {
+    let hall = worker.hall;
+    thread::scope(thread::scope_env(), rt, |scope| {
+        let started = scope.spawn(move || worker.serve(rt, gate(word, holds)));
+        if started.is_ok() {
+            tell_rows(rt, hall, all, word, calls, sheet);
+        } else {
+            sheet.write("no thread\n");
+        }
+    });
 }
 
-/// Shuts a new hall.
-fn play_shut<R: Wait + Abort>(rt: &R, alloc: Global) {
-    shut_in::<Brand, Brand, R>(rt, alloc, Blank::new(1), Blank::new(65_537));
+/// Closes a hall, or lets it go.
+fn end_hall<W: Ledger, L: Ledger>(
+    hall: Hall<W, L>,
+    away: Away<L>,
+    closes: bool,
+    sheet: &mut Sheet,
+) {
+    if closes {
+        close(hall, away, sheet);
+    } else {
+        hall.discard();
+    }
+    sheet.write("\n");
 }
 
-#[test]
-fn each_pass_has_the_next_lane(rt: HostRuntime) {
-    play(&rt, rt.alloc(), Scene::AllPasses);
-}
-
-#[test]
-fn the_first_wait_has_what_is_shown(rt: HostRuntime) {
-    play(&rt, rt.alloc(), Scene::FirstWait);
-}
-
-#[test]
-fn a_comm_is_opened_listed_and_closed(rt: HostRuntime) {
-    play(&rt, rt.alloc(), Scene::Comms);
-}
-
-#[test]
-fn a_shut_hall_refuses_and_its_worker_ends(rt: HostRuntime) {
-    play_shut(&rt, rt.alloc());
-}
-
-#[test]
-fn a_ring_stops_the_cell_that_runs(rt: HostRuntime) {
-    play(&rt, rt.alloc(), Scene::Ring);
-}
-
-#[test]
-fn a_late_ring_does_not_stop_the_next_job(rt: HostRuntime) {
-    play(&rt, rt.alloc(), Scene::LateRing);
-}
-
-#[test]
-fn a_hall_answers_of_its_own_world(rt: HostRuntime) {
-    play(&rt, rt.alloc(), Scene::State("int x x += 1", "x = 1"));
-    play(&rt, rt.alloc(), Scene::State("int x x += 2", "x = 2"));
+/// Closes a hall, and writes how many minutes it had, or what is missing or untrue.
+fn close<W: Ledger, L: Ledger>(hall: Hall<W, L>, away: Away<L>, sheet: &mut Sheet) {
+    let Away {
+        passes,
+        tickets,
+        dones,
+        ..
+    } = away;
+    sheet.write(": ");
+    match hall.close(passes, tickets, dones) {
+        Ok(minutes) => {
+            note("", &minutes.entries().len(), sheet);
+            minutes.discard();
+        }
+        Err(fault) => sheet.show(&fault),
+    }
 }

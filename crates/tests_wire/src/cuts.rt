@@ -1,19 +1,14 @@
 //! Rows of octets that a peer is fed in any cut: the role, and all octets from the greeting on. The answer has the events that they tell the role,
 //! and behind a bar the number of the fault; where a stream that is left behind an octet tells more or else, the answer says so. A message has its
 //! bodies behind it, a subscription its prefix, a ping its context, and an ERROR its reason.
-use crate::octets::hex_of;
-use std::alloc::{AllocError, Global};
-use tests_rows::{cut, octets_of, push_answer};
+use tests_rows::{Sheet, cut};
 use zmtp_peer::{Peer, PeerEvent, PeerFault, Role};
 
-/// Writes the calls with their answers.
-pub(crate) fn tell(alloc: Global, calls: &str, out: &mut String) -> Result<(), AllocError> {
-    for call in calls.lines() {
-        let (role, octets) = cut(call);
-        let answer = any_cut(alloc, role_of(role), &octets_of(alloc, octets)?)?;
-        push_answer(out, call, &answer)?;
-    }
-    Ok(())
+/// Writes the answer to a call.
+pub(crate) fn answer(call: &str, sheet: &mut Sheet) {
+    let (role, row) = cut(call);
+    let octets = sheet.octets(row);
+    tell_cuts(role_of(role), &octets, sheet);
 }
 
 /// The role of this name.
@@ -27,19 +22,25 @@ pub(crate) fn role_of(name: &str) -> Role {
     }
 }
 
-/// What octets tell a role, octet by octet and in each cut into two, and where they are left behind each octet.
-fn any_cut(alloc: Global, role: Role, octets: &[u8]) -> Result<String, AllocError> {
-    let by_octet = told(alloc, role, octets, 1, 1)?;
+/// Writes what octets tell a role, octet by octet and in each cut into two, and where they are left behind each octet.
+fn tell_cuts(role: Role, octets: &[u8], sheet: &mut Sheet) {
+    let whole = told(role, octets, 1, 1, sheet);
     for first in 0..=octets.len() {
-        if told(alloc, role, octets, first, octets.len())? != by_octet {
-            return format!(in alloc; "differs at the cut {first}");
-        }
-        let (front, _) = octets.split_at(first.min(octets.len()));
-        if !is_beginning(&told(alloc, role, front, first, 1)?, &by_octet) {
-            return format!(in alloc; "differs where it is left at {first}");
-        }
+        compare(role, octets, first, &whole, sheet);
     }
-    Ok(by_octet)
+    sheet.write(&whole);
+}
+
+/// Says so where octets that are cut into two, or left behind the first of these, tell a role something else.
+fn compare(role: Role, octets: &[u8], first: usize, whole: &str, sheet: &mut Sheet) {
+    let (front, _) = octets.split_at(first.min(octets.len()));
+    let cut = told(role, octets, first, octets.len(), sheet);
+    let left = told(role, front, first, 1, sheet);
+    if cut.as_str() != whole || !is_beginning(&left, whole) {
+        sheet.write("differs at ");
+        sheet.show(&first);
+        sheet.write(": ");
+    }
 }
 
 /// Whether what was told of a beginning is a beginning of what was told of all, with no fault but that of all.
@@ -56,120 +57,95 @@ fn is_beginning(left: &str, whole: &str) -> bool {
 }
 
 /// What octets tell a role, cut after a number of them, the rest in pieces of this length and then an empty piece.
-fn told(
-    alloc: Global,
-    role: Role,
-    octets: &[u8],
-    first: usize,
-    length: usize,
-) -> Result<String, AllocError> {
-    let mut peer = Peer::new(alloc, role);
-    let mut events = Vec::new(alloc);
-    let fault = feed_all(&mut peer, octets, first, length, &mut events)?;
-    told_text(alloc, &events, fault)
+fn told(role: Role, octets: &[u8], first: usize, length: usize, sheet: &mut Sheet) -> String {
+    let mut peer = Peer::new(sheet.alloc(), role);
+    let mut told = Sheet::new(sheet.alloc());
+    let fault = feed_all(&mut peer, octets, first, length, &mut told);
+    write_fault(fault, &mut told);
+    sheet.take(told)
 }
 
-/// Feeds octets, cut after a number of them, the rest in pieces of this length and then an empty piece, and keeps the events. Gives
+/// Feeds octets, cut after a number of them, the rest in pieces of this length and then an empty piece, and writes the events. Gives
 /// the fault, if any and if it is told again.
 fn feed_all(
     peer: &mut Peer,
     octets: &[u8],
     first: usize,
     length: usize,
-    events: &mut Vec<PeerEvent>,
-) -> Result<Option<PeerFault>, AllocError> {
+    told: &mut Sheet,
+) -> Option<PeerFault> {
     let (front, rest) = octets.split_at(first.min(octets.len()));
-    feed(peer, front, events)?;
+    feed(peer, front, told);
     for piece in rest.chunks(length.max(1)) {
-        feed(peer, piece, events)?;
+        feed(peer, piece, told);
     }
-    let fault = feed(peer, &[], events)?;
-    if fault.is_some() && feed(peer, b"\0\0", events)? != fault {
-        return Ok(None);
+    let fault = feed(peer, &[], told);
+    if fault.is_some() && feed(peer, b"\0\0", told) != fault {
+        return None;
     }
-    Ok(fault)
+    fault
 }
 
-/// Feeds a piece, once more where memory ran out, and keeps the events. Gives the fault, if any.
-pub(crate) fn feed(
-    peer: &mut Peer,
-    piece: &[u8],
-    events: &mut Vec<PeerEvent>,
-) -> Result<Option<PeerFault>, AllocError> {
-    let told = match peer.feed(piece) {
+/// Feeds a piece, once more where memory ran out.
+fn fed(peer: &mut Peer, piece: &[u8]) -> Result<Vec<PeerEvent>, PeerFault> {
+    match peer.feed(piece) {
         Err(PeerFault::MEMORY) => peer.feed(piece),
         told => told,
-    };
-    match told {
-        Ok(mut more) => {
-            events.append(&mut more)?;
-            Ok(None)
-        }
-        Err(fault) => Ok(Some(fault)),
     }
 }
 
-/// Events and a fault as text.
-pub(crate) fn told_text(
-    alloc: Global,
-    events: &[PeerEvent],
-    fault: Option<PeerFault>,
-) -> Result<String, AllocError> {
-    let mut text = String::new(alloc);
-    for (i, event) in events.iter().enumerate() {
-        text.push_str(if i == 0 { "" } else { " " })?;
-        push_event(alloc, &mut text, event)?;
+/// Feeds a piece, and writes the events on a sheet that has events alone. Gives the fault, if any.
+pub(crate) fn feed(peer: &mut Peer, piece: &[u8], told: &mut Sheet) -> Option<PeerFault> {
+    match fed(peer, piece) {
+        Ok(events) => {
+            write_events(&events, told);
+            None
+        }
+        Err(fault) => Some(fault),
     }
-    text.push('|')?;
-    push_fault(alloc, &mut text, fault)?;
-    Ok(text)
+}
+
+/// Writes events.
+fn write_events(events: &[PeerEvent], told: &mut Sheet) {
+    for event in events {
+        if !told.text().is_empty() {
+            told.write(" ");
+        }
+        write_event(event, told);
+    }
 }
 
 /// Writes an event.
-fn push_event(alloc: Global, text: &mut String, event: &PeerEvent) -> Result<(), AllocError> {
+fn write_event(event: &PeerEvent, told: &mut Sheet) {
     match event {
-        PeerEvent::Ready => text.push_str("Ready"),
-        PeerEvent::Message(frames) => push_message(alloc, text, frames),
-        PeerEvent::Subscribe(prefix) => push_octets(alloc, text, "Subscribe=", prefix),
-        PeerEvent::Cancel(prefix) => push_octets(alloc, text, "Cancel=", prefix),
-        PeerEvent::Ping(context) => push_octets(alloc, text, "Ping=", context),
+        PeerEvent::Ready => told.write("Ready"),
+        PeerEvent::Message(frames) => write_message(frames, told),
+        PeerEvent::Subscribe(prefix) => write_octets("Subscribe=", prefix, told),
+        PeerEvent::Cancel(prefix) => write_octets("Cancel=", prefix, told),
+        PeerEvent::Ping(context) => write_octets("Ping=", context, told),
     }
 }
 
 /// Writes a message with its bodies.
-fn push_message(alloc: Global, text: &mut String, frames: &[Vec<u8>]) -> Result<(), AllocError> {
-    text.push_str("Message=")?;
+fn write_message(frames: &[Vec<u8>], told: &mut Sheet) {
+    told.write("Message=");
     for (i, frame) in frames.iter().enumerate() {
-        push_octets(alloc, text, if i == 0 { "" } else { "," }, frame)?;
+        write_octets(if i == 0 { "" } else { "," }, frame, told);
     }
-    Ok(())
 }
 
 /// Writes a word and octets in hexadecimal.
-fn push_octets(
-    alloc: Global,
-    text: &mut String,
-    word: &str,
-    octets: &[u8],
-) -> Result<(), AllocError> {
-    text.push_str(word)?;
-    text.push_str(&hex_of(alloc, octets)?)
+fn write_octets(word: &str, octets: &[u8], told: &mut Sheet) {
+    told.write(word);
+    told.write_hex(octets);
 }
 
-/// Writes the number of a fault, and the reason of an ERROR.
-fn push_fault(
-    alloc: Global,
-    text: &mut String,
-    fault: Option<PeerFault>,
-) -> Result<(), AllocError> {
+/// Writes the number of a fault behind a bar, and the reason of an ERROR.
+pub(crate) fn write_fault(fault: Option<PeerFault>, told: &mut Sheet) {
+    told.write("|");
     match fault {
-        None => Ok(()),
-        Some(PeerFault::PeerError(reason)) => {
-            push_octets(alloc, text, "11=", reason.as_octets())
-        }
-        Some(fault) => {
-            let number = fault.number();
-            text.push_str(&format!(in alloc; "{number}")?)
-        }
+        None => {}
+        Some(PeerFault::PeerError(reason)) => write_octets("11=", reason.as_octets(), told),
+        Some(fault) => told.show(&fault.number()),
     }
 }

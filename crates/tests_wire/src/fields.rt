@@ -1,65 +1,39 @@
 //! Rows of the fields of requests: `field` has a type, the members beside the field, and the field; `header` the members beside a field of
 //! the header, and the field. The answer has what is told where the field is missing, and where it has each of the values below.
-use crate::requests::{header_of, told};
-use std::alloc::{AllocError, Global};
-use tests_rows::{cut, cut_cell, push_answer};
+use crate::requests::{header_of, tell};
+use tests_rows::{Sheet, cut, cut_cell};
 
 /// Values of each kind, and the edges of the whole numbers.
 const VALUES: &str =
     r#"null true false 0 -1 -0 1.0 1e3 18446744073709551615 18446744073709551616 "x" "tail" [] {}"#;
 
-/// Writes the calls with their answers.
-pub(crate) fn tell(alloc: Global, calls: &str, out: &mut String) -> Result<(), AllocError> {
-    for call in calls.lines() {
-        let (word, rest) = cut(call);
-        let answer = if word == "field" {
-            of_content(alloc, rest)?
-        } else {
-            of_header(alloc, rest)?
-        };
-        push_answer(out, call, &answer)?;
-    }
-    Ok(())
-}
-
-/// What is told of a field of a content.
-fn of_content(alloc: Global, row: &str) -> Result<String, AllocError> {
-    let (msg_type, rest) = cut_cell(row);
-    let (members, field) = cut_cell(rest);
-    let header = header_of(alloc, msg_type)?;
-    let content = object_with(alloc, members, "other", "0")?;
-    let mut text = String::from_str(alloc, told(alloc, &header, &content)?)?;
-    for value in VALUES.split(' ') {
-        let content = object_with(alloc, members, field, value)?;
-        push_word(&mut text, told(alloc, &header, &content)?)?;
-    }
-    Ok(text)
-}
-
-/// What is told of a field of a header.
-fn of_header(alloc: Global, row: &str) -> Result<String, AllocError> {
+/// Writes the answer to a call. A row of a header has no type.
+pub(crate) fn answer(call: &str, sheet: &mut Sheet) {
+    let (word, rest) = cut(call);
+    let (msg_type, row) = if word == "field" {
+        cut_cell(rest)
+    } else {
+        ("", rest)
+    };
     let (members, field) = cut_cell(row);
-    let header = object_with(alloc, members, "other", "0")?;
-    let mut text = String::from_str(alloc, told(alloc, &header, "{}")?)?;
+    tell_with(msg_type, members, "other", "0", sheet);
     for value in VALUES.split(' ') {
-        let header = object_with(alloc, members, field, value)?;
-        push_word(&mut text, told(alloc, &header, "{}")?)?;
+        sheet.write(" ");
+        tell_with(msg_type, members, field, value, sheet);
     }
-    Ok(text)
 }
 
-/// Writes a word behind a blank.
-fn push_word(text: &mut String, word: &str) -> Result<(), AllocError> {
-    text.push(' ')?;
-    text.push_str(word)
-}
-
-/// The members and a last one, as an object.
-fn object_with(
-    alloc: Global,
-    members: &str,
-    name: &str,
-    value: &str,
-) -> Result<String, AllocError> {
-    format!(in alloc; "{{{members}\"{name}\":{value}}}")
+/// Writes what becomes of a message of this type whose content has these members and a last one; without a type, of one whose header has them.
+fn tell_with(msg_type: &str, members: &str, name: &str, value: &str, sheet: &mut Sheet) {
+    let mut object = Sheet::new(sheet.alloc());
+    for text in ["{", members, "\"", name, "\":", value, "}"] {
+        object.write(text);
+    }
+    let object = sheet.take(object);
+    if msg_type.is_empty() {
+        tell(false, &object, "{}", sheet);
+    } else {
+        let header = header_of(msg_type, sheet);
+        tell(false, &header, &object, sheet);
+    }
 }

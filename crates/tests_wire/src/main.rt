@@ -18,44 +18,55 @@ mod fields;
 mod frames;
 mod lists;
 mod messages;
-mod octets;
 mod peers;
 mod printed;
 mod requests;
 
 use std::alloc::{AllocError, Global};
 use std::io;
-use tests_rows::{cut_block, push_both};
+use tests_rows::{Sheet, cut_block};
+use zmtp_peer::{Peer, Role};
 
 fn main(rt: HostRuntime) -> anyhow::Result<()> {
-    let alloc = rt.alloc();
-    let text = io::read_to_string(alloc, rt.stdin())?;
-    for block in text.split("\n\n") {
-        let told = told(alloc, block)?;
-        println!(rt; "{told}")?;
-    }
+    let text = io::read_to_string(rt.alloc(), rt.stdin())?;
+    let told = told(rt.alloc(), text)?;
+    rt.print(told)?;
     Ok(())
 }
 
-/// A block, with the answers to its calls.
-fn told(alloc: Global, block: &str) -> Result<String, AllocError> {
-    let (title, subject, calls) = cut_block(block);
-    let mut out = String::new(alloc);
-    push_both(&mut out, title, "\n")?;
-    tell(alloc, subject, calls, &mut out)?;
-    Ok(out)
+/// The blocks, with the answers to their calls.
+fn told(alloc: Global, text: String) -> Result<String, AllocError> {
+    let mut sheet = Sheet::new(alloc);
+    for block in text.split("\n\n") {
+        tell(block, &mut sheet);
+    }
+    sheet.finish()
 }
 
-/// Writes the calls of a block with their answers.
-fn tell(alloc: Global, subject: &str, calls: &str, out: &mut String) -> Result<(), AllocError> {
+/// Writes a block, with the answers to its calls. The calls of a block on peers have one peer.
+fn tell(block: &str, sheet: &mut Sheet) {
+    let (title, subject, calls) = cut_block(block);
+    let mut peer = Peer::new(sheet.alloc(), Role::Sub);
+    sheet.write(title);
+    for call in calls.lines() {
+        sheet.write("\n");
+        sheet.write(call);
+        sheet.write(": ");
+        answer(subject, call, &mut peer, sheet);
+    }
+    sheet.write("\n\n");
+}
+
+/// Writes the answer to a call.
+fn answer(subject: &str, call: &str, peer: &mut Peer, sheet: &mut Sheet) {
     match subject {
-        "frames" => frames::tell(alloc, calls, out),
-        "cuts" => cuts::tell(alloc, calls, out),
-        "peer" => peers::tell(alloc, calls, out),
-        "messages" => messages::tell(alloc, calls, out),
-        "requests" => requests::tell(alloc, calls, out),
-        "fields" => fields::tell(alloc, calls, out),
-        "connections" => connections::tell(alloc, calls, out),
-        _ => printed::tell(alloc, calls, out),
+        "frames" => frames::answer(call, sheet),
+        "cuts" => cuts::answer(call, sheet),
+        "peer" => peers::answer(call, peer, sheet),
+        "messages" => messages::answer(call, sheet),
+        "requests" => requests::answer(call, sheet),
+        "fields" => fields::answer(call, sheet),
+        "connections" => connections::answer(call, sheet),
+        _ => printed::answer(call, sheet),
     }
 }

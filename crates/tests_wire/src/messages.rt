@@ -3,114 +3,138 @@
 //! one octet behind the delimiter is changed, and `sign` the signature of four parts. `nested` opens a content with a number of lists inside one another.
 ghost use Rattle.jupyter_msg.specs.Opened.{IsRead};
 
-use crate::octets::hex_of;
+use crate::requests::opened;
 use jupyter_msg::{Key, Message, MsgFault, Opened, Parts, Request, hmac, open, seal, sign};
-use std::alloc::{AllocError, Global};
-use tests_rows::{cut, cut_frame, frames_of, number, octets_of, push_answer, shown};
+use tests_rows::{Sheet, cut, cut_frame, number};
 
-/// Writes the calls with their answers.
-pub(crate) fn tell(alloc: Global, calls: &str, out: &mut String) -> Result<(), AllocError> {
-    for call in calls.lines() {
-        match answer(alloc, call) {
-            Ok(answer) => push_answer(out, call, &answer)?,
-            Err(fault) => push_answer(out, call, &shown(alloc, &fault)?)?,
-        }
-    }
-    Ok(())
-}
-
-/// The answer to a call.
-fn answer(alloc: Global, call: &str) -> Result<String, MsgFault> {
+/// Writes the answer to a call.
+pub(crate) fn answer(call: &str, sheet: &mut Sheet) {
     let (word, rest) = cut(call);
-    let (key, row) = cut_frame(rest);
-    let key = Key::new(key.as_bytes().to_vec(alloc)?);
     match word {
-        "hmac" => hash(alloc, rest),
-        "open" => opens(alloc, &key, row),
-        "changed" => changed(alloc, &key, row),
-        "sign" => signature(alloc, &key, &frames_of(alloc, row)?),
-        _ => nested(alloc, number(rest)),
+        "hmac" => tell_hash(rest, sheet),
+        "nested" => tell_nested(number(rest), sheet),
+        _ => answer_under_key(word, rest, sheet),
     }
 }
 
-/// The keyed hash of a text.
-fn hash(alloc: Global, row: &str) -> Result<String, MsgFault> {
+/// Writes the answer to a call with a key.
+fn answer_under_key(word: &str, rest: &str, sheet: &mut Sheet) {
+    let (key, row) = cut_frame(rest);
+    let key = Key::new(sheet.copied(key.as_bytes()));
+    match word {
+        "open" => tell_opened(&key, row, sheet),
+        "changed" => tell_changed(&key, row, sheet),
+        _ => tell_signature(&key, row, sheet),
+    }
+}
+
+/// Writes a text, or why there is none.
+fn write_text(text: Result<String, MsgFault>, sheet: &mut Sheet) {
+    match text {
+        Ok(text) => sheet.write(&text),
+        Err(fault) => sheet.show(&fault),
+    }
+}
+
+/// Writes the keyed hash of a text.
+fn tell_hash(row: &str, sheet: &mut Sheet) {
     let (key, text) = cut(row);
-    let (key, text) = (octets_of(alloc, key)?, octets_of(alloc, text)?);
-    Ok(hex_of(alloc, &hmac(&key, &text))?)
+    let key = sheet.octets(key);
+    let text = sheet.octets(text);
+    sheet.write_hex(&hmac(&key, &text));
 }
 
-/// What is read of a message.
-fn opens(alloc: Global, key: &Key, row: &str) -> Result<String, MsgFault> {
-    let opened = open(alloc, frames_of(alloc, row)?, key)?;
-    opened_told(alloc, key, row, &opened)
+/// Writes what is read of a message.
+fn tell_opened(key: &Key, row: &str, sheet: &mut Sheet) {
+    let frames = sheet.frames(row);
+    match open(sheet.alloc(), frames, key) {
+        Ok(opened) => tell_parts(key, row, &opened, sheet),
+        Err(fault) => sheet.show(&fault),
+    }
 }
 
-/// What is told of a message, and whether it is written under the key as it came.
-fn opened_told(alloc: Global, key: &Key, row: &str, opened: &Opened) -> Result<String, MsgFault>
+/// Writes what is told of a message, and whether it is written under the key as it came.
+fn tell_parts(key: &Key, row: &str, opened: &Opened, sheet: &mut Sheet)
     requires { IsRead opened.now }
 {
-    let is_sealed = is_sealed(alloc, key, row, &opened.message)?;
-    let header = header_told(alloc, &opened.message)?;
-    let request = request_told(alloc, opened)?;
-    Ok(format!(in alloc; "sealed {is_sealed} {header} {request}")?)
+    tell_sealed(key, row, &opened.message, sheet);
+    tell_header(&opened.message, sheet);
+    match Request::read(sheet.alloc(), opened) {
+        Ok(request) => tell_request(&request, &opened.message, sheet),
+        Err(fault) => sheet.show(&fault),
+    }
 }
 
-/// Whether a message is written under the key as it came.
-fn is_sealed(alloc: Global, key: &Key, row: &str, message: &Message) -> Result<bool, MsgFault> {
-    Ok(seal(alloc, message, key)? == frames_of(alloc, row)?)
+/// Writes whether a message is written under the key as it came.
+fn tell_sealed(key: &Key, row: &str, message: &Message, sheet: &mut Sheet) {
+    let frames = sheet.frames(row);
+    sheet.write("sealed ");
+    match seal(sheet.alloc(), message, key) {
+        Ok(sealed) => sheet.show(&(sealed == frames)),
+        Err(fault) => sheet.show(&fault),
+    }
+    sheet.write(" ");
 }
 
-/// What is told of the header, and of the frames around the parts.
-fn header_told(alloc: Global, message: &Message) -> Result<String, MsgFault> {
-    let (id, session) = (message.msg_id(alloc)?, message.session(alloc)?);
-    let kind = message.msg_type(alloc)?;
-    let (identities, buffers) = (&message.identities, &message.buffers);
-    Ok(format!(in alloc; "{id} {session} {kind} {identities:?} {buffers:?}")?)
+/// Writes what is told of the header, and of the frames around the parts.
+fn tell_header(message: &Message, sheet: &mut Sheet) {
+    write_text(message.msg_id(sheet.alloc()), sheet);
+    sheet.write(" ");
+    write_text(message.session(sheet.alloc()), sheet);
+    sheet.write(" ");
+    write_text(message.msg_type(sheet.alloc()), sheet);
+    sheet.write(" ");
+    sheet.show(&message.identities);
+    sheet.write(" ");
+    sheet.show(&message.buffers);
+    sheet.write(" ");
 }
 
-/// What is told of the request.
-fn request_told(alloc: Global, opened: &Opened) -> Result<String, MsgFault>
-    requires { IsRead opened.now }
-{
-    let request = Request::read(alloc, opened)?;
-    let is_header = request.header == opened.message.header;
-    let (identities, content) = (&request.identities, &request.content);
-    Ok(format!(in alloc; "{is_header} {identities:?} {content:?}")?)
+/// Writes what is told of the request of a message.
+fn tell_request(request: &Request, message: &Message, sheet: &mut Sheet) {
+    sheet.show(&(request.header == message.header));
+    sheet.write(" ");
+    sheet.show(&request.identities);
+    sheet.write(" ");
+    sheet.show(&request.content);
 }
 
-/// What becomes of the frames where one octet is changed, for each octet of those behind the delimiter in the first frame.
-fn changed(alloc: Global, key: &Key, row: &str) -> Result<String, MsgFault> {
-    for (place, frame) in frames_of(alloc, row)?.iter().enumerate() {
-        for at in 0..frame.len() {
-            if place > 0 && !is_refused(alloc, key, row, place, at)? {
-                return Ok(format!(in alloc; "frame {place}, octet {at}")?);
-            }
+/// Writes what becomes of the frames where one octet is changed, for each octet of those behind the delimiter in the first frame.
+fn tell_changed(key: &Key, row: &str, sheet: &mut Sheet) {
+    let frames = sheet.frames(row);
+    for (place, frame) in frames.iter().enumerate() {
+        if place > 0 {
+            change_frame(key, row, place, frame.len(), sheet);
         }
     }
-    Ok(String::from_str(alloc, "BadSignature each time")?)
+    sheet.write("BadSignature each time");
 }
 
-/// Whether the frames are refused for their signature where one octet is changed.
-fn is_refused(
-    alloc: Global,
-    key: &Key,
-    row: &str,
-    place: usize,
-    at: usize,
-) -> Result<bool, AllocError> {
-    let mut frames = frames_of(alloc, row)?;
+/// Changes each octet of a frame of this length.
+fn change_frame(key: &Key, row: &str, place: usize, length: usize, sheet: &mut Sheet) {
+    for at in 0..length {
+        change_octet(key, row, place, at, sheet);
+    }
+}
+
+/// Changes an octet, and says so where the frames are not refused for their signature then.
+fn change_octet(key: &Key, row: &str, place: usize, at: usize, sheet: &mut Sheet) {
+    let mut frames = sheet.frames(row);
     if let Some(frame) = frames.get_mut(place)
         && let Some(octet) = frame.get_mut(at)
     {
         *octet ^= 1;
     }
-    Ok(open(alloc, frames, key).err() == Some(MsgFault::BadSignature))
+    let fault = open(sheet.alloc(), frames, key).err();
+    if fault != Some(MsgFault::BadSignature) {
+        sheet.show(&(place, at, fault));
+    }
 }
 
-/// The signature of a header, a parent, metadata and a content.
-fn signature(alloc: Global, key: &Key, frames: &[Vec<u8>]) -> Result<String, MsgFault> {
-    match frames {
+/// Writes the signature of a header, a parent, metadata and a content.
+fn tell_signature(key: &Key, row: &str, sheet: &mut Sheet) {
+    let frames = sheet.frames(row);
+    match frames.as_slice() {
         [header, parent, metadata, content] => {
             let parts = Parts {
                 header,
@@ -118,16 +142,22 @@ fn signature(alloc: Global, key: &Key, frames: &[Vec<u8>]) -> Result<String, Msg
                 metadata,
                 content,
             };
-            sign(alloc, key, &parts)
+            write_text(sign(sheet.alloc(), key, &parts), sheet);
         }
-        _ => Ok(String::from_str(alloc, "not four parts")?),
+        _ => sheet.write("not four parts"),
     }
 }
 
 /// Opens a content with a number of lists inside one another.
-fn nested(alloc: Global, lists: usize) -> Result<String, MsgFault> {
-    let (before, behind) = ("[".repeat(alloc, lists)?, "]".repeat(alloc, lists)?);
-    let row = format!(in alloc; "<IDS|MSG> ~  ~ {{}} ~ {{}} ~ {{}} ~ {{\"a\":{before}{behind}}}")?;
-    open(alloc, frames_of(alloc, &row)?, &Key::new(Vec::new(alloc)))?;
-    Ok(String::from_str(alloc, "opened")?)
+fn tell_nested(lists: usize, sheet: &mut Sheet) {
+    let mut content = Sheet::new(sheet.alloc());
+    content.write("{\"a\":");
+    content.repeat("[", lists);
+    content.repeat("]", lists);
+    content.write("}");
+    let content = sheet.take(content);
+    match opened("{}", &content, sheet) {
+        Ok(_) => sheet.write("opened"),
+        Err(fault) => sheet.show(&fault),
+    }
 }

@@ -26,19 +26,23 @@ IsOpeningEmpty (stage.Refused fault) held = Unit {0}
 
 -- how far a connection is
 abbrev pub state_in : Connection → State
-state_in connection = state_at connection.stage (bodies connection.held.items)
+state_in connection = state_at connection.intake.stage (bodies connection.intake.held.items)
 
 -- for how much a connection has memory
 abbrev pub room_in : Connection → Room
-room_in connection = record { octets = connection.decoder.room; frames = vec_capacity connection.held }
+room_in connection = record { octets = connection.decoder.room; frames = vec_capacity connection.intake.held }
 
--- before READY nothing is held, no prefix has a place but those that are subscribed to, and a large memory was given back
+-- before READY nothing is held, no prefix has a place but those that are subscribed to, a large memory was given back, and what the last piece
+-- brought takes none
 abbrev pub IsConnection : Connection → Type 0
 IsConnection connection =
-    IsOpeningEmpty connection.stage (bodies connection.held.items) × IsTidy connection.counts × GivesBack connection.decoder.rest connection.decoder.room
+    IsOpeningEmpty connection.intake.stage (bodies connection.intake.held.items)
+    × IsTidy connection.counts
+    × GivesBack connection.decoder.rest connection.decoder.room
+    × (vec_capacity connection.intake.brought ≡ 0)
 
 -- nothing of the connection is changed, but memory may be laid out anew
 pub record IsUnread (old new : Connection) : Type 0 where
   pub rest : new.decoder.rest ≡ old.decoder.rest
-  pub stage : new.stage ≡ old.stage
-  pub held : bodies new.held.items ≡ bodies old.held.items
+  pub stage : new.intake.stage ≡ old.intake.stage
+  pub held : bodies new.intake.held.items ≡ bodies old.intake.held.items

@@ -1,4 +1,4 @@
--- What the frames of a piece have brought, before the peer keeps it.
+-- What the frames of a piece have brought.
 use Rattle.std.specs.Prelude.{◌≡◌, ℕ, ◌≤◌, ◌+◌, ◌*◌, max, vec_len, vec_capacity, false, List, [], ◌∷◌, ◌++◌, length, map, take, if◌then◌else◌, ◌⊎◌}
 use Rattle.std.specs.List.{flat_map}
 use Rattle.zmtp_wire.specs.declared.fault.WireFault.{WireFault}

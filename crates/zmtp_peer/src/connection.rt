@@ -5,13 +5,13 @@ ghost use Rattle.zmtp_wire.specs.Decoding.{fed};
 ghost use Rattle.zmtp_peer.specs.Events.{bodies, events_of};
 ghost use Rattle.zmtp_peer.specs.Brought.{brought_of, brought_told};
 ghost use Rattle.zmtp_peer.specs.Subscriptions.{count_in, counted_all, HasRoom, AddsIdle, IsIdle, IsTidy, is_asked};
-ghost use Rattle.zmtp_peer.specs.Intake.{front_of, told_by, Keeps, IsFresh, GrowsBy, TakesFrames};
+ghost use Rattle.zmtp_peer.specs.Intake.{front_of, told_by, Keeps, IsFresh, IsRefusal, GrowsBy, TakesFrames};
 ghost use Rattle.zmtp_peer.specs.Connection.{ReadsPiece, IsUnread, IsConnection, IsOpeningEmpty, state_in, room_in};
 ghost use Rattle.zmtp_peer.specs.Reading.{GivesBack, ReservesFor};
 
 use crate::counts::Counts;
 use crate::event::PeerEvent;
-use crate::intake::{Intake, Stage, take_frames};
+use crate::intake::{Intake, take_frames};
 use crate::subscriptions::{count_events, drop_places, release, reserve};
 use crate::terms::Terms;
 use crate::told::tell;
@@ -22,10 +22,8 @@ use zmtp_wire::Decoder;
 /// How far the stream is read, and what is kept of it.
 #[derive(Drop)]
 pub(crate) struct Connection {
-    /// How far the connection is.
-    pub(crate) stage: Stage,
-    /// The frames of the message that isn't whole yet.
-    pub(crate) held: Vec<Vec<u8>>,
+    /// How far the connection is, and the frames of the message that isn't whole yet; while a piece is read, also what it brought.
+    pub(crate) intake: Intake,
     /// What came and isn't a whole frame yet.
     pub(crate) decoder: Decoder,
     /// How often the peer has subscribed to each prefix. One to which it no longer does has no place.
@@ -81,7 +79,9 @@ impl Connection {
         terms: Terms,
         piece: &[u8],
     ) -> Result<Vec<PeerEvent>, AllocError>
-        requires { IsConnection self.old }
+        requires connection { IsConnection self.old }
+        // The peer isn't refused.
+        requires going { ¬ (IsRefusal (state_in self.old)) }
         ensures read { IfOk result (λ events. ReadsPiece terms (fed self.old.decoder piece.now).rest
             (state_in self.old) self.new.decoder.rest (state_in self.new) (events_of events.items)) }
         ensures counted { IfOk result (λ events. (q : List ℕ) → count_in self.new.counts q
@@ -89,11 +89,12 @@ impl Connection {
         ensures unread { OnErr result (IsUnread self.old self.new) }
         ensures uncounted { OnErr result ((q : List ℕ) → count_in self.new.counts q
             ≡ count_in self.old.counts q) }
-        ensures opening { IsOpeningEmpty self.new.stage (bodies self.new.held.items) }
+        ensures opening { IsOpeningEmpty self.new.intake.stage (bodies self.new.intake.held.items) }
         ensures tidy { IsTidy self.new.counts }
         ensures given_back { GivesBack self.new.decoder.rest self.new.decoder.room }
+        ensures brought { vec_capacity self.new.intake.brought ≡ 0 }
         ensures room { IfOk result (λ events. ReservesFor (length self.old.decoder.rest.octets + length piece.now)
-            (vec_len self.old.held) (room_in self.old) (room_in self.new) (vec_capacity events)) }
+            (vec_len self.old.intake.held) (room_in self.old) (room_in self.new) (vec_capacity events)) }
     {
         if self.decoder.feed(piece).is_err() {
             take_back(&mut self.decoder);
@@ -110,77 +111,70 @@ impl Connection {
     /// # Errors
     /// Want of memory. Then the piece is taken back.
     fn read_frames(&mut self, alloc: Global, terms: Terms) -> Result<Vec<PeerEvent>, AllocError>
-        requires { IsConnection self.old }
+        requires connection { IsConnection self.old }
+        // The peer isn't refused.
+        requires going { ¬ (IsRefusal (state_in self.old)) }
         ensures read { IfOk result (λ events. ReadsPiece terms self.old.decoder.rest (state_in self.old)
             self.new.decoder.rest (state_in self.new) (events_of events.items)) }
         ensures counted { IfOk result (λ events. (q : List ℕ) → count_in self.new.counts q
             ≡ counted_all q (count_in self.old.counts q) (events_of events.items)) }
         ensures rest { OnErr result (self.new.decoder.rest ≡ self.old.decoder.before) }
-        ensures stage { OnErr result (self.new.stage ≡ self.old.stage) }
-        ensures held { OnErr result (bodies self.new.held.items ≡ bodies self.old.held.items) }
+        ensures stage { OnErr result (self.new.intake.stage ≡ self.old.intake.stage) }
+        ensures held { OnErr result (bodies self.new.intake.held.items ≡ bodies self.old.intake.held.items) }
         ensures uncounted { OnErr result ((q : List ℕ) → count_in self.new.counts q
             ≡ count_in self.old.counts q) }
-        ensures opening { IsOpeningEmpty self.new.stage (bodies self.new.held.items) }
+        ensures opening { IsOpeningEmpty self.new.intake.stage (bodies self.new.intake.held.items) }
         ensures tidy { IsTidy self.new.counts }
         ensures given_back { GivesBack self.new.decoder.rest self.new.decoder.room }
+        ensures brought { vec_capacity self.new.intake.brought ≡ 0 }
         ensures room { IfOk result (λ events. ReservesFor (length self.old.decoder.rest.octets)
-            (vec_len self.old.held) (room_in self.old) (room_in self.new) (vec_capacity events)) }
+            (vec_len self.old.intake.held) (room_in self.old) (room_in self.new) (vec_capacity events)) }
     {
-        let kept = self.held.len();
-        let mut intake = Intake {
-            stage: self.stage,
-            ready: false,
-            brought: Vec::new(alloc),
-            held: mem::replace(&mut self.held, Vec::new(alloc)),
-        };
+        let was_open = self.intake.is_open();
+        let kept = self.intake.held.len();
+        self.intake.begin(alloc);
         let gathered = gather(
             alloc,
             terms,
             &mut self.decoder,
             &mut self.counts,
-            &mut intake,
+            &mut self.intake,
         );
         match gathered {
             Err(_) => {
                 take_back(&mut self.decoder);
-                release(&mut self.counts, terms.role, &intake.brought);
-                self.held = intake.taken_back(kept);
+                release(&mut self.counts, terms.role, &self.intake.brought);
+                self.intake.take_back(alloc, was_open, kept);
                 Err(AllocError)
             }
             Ok(room) => {
                 self.decoder.settle();
-                Ok(self.keep(terms, intake, room))
+                Ok(self.tell(alloc, terms, room))
             }
         }
     }
 
-    /// Keeps what was brought, and tells it.
-    fn keep(&mut self, terms: Terms, intake: Intake, room: Vec<PeerEvent>) -> Vec<PeerEvent>
+    /// Tells what the piece brought. It is kept no longer.
+    fn tell(&mut self, alloc: Global, terms: Terms, room: Vec<PeerEvent>) -> Vec<PeerEvent>
         requires empty { room.items ≡ [] }
-        requires space { vec_len intake.brought + 1 ≤ vec_capacity room }
-        requires room { HasRoom (vec_len intake.brought + 1) self.old.counts
-            (flat_map (brought_told terms.role) (map brought_of intake.brought.items)) }
-        requires idle { (q : List ℕ) → IsIdle self.old.counts q → is_asked terms.role intake.brought.items q ≡ true }
-        ensures told { events_of result.items ≡ told_by terms.role intake }
-        ensures state { self.new.stage ≡ intake.stage }
-        ensures held { self.new.held ≡ intake.held }
+        requires space { vec_len self.old.intake.brought + 1 ≤ vec_capacity room }
+        requires room { HasRoom (vec_len self.old.intake.brought + 1) self.old.counts
+            (flat_map (brought_told terms.role) (map brought_of self.old.intake.brought.items)) }
+        requires idle { (q : List ℕ) → IsIdle self.old.counts q → is_asked terms.role self.old.intake.brought.items q ≡ true }
+        ensures told { events_of result.items ≡ told_by terms.role self.old.intake }
+        ensures state { self.new.intake.stage ≡ self.old.intake.stage }
+        ensures held { self.new.intake.held ≡ self.old.intake.held }
         ensures capacity { vec_capacity result ≡ vec_capacity room }
         ensures decoder { self.new.decoder ≡ self.old.decoder }
         ensures tidy { IsTidy self.new.counts }
         ensures counted { (q : List ℕ) → count_in self.new.counts q
             ≡ counted_all q (count_in self.old.counts q) (events_of result.items) }
+        ensures brought { vec_capacity self.new.intake.brought ≡ 0 }
     {
-        let Intake {
-            stage,
-            ready,
-            brought,
-            held,
-        } = intake;
-        let events = tell(terms.role, ready, brought, room);
+        let brought = mem::replace(&mut self.intake.brought, Vec::new(alloc));
+        let events = tell(terms.role, self.intake.ready, brought, room);
         count_events(&mut self.counts, &events);
         drop_places(&mut self.counts, &events);
-        self.stage = stage;
-        self.held = held;
         events
     }
 }

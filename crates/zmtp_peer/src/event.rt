@@ -1,7 +1,7 @@
 //! What a peer is told of the octets that came.
 
 /// An event of a connection.
-#[derive(Debug, Drop, PartialEq, Eq)]
+#[derive(Debug, Drop)]
 pub enum PeerEvent {
     /// The peer's READY came, and it fits. It is the first event.
     Ready,

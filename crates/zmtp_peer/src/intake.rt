@@ -1,4 +1,4 @@
-//! What the frames of one piece bring. The peer keeps none of it until all memory is there.
+//! What the frames of one piece bring. Where memory runs out all of it is taken back.
 ghost use Rattle.std.specs.Prelude.{◌≡◌, ◌++◌, ◌∷◌, [], ℕ, ◌+◌, ◌*◌, ◌≤◌, ◌≢◌, OnOk, OnErr, length, map, max, true, false, vec_len, vec_capacity};
 ghost use Rattle.zmtp_wire.specs.Frame.{frame_of};
 ghost use Rattle.zmtp_peer.specs.Events.{after_frame, frame_told, after_later, behind_ready, later_told, bodies, event_of};
@@ -26,7 +26,7 @@ pub(crate) enum Stage {
     Refused(PeerFault),
 }
 
-/// What frames bring.
+/// How far a connection is, and what the frames of one piece bring. It stands in the connection, so no piece copies a stage with its fault.
 #[derive(Drop)]
 pub(crate) struct Intake {
     /// How far the connection is behind them.
@@ -250,22 +250,62 @@ fn front(mut brought: Vec<Brought>, held: Vec<Vec<u8>>) -> Vec<Vec<u8>>
 }
 
 impl Intake {
-    ghost use Rattle.std.specs.Prelude.{take, length};
+    ghost use Rattle.std.specs.Prelude.{take, length, List};
     ghost use Rattle.zmtp_peer.specs.Events.{bodies};
-    ghost use Rattle.zmtp_peer.specs.Intake.{front_of};
+    ghost use Rattle.zmtp_peer.specs.Intake.{front_of, state_at, IsRefusal};
 
-    /// The first `kept` frames at the front: what was held before the frames of this piece.
-    pub(crate) fn taken_back(self, kept: usize) -> Vec<Vec<u8>>
-        ensures { bodies result.items ≡ take kept (front_of self) }
+    /// That of a connection to which nothing came.
+    pub(crate) fn new(alloc: Global) -> Intake
+        ensures stage { result.stage ≡ Stage.Opening }
+        ensures held { result.held.items ≡ [] }
+        ensures brought { vec_capacity result.brought ≡ 0 }
     {
-        let Intake {
-            stage: _,
-            ready: _,
-            brought,
-            held,
-        } = self;
+        Intake {
+            stage: Stage::Opening,
+            ready: false,
+            brought: Vec::new(alloc),
+            held: Vec::new(alloc),
+        }
+    }
+
+    /// Begins a piece, which has brought nothing yet.
+    pub(crate) fn begin(&mut self, alloc: Global)
+        ensures stage { self.new.stage ≡ self.old.stage }
+        ensures held { self.new.held ≡ self.old.held }
+        ensures ready { self.new.ready ≡ false }
+        ensures brought { self.new.brought.items ≡ [] }
+    {
+        self.ready = false;
+        self.brought = Vec::new(alloc);
+    }
+
+    /// Whether READY came, and the peer isn't refused.
+    pub(crate) fn is_open(&self) -> bool
+        ensures open { result ≡ true → self.now.stage ≡ Stage.Open }
+        ensures other { result ≡ false → (bodies : List (List ℕ)) → ¬ (IsRefusal (state_at self.now.stage bodies)) → self.now.stage ≡ Stage.Opening }
+    {
+        match self.stage {
+            Stage::Open => true,
+            Stage::Opening | Stage::Refused(_) => false,
+        }
+    }
+
+    /// Takes a piece back: of the frames at the front the first `kept` are held, those that were held before it, and the stage is the one before it.
+    pub(crate) fn take_back(&mut self, alloc: Global, was_open: bool, kept: usize)
+        ensures open { was_open ≡ true → self.new.stage ≡ Stage.Open }
+        ensures opening { was_open ≡ false → self.new.stage ≡ Stage.Opening }
+        ensures held { bodies self.new.held.items ≡ take kept (front_of self.old) }
+        ensures brought { vec_capacity self.new.brought ≡ 0 }
+    {
+        self.stage = if was_open {
+            Stage::Open
+        } else {
+            Stage::Opening
+        };
+        let brought = mem::replace(&mut self.brought, Vec::new(alloc));
+        let held = mem::replace(&mut self.held, Vec::new(alloc));
         let mut frames = front(brought, held);
         frames.truncate(kept);
-        frames
+        self.held = frames;
     }
 }

@@ -17,7 +17,7 @@ use crate::connection::Connection;
 use crate::counts::Counts;
 use crate::event::PeerEvent;
 use crate::fault::PeerFault;
-use crate::intake::Stage;
+use crate::intake::{Intake, Stage};
 use crate::opening::opening_octets;
 use crate::role::Role;
 use crate::subscribing::subscription_octets;
@@ -71,8 +71,7 @@ impl Peer {
             greeting: [0; GREETING_LENGTH],
             greeted: 0,
             connection: Connection {
-                stage: Stage::Opening,
-                held: Vec::new(alloc),
+                intake: Intake::new(alloc),
                 decoder: Decoder::new(alloc),
                 counts: Counts::new(alloc),
             },
@@ -125,7 +124,7 @@ impl Peer {
     pub fn is_ready(&self) -> bool
         ensures { IsTrue result ↔ IsReady self.now.state }
     {
-        match self.connection.stage {
+        match self.connection.intake.stage {
             Stage::Open => true,
             Stage::Opening | Stage::Refused(_) => false,
         }
@@ -179,14 +178,14 @@ impl Peer {
         ensures room { IfOk result (λ events. Reserves piece.now self.old self.new (vec_capacity events)) }
         ensures fault_room { IfErr result (λ fault. fault_of fault ≢ want_of_memory → Reserves piece.now self.old self.new 0) }
     {
-        if let Stage::Refused(fault) = self.connection.stage {
+        if let Stage::Refused(fault) = self.connection.intake.stage {
             return Err(fault);
         }
         if self.greeted == GREETING_LENGTH {
             // The greeting was taken, or the peer would be refused.
             let terms = Terms::of(self.role, &self.greeting);
             let events = self.connection.read(self.alloc, terms, piece)?;
-            return answer(events, &self.connection.stage);
+            return answer(events, &self.connection.intake.stage);
         }
         let missing = GREETING_LENGTH - self.greeted;
         if piece.len() < missing {
@@ -198,13 +197,13 @@ impl Peer {
         write_at(&mut self.greeting, self.greeted, front);
         if let Err(fault) = Greeting::read(&self.greeting) {
             self.greeted = GREETING_LENGTH;
-            self.connection.stage = Stage::Refused(PeerFault::Wire(fault));
+            self.connection.intake.stage = Stage::Refused(PeerFault::Wire(fault));
             return Err(PeerFault::Wire(fault));
         }
         let terms = Terms::of(self.role, &self.greeting);
         let first = self.connection.read(self.alloc, terms, stream)?;
         self.greeted = GREETING_LENGTH;
-        answer(first, &self.connection.stage)
+        answer(first, &self.connection.intake.stage)
     }
 }
 

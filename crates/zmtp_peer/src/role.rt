@@ -19,7 +19,7 @@ const SUB: &[u8] = b"SUB";
 const XSUB: &[u8] = b"XSUB";
 
 /// The side that this end of the connection takes.
-#[derive(Clone, Copy, Debug, PartialEq, Eq)]
+#[derive(Clone, Copy)]
 pub enum Role {
     /// Takes requests of any number of peers, and answers them.
     Router,

@@ -9,7 +9,7 @@ use crate::tally::MESSAGE_OCTET_LIMIT;
 use std::alloc::{AllocError, Global};
 
 /// A frame: a part of a message, or a command.
-#[derive(Debug, Drop, PartialEq, Eq)]
+#[derive(Drop, PartialEq, Eq)]
 pub struct Frame {
     /// Whether more frames of the same message follow.
     pub more: bool,

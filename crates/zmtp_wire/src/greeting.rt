@@ -16,7 +16,7 @@ pub const MINOR: u8 = 1;
 const MECHANISM: [u8; 20] = *b"NULL\0\0\0\0\0\0\0\0\0\0\0\0\0\0\0\0";
 
 /// What a peer says first: its version, and whether it is the server. The mechanism is always NULL.
-#[derive(Clone, Copy, Debug, PartialEq, Eq)]
+#[derive(Clone, Copy, Debug)]
 pub struct Greeting {
     /// The major version; 3 or later in a greeting that was read.
     pub major: u8,

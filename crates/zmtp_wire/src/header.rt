@@ -19,7 +19,7 @@ pub const COMMAND: u8 = 4;
 const SHORT_SIZE: u64 = 255;
 
 /// The flags of a frame, without the form of its size, and how many octets its body has.
-#[derive(Clone, Copy, Debug, PartialEq, Eq)]
+#[derive(Clone, Copy)]
 pub(crate) struct Header {
     pub(crate) more: bool,
     pub(crate) command: bool,

@@ -18,7 +18,7 @@ use std::io::Write;
 use thiserror::Error;
 
 /// Why a message, or the answer to a ping, did not go out whole.
-#[derive(Clone, Copy, Debug, PartialEq, Eq, Error)]
+#[derive(Clone, Copy, Debug, Error)]
 pub enum SendFault {
     /// The message passes a limit, so no reader takes it. Nothing went out.
     #[error("TooLong")]

@@ -11,7 +11,7 @@ pub const MESSAGE_OCTET_LIMIT: u64 = 16_777_216;
 pub const MESSAGE_FRAME_LIMIT: u64 = 1024;
 
 /// The frames of a message that has begun and not ended: how many they are, and the octets of their bodies.
-#[derive(Clone, Copy, Debug, PartialEq, Eq)]
+#[derive(Clone, Copy)]
 pub(crate) struct Tally {
     pub(crate) octets: u64,
     pub(crate) frames: u64,

@@ -1,15 +1,14 @@
-use Rattle.std.proofs.Common.{ℕ, List, map, subst}
 use Rattle.std.specs.Io.KnownBytes.{Appends}
 use Rattle.jupyter_msg.specs.Octets.{Octets}
 use Rattle.jupyter_msg.specs.Message.{frames_of}
 use Rattle.kernel_message.specs.Message.{asker_of}
 use Rattle.kernel_message.specs.Sent.{sent, sent_of}
 use Rattle.exact_write.specs.Sent.{SentSome}
-use Rattle.kernel_session.specs.Call.{Leads, Published}
+use Rattle.kernel_session.specs.Call.{Published}
 use Rattle.kernel_session.specs.Action.{Acts}
 use Rattle.kernel_session.specs.Talk.{says_with}
 use Rattle.kernel_session.specs.Session.{answered, reply_octets}
-use Rattle.kernel_session.specs.Parts.{LedPart, ActedPart}
+use Rattle.kernel_session.specs.Parts.{ActedPart}
 use Rattle.kernel_session.proofs.RequestLemmas.{on_ok, on_err, on_fail, none_done, out_whole, out_led, out_cut}
 use Rattle.kernel_session.proofs.request.finish.Goals as goal
 

@@ -1,11 +1,11 @@
-use Rattle.std.proofs.Common.{ℕ, List, [], ◌∷◌, Some, refl, ap, subst, string_bytes}
+use Rattle.std.proofs.Common.{ℕ, List, [], ◌∷◌, Some, option_map, refl, ap, subst, string_bytes}
 use Rattle.jupyter_msg.specs.Requests.{expressions_of}
 use Rattle.jupyter_msg.specs.declared.request.RequestContent.TheVariants as request
 use Rattle.kernel_core.specs.Request.{RunCell}
 use Rattle.kernel_session.specs.declared.talk.DeskReply.TheVariants.{Answered}
-use Rattle.kernel_session.specs.Question.{Complete, Inspect, IsComplete, Comms}
+use Rattle.kernel_session.specs.Question.{Complete, Inspect, IsComplete}
 use Rattle.kernel_session.specs.Call.{Rang, Shut}
-use Rattle.kernel_session.specs.Talk.{IsHeld, ask, post, only, history, open_comm, close_comm, follow, if_open}
+use Rattle.kernel_session.specs.Talk.{IsHeld, ask, post, only, history, list_comms, open_comm, close_comm, follow, if_open}
 use Rattle.kernel_session.proofs.TalkLemmas.{nobody, unasked, heard_answer, heard_change, held_kept, held_cell}
 use Rattle.kernel_session.proofs.talk.consult.Goals as goal
 
@@ -57,9 +57,11 @@ returns-in-History-clause-ok g c =
 
 pub returns-in-CommInfo-clause-ok : goal.returns-in-CommInfo-clause-ok
 returns-in-CommInfo-clause-ok g c =
-    let p = c.ask.ensures in
-    held_kept g.D.Desk.leads c.args.desk.now c.ask.new.desk c.args.content.now (request.CommInfo c.in-CommInfo.field-0) c.in-CommInfo.is c.ask.result
-    (heard_answer p.0) (ask Comms p.0) refl p.1
+    let r = c.in-CommInfo.request in
+    let p = c.list_comms.ensures in
+    held_kept g.D.Desk.leads c.args.desk.now c.list_comms.new.desk c.args.content.now (request.CommInfo r) c.in-CommInfo.is c.list_comms.result
+    (heard_answer p.0) (list_comms (option_map string_bytes r.target_name) p.0) refl
+    (subst (λ t. IsHeld g.D.Desk.leads c.args.desk.now (list_comms t p.0) c.list_comms.result c.list_comms.new.desk) c.as_deref.ensures.value p.1)
     c.kept-in-CommInfo.result.told c.kept-in-CommInfo.ensures.told
 
 pub returns-in-Interrupt-clause-ok : goal.returns-in-Interrupt-clause-ok

@@ -13,11 +13,15 @@ use Rattle.zmtp_peer.proofs.GivingBack.{fed_gives_back}
 use Rattle.zmtp_peer.proofs.connection.Connection.read.Goals as goal
 
 pub read_frames-requires : goal.read_frames-requires
-read_frames-requires c = (
-  c.requires.0,
-  c.requires.1,
-  fed_gives_back c.feed.result c.args.self.now.decoder c.feed.new.self c.args.piece.now (sym c.is_err.ensures.value ∙ c.if-is_err.false) c.feed.ensures.fed c.feed.ensures.given_back,
-)
+read_frames-requires c = record {
+  connection = (
+    c.requires.connection.0,
+    c.requires.connection.1,
+    fed_gives_back c.feed.result c.args.self.now.decoder c.feed.new.self c.args.piece.now (sym c.is_err.ensures.value ∙ c.if-is_err.false) c.feed.ensures.fed c.feed.ensures.given_back,
+    c.requires.connection.3,
+  );
+  going = c.requires.going;
+}
 
 pub returns-then-is_err : goal.returns-then-is_err
 returns-then-is_err c =
@@ -29,9 +33,10 @@ returns-then-is_err c =
       counted = tt;
       unread = record { rest = c.take_back.ensures.rest ∙ ap (λ (d : Decoding). d.before) same; stage = refl; held = refl };
       uncounted = λ q. refl;
-      opening = c.requires.0;
-      tidy = c.requires.1;
+      opening = c.requires.connection.0;
+      tidy = c.requires.connection.1;
       given_back = c.take_back.ensures.given_back;
+      brought = c.requires.connection.3;
       room = tt;
     }
 
@@ -50,9 +55,10 @@ returns-then-is_partial c =
       counted = λ q. sym (ap (λ (events : List PeerEvent). counted_all q (count_in self.counts q) (events_of events)) c.new.ensures.items);
       unread = tt;
       uncounted = tt;
-      opening = c.requires.0;
-      tidy = c.requires.1;
+      opening = c.requires.connection.0;
+      tidy = c.requires.connection.1;
       given_back = fed_gives_back c.feed.result self.decoder c.feed.new.self c.args.piece.now fine c.feed.ensures.fed c.feed.ensures.given_back;
+      brought = c.requires.connection.3;
       room = record {
         stream = at_ok _ c.feed.result fine c.feed.ensures.room;
         held = omega arith;
@@ -80,7 +86,8 @@ returns c =
       opening = frames.ensures.opening;
       tidy = frames.ensures.tidy;
       given_back = frames.ensures.given_back;
+      brought = frames.ensures.brought;
       room = if_ok _ _ frames.result
-          (λ events. reserves-fed (length c.feed.new.self.rest.octets) (length self.decoder.rest.octets + length piece) (vec_len self.held) (room_in self) (record (room_in self) { octets = c.feed.new.self.room }) (room_in new) (vec_capacity events) came room refl)
+          (λ events. reserves-fed (length c.feed.new.self.rest.octets) (length self.decoder.rest.octets + length piece) (vec_len self.intake.held) (room_in self) (record (room_in self) { octets = c.feed.new.self.room }) (room_in new) (vec_capacity events) came room refl)
           frames.ensures.room;
     }

@@ -6,4 +6,4 @@ pub returns-in-Err-clause-tidy : goal.returns-in-Err-clause-tidy
 returns-in-Err-clause-tidy c =
     let gathered = c.gather-gathered.new in
     tidy-again (is_asked c.args.terms.role gathered.intake.brought.items) c.args.self.now.counts gathered.counts c.release.new.counts
-    c.requires.1 c.in-Err.ensures.idle (rw c.deref.ensures.value at c.release.ensures.idle)
+    c.requires.connection.1 c.in-Err.ensures.idle (rw c.deref.ensures.value at c.release.ensures.idle)

@@ -25,7 +25,7 @@ use Rattle.zmtp_peer.proofs.peer.Peer.feed.Goals as goal
 pub returns-in-Refused-clause-fault : goal.returns-in-Refused-clause-fault
 returns-in-Refused-clause-fault c =
     let is : c.args.self.now.state ≡ Refused (fault_of c.in-Refused.fault) =
-    ap (λ (s : PeerState). s.state) (sym c.self.view_is) ∙ ap (λ (at : Stage). state_at at (bodies c.self.inside.connection.held.items)) c.in-Refused.is in
+    ap (λ (s : PeerState). s.state) (sym c.self.view_is) ∙ ap (λ (at : Stage). state_at at (bodies c.self.inside.connection.intake.held.items)) c.in-Refused.is in
     (λ _. (stands-refused c.args.self.now (fault_of c.in-Refused.fault) c.args.piece.now is, is))
 
 pub returns-in_err-events : goal.returns-in_err-events
@@ -35,10 +35,10 @@ returns-in_err-events c =
     let greeting : List ℕ = take inside.greeted inside.greeting in
     let new = c.read.new.self in
     let table = kept.counts in
-    let going : ¬ (IsRefusal (state_in kept)) = not-refused kept.stage (bodies kept.held.items) c.in_default.not-Refused in
+    let going : ¬ (IsRefusal (state_in kept)) = not-refused kept.intake.stage (bodies kept.intake.held.items) c.in_default.not-Refused in
     let after : PeerState = standing inside.role greeting (state_in new) new.decoder.rest new.counts (room_in new) in
     let unread = c.in_err-events.ensures.unread in
-    let same : state_in new ≡ state_in kept = ap (λ (at : Stage). state_at at (bodies new.held.items)) unread.stage ∙ ap (state_at kept.stage) unread.held in
+    let same : state_in new ≡ state_in kept = ap (λ (at : Stage). state_at at (bodies new.intake.held.items)) unread.stage ∙ ap (state_at kept.intake.stage) unread.held in
     let brings = stands-same inside.role greeting (state_in kept) kept.decoder.rest table (room_in kept) greeting (state_in new) new.decoder.rest new.counts (room_in new) refl same unread.rest c.in_err-events.ensures.uncounted in
     let p = err_from_is_err_and c.from_residual.result c.from_residual.ensures.1 in
     rw (p.1, p.2) (record {
@@ -62,7 +62,7 @@ returns-then-self-eq-GREETING_LENGTH c =
     let greeting : List ℕ = take inside.greeted inside.greeting in
     let new = c.read.new.self in
     let table = kept.counts in
-    let going : ¬ (IsRefusal (state_in kept)) = not-refused kept.stage (bodies kept.held.items) c.in_default.not-Refused in
+    let going : ¬ (IsRefusal (state_in kept)) = not-refused kept.intake.stage (bodies kept.intake.held.items) c.in_default.not-Refused in
     let after : PeerState = standing inside.role greeting (state_in new) new.decoder.rest new.counts (room_in new) in
     let complete : length greeting ≡ 64 = length-take-le inside.greeted inside.greeting (omega (arith, c.self.told, c.self.invariant.0)) ∙ c.if-self-eq-GREETING_LENGTH.true in
     let events = c.in_ok-events.events in
@@ -71,8 +71,8 @@ returns-then-self-eq-GREETING_LENGTH c =
     (c.of-terms.ensures.terms ∙ ap (terms_of inside.role) (sym whole)) c.in_ok-events.ensures.read in
     let brings = stands-on inside.role greeting (state_in kept) kept.decoder.rest table (room_in kept) piece greeting (state_in new) new.decoder.rest new.counts (room_in new) (events_of events.items) refl complete going read c.in_ok-events.ensures.counted in
     let here : Brings now piece (events_of events.items) after = subst (λ (s : PeerState). Brings s piece (events_of events.items) after) c.self.view_is brings in
-    let reached : (fault : PeerFault) → new.stage ≡ stage.Refused fault → state_in new ≡ Refused (fault_of fault) = λ fault h. ap (λ (at : Stage). state_at at (bodies new.held.items)) h in
-    let count = held-count kept.stage kept.held c.self.invariant.1.0 going in
+    let reached : (fault : PeerFault) → new.intake.stage ≡ stage.Refused fault → state_in new ≡ Refused (fault_of fault) = λ fault h. ap (λ (at : Stage). state_at at (bodies new.intake.held.items)) h in
+    let count = held-count kept.intake.stage kept.intake.held c.self.invariant.1.0 going in
     let reserved : Reserves piece now after (vec_capacity events) =
     subst (λ (s : PeerState). Reserves piece s after (vec_capacity events)) c.self.view_is
     (subst (λ (n : ℕ). ReservesFor (length kept.decoder.rest.octets + length piece) n (room_in kept) (room_in new) (vec_capacity events)) count c.in_ok-events.ensures.room) in
@@ -80,17 +80,17 @@ returns-then-self-eq-GREETING_LENGTH c =
       role = ap (λ (s : PeerState). s.role) c.self.view_is;
       events = ok-weaker c.answer.result (λ told. told ≡ events) (λ told. Brings now piece (events_of told.items) after)
           (λ told is. subst (λ (es : Vec PeerEvent Global). Brings now piece (events_of es.items) after) (sym is) here) c.answer.ensures.events;
-      quiet = ok-weaker c.answer.result (λ told. events_of told.items ≡ [] → ¬ (IsRefusal (state_at new.stage []))) (λ told. events_of told.items ≡ [] → ¬ (IsRefusal (state_in new)))
-          (λ told h none refusal. h none (refused-anyhow new.stage (bodies new.held.items) [] refusal)) c.answer.ensures.quiet;
-      fault = err-weaker c.answer.result (λ fault. (events.items ≡ []) × (new.stage ≡ stage.Refused fault)) (λ fault. ¬ (fault_of fault ≡ want_of_memory) → Brings now piece [] after × (state_in new ≡ Refused (fault_of fault)))
+      quiet = ok-weaker c.answer.result (λ told. events_of told.items ≡ [] → ¬ (IsRefusal (state_at new.intake.stage []))) (λ told. events_of told.items ≡ [] → ¬ (IsRefusal (state_in new)))
+          (λ told h none refusal. h none (refused-anyhow new.intake.stage (bodies new.intake.held.items) [] refusal)) c.answer.ensures.quiet;
+      fault = err-weaker c.answer.result (λ fault. (events.items ≡ []) × (new.intake.stage ≡ stage.Refused fault)) (λ fault. ¬ (fault_of fault ≡ want_of_memory) → Brings now piece [] after × (state_in new ≡ Refused (fault_of fault)))
           (λ fault h _. (subst (λ (es : List Event). Brings now piece es after) (ap events_of h.0) here, reached fault h.1)) c.answer.ensures.fault;
-      memory = err-weaker c.answer.result (λ fault. (events.items ≡ []) × (new.stage ≡ stage.Refused fault)) (λ fault. fault_of fault ≡ want_of_memory → Brings now [] [] after)
+      memory = err-weaker c.answer.result (λ fault. (events.items ≡ []) × (new.intake.stage ≡ stage.Refused fault)) (λ fault. fault_of fault ≡ want_of_memory → Brings now [] [] after)
           (λ fault h is. absurd (never-memory c.of-terms.result (longer kept.decoder.rest piece) new.decoder.rest (state_in kept) (state_in new) (events_of events.items) c.in_ok-events.ensures.read going (reached fault h.1 ∙ ap Refused is))) c.answer.ensures.fault;
       stays = λ fault is. absurd (going (subst IsRefusal (sym is ∙ ap (λ (s : PeerState). s.state) (sym c.self.view_is)) tt));
       given_back = c.read.ensures.given_back;
       room = ok-weaker c.answer.result (λ told. told ≡ events) (λ told. Reserves piece now after (vec_capacity told))
           (λ told is. subst (λ (es : Vec PeerEvent Global). Reserves piece now after (vec_capacity es)) (sym is) reserved) c.answer.ensures.events;
-      fault_room = err-weaker c.answer.result (λ fault. (events.items ≡ []) × (new.stage ≡ stage.Refused fault)) (λ fault. ¬ (fault_of fault ≡ want_of_memory) → Reserves piece now after 0)
+      fault_room = err-weaker c.answer.result (λ fault. (events.items ≡ []) × (new.intake.stage ≡ stage.Refused fault)) (λ fault. ¬ (fault_of fault ≡ want_of_memory) → Reserves piece now after 0)
           (λ fault h _. reserves-fewer _ _ now.room (room_in new) (vec_capacity events) reserved) c.answer.ensures.fault;
     }
 
@@ -101,7 +101,7 @@ returns-then-piece-missing c =
     let greeting : List ℕ = take inside.greeted inside.greeting in
     let now : List ℕ = take (inside.greeted + length c.args.piece.now) c.write_at.new.greeting in
     let table = kept.counts in
-    let going : ¬ (IsRefusal (state_in kept)) = not-refused kept.stage (bodies kept.held.items) c.in_default.not-Refused in
+    let going : ¬ (IsRefusal (state_in kept)) = not-refused kept.intake.stage (bodies kept.intake.held.items) c.in_default.not-Refused in
     let after : PeerState = standing inside.role now (state_in kept) kept.decoder.rest table (room_in kept) in
     let brings = stands-short inside.role greeting (state_in kept) kept.decoder.rest table (room_in kept) c.args.piece.now now c.write_at.ensures.written
     (omega (arith, ap length c.write_at.ensures.written, length-append greeting c.args.piece.now, length-take-le inside.greeted inside.greeting (omega (arith, c.self.told, c.self.invariant.0)), c.if-piece-missing.true)) going in
@@ -128,7 +128,7 @@ returns-in-Err c =
     let stream = c.split_at.result.1.now in
     let filled = c.write_at-2.new.greeting in
     let table = kept.counts in
-    let going : ¬ (IsRefusal (state_in kept)) = not-refused kept.stage (bodies kept.held.items) c.in_default.not-Refused in
+    let going : ¬ (IsRefusal (state_in kept)) = not-refused kept.intake.stage (bodies kept.intake.held.items) c.in_default.not-Refused in
     let after : PeerState = standing inside.role (take 64 filled) (Refused (Wire c.in-Err.fault)) kept.decoder.rest table (room_in kept) in
     let all : take 64 filled ≡ filled = take-whole filled c.write_at-2.ensures.size in
     let size : length (take 64 filled) ≡ 64 = ap length all ∙ c.write_at-2.ensures.size in
@@ -160,9 +160,9 @@ returns-in_err-first c =
     let new = c.read-3.new.self in
     let unread = c.in_err-first.ensures.unread in
     let table = kept.counts in
-    let going : ¬ (IsRefusal (state_in kept)) = not-refused kept.stage (bodies kept.held.items) c.in_default.not-Refused in
+    let going : ¬ (IsRefusal (state_in kept)) = not-refused kept.intake.stage (bodies kept.intake.held.items) c.in_default.not-Refused in
     let after : PeerState = standing inside.role (take inside.greeted filled) (state_in new) new.decoder.rest new.counts (room_in new) in
-    let same : state_in new ≡ state_in kept = ap (λ (at : Stage). state_at at (bodies new.held.items)) unread.stage ∙ ap (state_at kept.stage) unread.held in
+    let same : state_in new ≡ state_in kept = ap (λ (at : Stage). state_at at (bodies new.intake.held.items)) unread.stage ∙ ap (state_at kept.intake.stage) unread.held in
     let brings = stands-same inside.role greeting (state_in kept) kept.decoder.rest table (room_in kept) (take inside.greeted filled) (state_in new) new.decoder.rest new.counts (room_in new)
     c.write_at-2.ensures.before same unread.rest c.in_err-first.ensures.uncounted in
     let p = err_from_is_err_and c.from_residual-in_err-first.result c.from_residual-in_err-first.ensures.1 in
@@ -190,7 +190,7 @@ returns c =
     let new = c.read-3.new.self in
     let events = c.in_ok-first.first in
     let table = kept.counts in
-    let going : ¬ (IsRefusal (state_in kept)) = not-refused kept.stage (bodies kept.held.items) c.in_default.not-Refused in
+    let going : ¬ (IsRefusal (state_in kept)) = not-refused kept.intake.stage (bodies kept.intake.held.items) c.in_default.not-Refused in
     let after : PeerState = standing inside.role (take 64 filled) (state_in new) new.decoder.rest new.counts (room_in new) in
     let all : take 64 filled ≡ filled = take-whole filled c.write_at-2.ensures.size in
     let size : length (take 64 filled) ≡ 64 = ap length all ∙ c.write_at-2.ensures.size in
@@ -202,28 +202,28 @@ returns c =
     let here : Brings now c.args.piece.now (events_of events.items) after =
     subst (λ (s : PeerState). Brings s c.args.piece.now (events_of events.items) after) c.self.view_is
     (subst (λ (o : List ℕ). Brings (standing inside.role greeting (state_in kept) kept.decoder.rest table (room_in kept)) o (events_of events.items) after) (sym c.split_at.ensures.by_index.0) brings) in
-    let reached : (fault : PeerFault) → new.stage ≡ stage.Refused fault → state_in new ≡ Refused (fault_of fault) = λ fault h. ap (λ (at : Stage). state_at at (bodies new.held.items)) h in
+    let reached : (fault : PeerFault) → new.intake.stage ≡ stage.Refused fault → state_in new ≡ Refused (fault_of fault) = λ fault h. ap (λ (at : Stage). state_at at (bodies new.intake.held.items)) h in
     let piece = c.args.piece.now in
     let less : length kept.decoder.rest.octets + length stream ≤ length kept.decoder.rest.octets + length piece = omega (arith, ap length c.split_at.ensures.by_index.0, length-append front stream) in
-    let count = held-count kept.stage kept.held c.self.invariant.1.0 going in
+    let count = held-count kept.intake.stage kept.intake.held c.self.invariant.1.0 going in
     let reserved : Reserves piece now after (vec_capacity events) =
     subst (λ (s : PeerState). Reserves piece s after (vec_capacity events)) c.self.view_is
     (subst (λ (n : ℕ). ReservesFor (length kept.decoder.rest.octets + length piece) n (room_in kept) (room_in new) (vec_capacity events)) count
-    (reserves-within (length kept.decoder.rest.octets + length stream) (length kept.decoder.rest.octets + length piece) (vec_len kept.held) (room_in kept) (room_in new) (vec_capacity events) c.in_ok-first.ensures.room less)) in
+    (reserves-within (length kept.decoder.rest.octets + length stream) (length kept.decoder.rest.octets + length piece) (vec_len kept.intake.held) (room_in kept) (room_in new) (vec_capacity events) c.in_ok-first.ensures.room less)) in
     record {
       role = ap (λ (s : PeerState). s.role) c.self.view_is;
       events = ok-weaker c.answer-2.result (λ told. told ≡ events) (λ told. Brings now c.args.piece.now (events_of told.items) after)
           (λ told is. subst (λ (es : Vec PeerEvent Global). Brings now c.args.piece.now (events_of es.items) after) (sym is) here) c.answer-2.ensures.events;
-      quiet = ok-weaker c.answer-2.result (λ told. events_of told.items ≡ [] → ¬ (IsRefusal (state_at new.stage []))) (λ told. events_of told.items ≡ [] → ¬ (IsRefusal (state_in new)))
-          (λ told h none refusal. h none (refused-anyhow new.stage (bodies new.held.items) [] refusal)) c.answer-2.ensures.quiet;
-      fault = err-weaker c.answer-2.result (λ fault. (events.items ≡ []) × (new.stage ≡ stage.Refused fault)) (λ fault. ¬ (fault_of fault ≡ want_of_memory) → Brings now c.args.piece.now [] after × (state_in new ≡ Refused (fault_of fault)))
+      quiet = ok-weaker c.answer-2.result (λ told. events_of told.items ≡ [] → ¬ (IsRefusal (state_at new.intake.stage []))) (λ told. events_of told.items ≡ [] → ¬ (IsRefusal (state_in new)))
+          (λ told h none refusal. h none (refused-anyhow new.intake.stage (bodies new.intake.held.items) [] refusal)) c.answer-2.ensures.quiet;
+      fault = err-weaker c.answer-2.result (λ fault. (events.items ≡ []) × (new.intake.stage ≡ stage.Refused fault)) (λ fault. ¬ (fault_of fault ≡ want_of_memory) → Brings now c.args.piece.now [] after × (state_in new ≡ Refused (fault_of fault)))
           (λ fault h _. (subst (λ (es : List Event). Brings now c.args.piece.now es after) (ap events_of h.0) here, reached fault h.1)) c.answer-2.ensures.fault;
-      memory = err-weaker c.answer-2.result (λ fault. (events.items ≡ []) × (new.stage ≡ stage.Refused fault)) (λ fault. fault_of fault ≡ want_of_memory → Brings now [] [] after)
+      memory = err-weaker c.answer-2.result (λ fault. (events.items ≡ []) × (new.intake.stage ≡ stage.Refused fault)) (λ fault. fault_of fault ≡ want_of_memory → Brings now [] [] after)
           (λ fault h is. absurd (never-memory c.of-terms-2.result (longer kept.decoder.rest stream) new.decoder.rest (state_in kept) (state_in new) (events_of events.items) c.in_ok-first.ensures.read going (reached fault h.1 ∙ ap Refused is))) c.answer-2.ensures.fault;
       stays = λ fault is. absurd (going (subst IsRefusal (sym is ∙ ap (λ (s : PeerState). s.state) (sym c.self.view_is)) tt));
       given_back = c.read-3.ensures.given_back;
       room = ok-weaker c.answer-2.result (λ told. told ≡ events) (λ told. Reserves piece now after (vec_capacity told))
           (λ told is. subst (λ (es : Vec PeerEvent Global). Reserves piece now after (vec_capacity es)) (sym is) reserved) c.answer-2.ensures.events;
-      fault_room = err-weaker c.answer-2.result (λ fault. (events.items ≡ []) × (new.stage ≡ stage.Refused fault)) (λ fault. ¬ (fault_of fault ≡ want_of_memory) → Reserves piece now after 0)
+      fault_room = err-weaker c.answer-2.result (λ fault. (events.items ≡ []) × (new.intake.stage ≡ stage.Refused fault)) (λ fault. ¬ (fault_of fault ≡ want_of_memory) → Reserves piece now after 0)
           (λ fault h _. reserves-fewer _ _ now.room (room_in new) (vec_capacity events) reserved) c.answer-2.ensures.fault;
     }

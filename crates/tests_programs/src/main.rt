@@ -1,0 +1,82 @@
+//! Rows of the two programs over loopback, with their answers: kernels and their frontends, on threads of one process.
+//!
+//! No contract says what a socket delivers, nor that an end comes. These rows run the programs from their command lines: what the consoles print,
+//! which statuses come, that an endless cell is interrupted from another connection, what comes on each socket and under which key, and that a kernel
+//! ends once a shutdown was asked for, with all its threads. Whatever connects to a kernel does so in turn by ZMTP 3.0 and by 3.1. The rows stand in
+//! the file `stdin`, the rows with their answers in the file `stdout`, in the form of `tests_rows`. A block of `3.0` or `3.1` is a visit to a kernel
+//! of its own by frontends of that version, one of `reach` such a visit by 3.1 where the kernel listens at all addresses, and the rows of any other
+//! block need no kernel. What may stand in them is said by `visit` and by `outside`.
+#![tactic(auto)]
+
+mod content;
+mod frontend;
+mod octets;
+mod outside;
+mod programs;
+mod site;
+mod streams;
+mod talk;
+mod told;
+mod visit;
+
+use programs::run_kernel;
+use site::{LOOPBACK, Site, make_site};
+use std::net::{Net, TcpListener, TcpStream};
+use std::random::RandomSource;
+use std::rt::Files;
+use std::sync::Wait;
+use std::thread::Threads;
+use std::time::Clock;
+use std::{io, thread};
+use tests_rows::{Sheet, cut_block};
+
+fn main(rt: HostRuntime) -> anyhow::Result<()> {
+    let alloc = rt.alloc();
+    let text = io::read_to_string(alloc, rt.stdin())?;
+    let mut sheet = Sheet::new(alloc);
+    for block in blocks(&text).split("\n\n") {
+        if let Some(site) = begin(&rt, block, &mut sheet) {
+            // The kernel runs on a thread of its own, beside its visitors.
+            let (ran, ()) = thread::join(
+                &rt,
+                || run_kernel(&rt, alloc, &["janus-kernel", &site.path]),
+                || visit::tell(&rt, &site, block, &mut sheet),
+            );
+            visit::end(&rt, &site, &ran, &mut sheet);
+        }
+        sheet.write("\n");
+    }
+    let told = sheet.finish()?;
+    print!(rt; "{told}")?;
+    Ok(())
+}
+
+/// The blocks of a text, without the end of its last line.
+fn blocks(text: &str) -> &str {
+    text.strip_suffix('\n').unwrap_or(text)
+}
+
+/// Writes the title of a block, and where it needs no kernel its calls with their answers. Where it needs one: where that is to listen.
+fn begin<R>(rt: &R, block: &str, sheet: &mut Sheet) -> Option<Site>
+where
+    R: Net<Listener = TcpListener, Stream = TcpStream>
+        + Files
+        + RandomSource
+        + Threads
+        + Wait
+        + Clock
+        + Sync,
+{
+    let (title, subject, calls) = cut_block(block);
+    sheet.write(title);
+    sheet.write("\n");
+    match subject {
+        "3.0" => make_site(rt, LOOPBACK, 0, sheet),
+        "3.1" => make_site(rt, LOOPBACK, 1, sheet),
+        "reach" => make_site(rt, "0.0.0.0", 1, sheet),
+        _ => {
+            outside::tell(rt, calls, sheet);
+            None
+        }
+    }
+}

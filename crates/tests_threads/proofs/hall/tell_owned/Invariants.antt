@@ -1,0 +1,7 @@
+use Rattle.tests_threads.proofs.hall.tell_owned.Given as goal
+
+abbrev pub ghosts-tell_in-W-Ledger : goal.ghosts-tell_in-W-Ledger
+ghosts-tell_in-W-Ledger g a = record { name = a.writes.name; parts = a.writes.parts }
+
+abbrev pub ghosts-tell_in-L-Ledger : goal.ghosts-tell_in-L-Ledger
+ghosts-tell_in-L-Ledger g a = record { name = a.posts.name; parts = a.posts.parts }
