@@ -1,7 +1,7 @@
-"""Writes what tests_replay reads: a key, and a connection on shell with many requests, signed, as jupyter_client writes them.
+"""Writes a part of tests_replay for tests_calls: a key, and a connection on shell with many requests, signed, as jupyter_client writes them.
 
     python3 benches/requests.py execute 20000 > /tmp/input
-    crates/tests_replay/out/tests_replay < /tmp/input > /dev/null
+    crates/tests_calls/out/tests_calls < /tmp/input > /dev/null
 
 Kinds: execute (x += 1), values (the same with four user expressions), info, complete (a kernel with 256 names, all of which match),
 complete-few (11 of them match), judge (is_complete, over the same kernel), history (65,536 inputs, and then so many questions for the last ten).
@@ -57,5 +57,6 @@ def requests(kind, count):
 
 kind, count = sys.argv[1], int(sys.argv[2])
 octets = OPENING + b"".join(message(i, *r) for i, r in enumerate(requests(kind, count)))
+print("== replay")
 print(KEY.decode())
 print("shell", octets.hex())

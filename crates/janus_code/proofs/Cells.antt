@@ -118,12 +118,9 @@ local_int_turned m n a b v w g =
     ap (λ z. LocalInt (name_view m) (exp_view b) z (name_view n) (exp_view a)) g
     ∙ ap inverse_stm (sym (view_local_int m n a b v))
 
-pub local_stack_turned : (m n x y : code_name.Name) (v w : Vec code_stm.Stm Global) → name_view x ≡ name_view m → name_view y ≡ name_view n → block_view w.items ≡ turned (block_view v.items) Empty → stm_view (code_stm.LocalStack x w y) ≡ inverse_stm (stm_view (code_stm.LocalStack m v n))
-local_stack_turned m n x y v w i j g =
-    view_local_stack x y w
-    ∙ ap (λ z. LocalStack z (block_view w.items) (name_view y)) i
-    ∙ ap (λ z. LocalStack (name_view m) z (name_view y)) g
-    ∙ ap (LocalStack (name_view m) (turned (block_view v.items) Empty)) j
+pub local_stack_turned : (m n : code_name.Name) (v w : Vec code_stm.Stm Global) → block_view w.items ≡ turned (block_view v.items) Empty → LocalStack (name_view m) (block_view w.items) (name_view n) ≡ inverse_stm (stm_view (code_stm.LocalStack m v n))
+local_stack_turned m n v w g =
+    ap (λ z. LocalStack (name_view m) z (name_view n)) g
     ∙ ap inverse_stm (sym (view_local_stack m n v))
 
 -- a copy of a name, at its place

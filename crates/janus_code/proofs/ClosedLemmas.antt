@@ -26,38 +26,24 @@ one_more b xs ys i r d lt h e f =
 
 -- ---- statements with blocks, made from their vectors
 
-pub if_closed : (a b c d : code_exp.Exp) (v w x y : Vec code_stm.Stm Global) → exp_view c ≡ exp_view a → exp_view d ≡ exp_view b → block_view x.items ≡ closed_block (block_view v.items) → block_view y.items ≡ closed_block (block_view w.items) → stm_view (code_stm.If c x y d) ≡ closed_stm (stm_view (code_stm.If a v w b))
-if_closed a b c d v w x y e f g h =
-    view_if c d x y
-    ∙ ap (λ z. If z (block_view x.items) (block_view y.items) (exp_view d)) e
-    ∙ ap (λ s. If (exp_view a) s (block_view y.items) (exp_view d)) g
-    ∙ ap (λ s. If (exp_view a) (closed_block (block_view v.items)) s (exp_view d)) h
-    ∙ ap (If (exp_view a) (closed_block (block_view v.items)) (closed_block (block_view w.items))) f
+pub if_closed : (a b : code_exp.Exp) (v w x y : Vec code_stm.Stm Global) → block_view x.items ≡ closed_block (block_view v.items) → block_view y.items ≡ closed_block (block_view w.items) → If (exp_view a) (block_view x.items) (block_view y.items) (exp_view b) ≡ closed_stm (stm_view (code_stm.If a v w b))
+if_closed a b v w x y g h =
+    ap (λ s. If (exp_view a) s (block_view y.items) (exp_view b)) g
+    ∙ ap (λ s. If (exp_view a) (closed_block (block_view v.items)) s (exp_view b)) h
     ∙ ap closed_stm (sym (view_if a b v w))
 
-pub loop_closed : (a b c d : code_exp.Exp) (v w x y : Vec code_stm.Stm Global) → exp_view c ≡ exp_view a → exp_view d ≡ exp_view b → block_view x.items ≡ closed_block (block_view v.items) → block_view y.items ≡ closed_block (block_view w.items) → stm_view (code_stm.Loop c x y d) ≡ closed_stm (stm_view (code_stm.Loop a v w b))
-loop_closed a b c d v w x y e f g h =
-    view_loop c d x y
-    ∙ ap (λ z. Loop z (block_view x.items) (block_view y.items) (exp_view d)) e
-    ∙ ap (λ s. Loop (exp_view a) s (block_view y.items) (exp_view d)) g
-    ∙ ap (λ s. Loop (exp_view a) (closed_block (block_view v.items)) s (exp_view d)) h
-    ∙ ap (Loop (exp_view a) (closed_block (block_view v.items)) (closed_block (block_view w.items))) f
+pub loop_closed : (a b : code_exp.Exp) (v w x y : Vec code_stm.Stm Global) → block_view x.items ≡ closed_block (block_view v.items) → block_view y.items ≡ closed_block (block_view w.items) → Loop (exp_view a) (block_view x.items) (block_view y.items) (exp_view b) ≡ closed_stm (stm_view (code_stm.Loop a v w b))
+loop_closed a b v w x y g h =
+    ap (λ s. Loop (exp_view a) s (block_view y.items) (exp_view b)) g
+    ∙ ap (λ s. Loop (exp_view a) (closed_block (block_view v.items)) s (exp_view b)) h
     ∙ ap closed_stm (sym (view_loop a b v w))
 
-pub local_int_closed : (m n x y : code_name.Name) (a b c d : code_exp.Exp) (v w : Vec code_stm.Stm Global) → name_view x ≡ name_view m → name_view y ≡ name_view m → exp_view c ≡ exp_view a → exp_view d ≡ exp_view b → block_view w.items ≡ closed_block (block_view v.items) → stm_view (code_stm.LocalInt x c w y d) ≡ closed_stm (stm_view (code_stm.LocalInt m a v n b))
-local_int_closed m n x y a b c d v w i j e f g =
-    view_local_int x y c d w
-    ∙ ap (λ z. LocalInt z (exp_view c) (block_view w.items) (name_view y) (exp_view d)) i
-    ∙ ap (λ z. LocalInt (name_view m) z (block_view w.items) (name_view y) (exp_view d)) e
-    ∙ ap (λ z. LocalInt (name_view m) (exp_view a) z (name_view y) (exp_view d)) g
-    ∙ ap (λ z. LocalInt (name_view m) (exp_view a) (closed_block (block_view v.items)) z (exp_view d)) j
-    ∙ ap (LocalInt (name_view m) (exp_view a) (closed_block (block_view v.items)) (name_view m)) f
+pub local_int_closed : (m n : code_name.Name) (a b : code_exp.Exp) (v w : Vec code_stm.Stm Global) → block_view w.items ≡ closed_block (block_view v.items) → LocalInt (name_view m) (exp_view a) (block_view w.items) (name_view m) (exp_view b) ≡ closed_stm (stm_view (code_stm.LocalInt m a v n b))
+local_int_closed m n a b v w g =
+    ap (λ z. LocalInt (name_view m) (exp_view a) z (name_view m) (exp_view b)) g
     ∙ ap closed_stm (sym (view_local_int m n a b v))
 
-pub local_stack_closed : (m n x y : code_name.Name) (v w : Vec code_stm.Stm Global) → name_view x ≡ name_view m → name_view y ≡ name_view m → block_view w.items ≡ closed_block (block_view v.items) → stm_view (code_stm.LocalStack x w y) ≡ closed_stm (stm_view (code_stm.LocalStack m v n))
-local_stack_closed m n x y v w i j g =
-    view_local_stack x y w
-    ∙ ap (λ z. LocalStack z (block_view w.items) (name_view y)) i
-    ∙ ap (λ z. LocalStack (name_view m) z (name_view y)) g
-    ∙ ap (LocalStack (name_view m) (closed_block (block_view v.items))) j
+pub local_stack_closed : (m n : code_name.Name) (v w : Vec code_stm.Stm Global) → block_view w.items ≡ closed_block (block_view v.items) → LocalStack (name_view m) (block_view w.items) (name_view m) ≡ closed_stm (stm_view (code_stm.LocalStack m v n))
+local_stack_closed m n v w g =
+    ap (λ z. LocalStack (name_view m) z (name_view m)) g
     ∙ ap closed_stm (sym (view_local_stack m n v))

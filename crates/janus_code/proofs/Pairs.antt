@@ -1,7 +1,6 @@
 -- Lists with an item more, or with more of them, behind.
-use Rattle.std.proofs.Common.{◌≡◌, ℕ, zero, suc, ◌-◌, ◌≤◌, List, [], ◌∷◌, ◌++◌, length, get_or, refl, ap, ◌∙◌, sym, subst, arith, ⊎_elim, ◌⊎◌, inl, inr}
-use Rattle.std.specs.Prelude.{slice_get, Some, None}
-use Rattle.std.proofs.lemmas.Option.{slice_get_past}
+use Rattle.std.proofs.Common.{◌≡◌, ℕ, zero, suc, ◌-◌, ◌≤◌, List, [], ◌∷◌, ◌++◌, length, get_or, refl, ap, ◌∙◌, arith, ⊎_elim, ◌⊎◌, inl, inr}
+use Rattle.std.specs.Prelude.{slice_get, Some}
 
 pub last_or_before : {T : Type 0} (ys : List T) (y r : T) (n : ℕ) → slice_get (ys ++ y ∷ []) n ≡ Some r → (slice_get ys n ≡ Some r) ⊎ ((n ≡ length ys) × (y ≡ r))
 last_or_before [] y r zero e = inr (refl, cc)

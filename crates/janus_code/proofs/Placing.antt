@@ -1,9 +1,7 @@
 -- Statements whose names have their numbers, one more of them, and copies of expressions.
-use Rattle.std.proofs.Common.{◌≡◌, Box, Global, ℕ, ◌<◌, List, [], ◌∷◌, ◌++◌, length, get_or, refl, ap, ◌∙◌, sym, subst, arith, ⊎_elim}
+use Rattle.std.proofs.Common.{◌≡◌, Box, Global, List, [], ◌∷◌, ◌++◌, length, refl, ap, ◌∙◌, sym, subst, ⊎_elim}
 use Rattle.std.specs.Prelude.{slice_get, Some, string_bytes}
-use Rattle.std.proofs.lemmas.Option.{slice_get_within, slice_get-get_or}
 use Rattle.janus_meaning.specs.Syntax.{Name}
-use Rattle.janus_code.specs.declared.code.Block.{Block}
 use Rattle.janus_code.specs.declared.code.Symbol.{Symbol}
 use Rattle.janus_code.specs.declared.code.FlatExp.{FlatExp}
 use Rattle.janus_code.specs.declared.code.FlatExp.TheViews as views
@@ -12,8 +10,7 @@ use Rattle.janus_syntax.specs.View.{operator_of}
 use Rattle.janus_meaning.specs.Syntax as tree
 use Rattle.janus_code.specs.Expressions.{exp_of}
 use Rattle.janus_code.specs.declared.code.Statement.{Statement}
-use Rattle.janus_code.specs.declared.code.Statement.TheVariants.{Skip, Assign, AssignElement, Push, Pop, If, Loop, LocalInt, LocalStack, Call, Uncall}
-use Rattle.janus_code.specs.Numbered.{HasItsNumber, HaveTheirNumbers, HasNumbers, IsSame, AreSame, IsCopy, StatementHasNumbers, HaveNumbers}
+use Rattle.janus_code.specs.Numbered.{HasItsNumber, HasNumbers, IsSame, IsCopy, StatementHasNumbers, HaveNumbers}
 use Rattle.janus_code.proofs.Pairs.{last_or_before}
 
 pub none_placed : (xs : List Name) → HaveNumbers xs []

@@ -1,5 +1,4 @@
 -- Trees in which each `delocal` has the name of its local.
-use Rattle.std.specs.Prelude.{◌≡◌}
 use Rattle.janus_syntax.specs.Tree.{Stm, Skip, Assign, AssignElement, Push, Pop, If, Loop, LocalInt, LocalStack, Call, Uncall, Block, Empty, More}
 use Rattle.janus_syntax.specs.Tree.{Procedure, procedure_of}
 

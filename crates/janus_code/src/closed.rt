@@ -6,7 +6,10 @@ ghost use Rattle.std.specs.Prelude.{◌≡◌, IfOk};
 ghost use Rattle.janus_syntax.specs.Tree.{block_view, procedure_view, stm_view};
 ghost use Rattle.janus_code.specs.Closed.{closed_block, closed_procedure, closed_stm};
 
-use crate::copies::{same_names, same_parameters};
+use crate::copies::same_parameters;
+use crate::statements::{
+    assign_of, call_of, element_of, if_of, int_of, loop_of, pop_of, push_of, stack_of, uncall_of,
+};
 use janus_syntax::tree::{Procedure, Stm};
 use std::alloc::{AllocError, Global};
 
@@ -43,54 +46,31 @@ fn closed_statement(alloc: Global, statement: &Stm) -> Result<Stm, AllocError>
 {
     match statement {
         Stm::Skip => Ok(Stm::Skip),
-        Stm::Assign(name, update, exp) => {
-            let name = name.copy()?;
-            Ok(Stm::Assign(name, *update, exp.copy(alloc)?))
-        }
+        Stm::Assign(name, update, exp) => assign_of(alloc, name, *update, exp),
         Stm::AssignElement(name, index, update, exp) => {
-            let name = name.copy()?;
-            let index = index.copy(alloc)?;
-            Ok(Stm::AssignElement(name, index, *update, exp.copy(alloc)?))
+            element_of(alloc, name, index, *update, exp)
         }
-        Stm::Push(variable, stack) => {
-            let variable = variable.copy()?;
-            Ok(Stm::Push(variable, stack.copy()?))
-        }
-        Stm::Pop(variable, stack) => {
-            let variable = variable.copy()?;
-            Ok(Stm::Pop(variable, stack.copy()?))
-        }
+        Stm::Push(variable, stack) => push_of(variable, stack),
+        Stm::Pop(variable, stack) => pop_of(variable, stack),
         Stm::If(test, then_part, else_part, last) => {
             let then_part = closed_statements(alloc, then_part)?;
             let else_part = closed_statements(alloc, else_part)?;
-            let test = test.copy(alloc)?;
-            Ok(Stm::If(test, then_part, else_part, last.copy(alloc)?))
+            if_of(alloc, test, then_part, else_part, last)
         }
         Stm::Loop(entry, do_part, loop_part, exit) => {
             let do_part = closed_statements(alloc, do_part)?;
             let loop_part = closed_statements(alloc, loop_part)?;
-            let entry = entry.copy(alloc)?;
-            Ok(Stm::Loop(entry, do_part, loop_part, exit.copy(alloc)?))
+            loop_of(alloc, entry, do_part, loop_part, exit)
         }
         Stm::LocalInt(name, first, block, _, last) => {
             let block = closed_statements(alloc, block)?;
-            let end = name.copy()?;
-            let name = name.copy()?;
-            let first = first.copy(alloc)?;
-            Ok(Stm::LocalInt(name, first, block, end, last.copy(alloc)?))
+            int_of(alloc, name, first, block, name, last)
         }
         Stm::LocalStack(name, block, _) => {
             let block = closed_statements(alloc, block)?;
-            let end = name.copy()?;
-            Ok(Stm::LocalStack(name.copy()?, block, end))
+            stack_of(name, block, name)
         }
-        Stm::Call(called, arguments) => {
-            let arguments = same_names(alloc, arguments)?;
-            Ok(Stm::Call(called.copy()?, arguments))
-        }
-        Stm::Uncall(called, arguments) => {
-            let arguments = same_names(alloc, arguments)?;
-            Ok(Stm::Uncall(called.copy()?, arguments))
-        }
+        Stm::Call(called, arguments) => call_of(alloc, called, arguments),
+        Stm::Uncall(called, arguments) => uncall_of(alloc, called, arguments),
     }
 }

@@ -1,10 +1,21 @@
 //! Copies of a tree's parts in memory of their own.
 
-ghost use Rattle.std.specs.Prelude.{◌≡◌, IfOk};
+ghost use Rattle.std.specs.Prelude.{◌≡◌, IfOk, MatchResult, Ok, Err};
 ghost use Rattle.janus_syntax.specs.Tree.{name_view, exp_view, declaration_view, declarations_view, names_view, parameter_view, parameters_view};
 
+use janus_check::parameter::name_of_parameter;
 use janus_syntax::tree::{Declaration, Exp, Name, Parameter};
 use std::alloc::{AllocError, Global};
+
+/// Both, if the second is there. Where it is not, the first is let go here, once for all copies, and not at each `?`.
+pub(crate) fn both<T: Drop, U, E>(first: T, second: Result<U, E>) -> Result<(T, U), E>
+    ensures { MatchResult result (λ x. (x.0 ≡ first) × (second ≡ Ok x.1)) (λ e. second ≡ Err e) }
+{
+    match second {
+        Ok(second) => Ok((first, second)),
+        Err(error) => Err(error),
+    }
+}
 
 /// The same parameters in memory of their own.
 pub(crate) fn same_parameters(
@@ -24,11 +35,12 @@ pub(crate) fn same_parameters(
 fn same_parameter(parameter: &Parameter) -> Result<Parameter, AllocError>
     ensures { IfOk result (λ copy. parameter_view copy ≡ parameter_view parameter.now) }
 {
-    match parameter {
-        Parameter::Int(name) => Ok(Parameter::Int(name.copy()?)),
-        Parameter::Array(name) => Ok(Parameter::Array(name.copy()?)),
-        Parameter::Stack(name) => Ok(Parameter::Stack(name.copy()?)),
-    }
+    let name = name_of_parameter(parameter).copy()?;
+    Ok(match parameter {
+        Parameter::Int(_) => Parameter::Int(name),
+        Parameter::Array(_) => Parameter::Array(name),
+        Parameter::Stack(_) => Parameter::Stack(name),
+    })
 }
 
 /// The same names in memory of their own.
@@ -73,16 +85,14 @@ fn same_declaration(declaration: &Declaration) -> Result<Declaration, AllocError
 pub(crate) fn two_names(first: &Name, second: &Name) -> Result<(Name, Name), AllocError>
     ensures { IfOk result (λ x. (name_view x.0 ≡ name_view first.now) × (name_view x.1 ≡ name_view second.now)) }
 {
-    let first = first.copy()?;
-    Ok((first, second.copy()?))
+    both(first.copy()?, second.copy())
 }
 
 /// The same two expressions in memory of their own.
 pub(crate) fn two_exps(alloc: Global, first: &Exp, second: &Exp) -> Result<(Exp, Exp), AllocError>
     ensures { IfOk result (λ x. (exp_view x.0 ≡ exp_view first.now) × (exp_view x.1 ≡ exp_view second.now)) }
 {
-    let first = first.copy(alloc)?;
-    Ok((first, second.copy(alloc)?))
+    both(first.copy(alloc)?, second.copy(alloc))
 }
 
 /// The procedure's name and the arguments of a call in memory of their own.
@@ -93,6 +103,5 @@ pub(crate) fn same_call(
 ) -> Result<(Name, Vec<Name>), AllocError>
     ensures { IfOk result (λ x. (name_view x.0 ≡ name_view called.now) × (names_view x.1.items ≡ names_view arguments.now)) }
 {
-    let arguments = same_names(alloc, arguments)?;
-    Ok((called.copy()?, arguments))
+    both(called.copy()?, same_names(alloc, arguments))
 }

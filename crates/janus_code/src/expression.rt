@@ -9,6 +9,7 @@ ghost use Rattle.janus_code.specs.Numbered.{HasItsNumber, HaveTheirNumbers, HasN
 ghost use Rattle.janus_code.specs.Met.{AreAllMet, MeetsExp};
 
 use crate::code::{FlatExp, Symbol};
+use crate::copies::both;
 use janus_names::Names;
 use janus_syntax::tree;
 use std::alloc::{AllocError, Global};
@@ -67,8 +68,7 @@ pub(crate) fn two_symbols(
     ensures texts { IfOk result (λ x. (string_bytes x.0.text ≡ name_of first.now) × (string_bytes x.1.text ≡ name_of second.now)) }
     ensures numbered { IfOk result (λ x. HasItsNumber names.now x.0 × HasItsNumber names.now x.1) }
 {
-    let first = symbol(names, first)?;
-    Ok((first, symbol(names, second)?))
+    both(symbol(names, first)?, symbol(names, second))
 }
 
 /// The name of a procedure and those of its arguments, which were met, with their numbers; an error for want of memory.
@@ -83,16 +83,14 @@ pub(crate) fn call_symbols(
     ensures texts { IfOk result (λ x. (string_bytes x.0.text ≡ name_of called.now) × (texts_of x.1.items ≡ map text_of (names_view arguments.now))) }
     ensures numbered { IfOk result (λ x. HasItsNumber names.now x.0 × HaveTheirNumbers names.now x.1.items) }
 {
-    let arguments = symbols(alloc, names, arguments)?;
-    Ok((symbol(names, called)?, arguments))
+    both(symbol(names, called)?, symbols(alloc, names, arguments))
 }
 
 /// Two symbols in memory of their own; an error for want of memory.
 pub fn two_symbol_copies(first: &Symbol, second: &Symbol) -> Result<(Symbol, Symbol), AllocError>
     ensures { IfOk result (λ x. IsSame first.now x.0 × IsSame second.now x.1) }
 {
-    let first = first.copy()?;
-    Ok((first, second.copy()?))
+    both(first.copy()?, second.copy())
 }
 
 /// The symbols of a call in memory of their own; an error for want of memory.
@@ -103,8 +101,7 @@ pub fn call_copies(
 ) -> Result<(Symbol, Vec<Symbol>), AllocError>
     ensures { IfOk result (λ x. IsSame called.now x.0 × AreSame arguments.now x.1.items) }
 {
-    let arguments = copies(alloc, arguments)?;
-    Ok((called.copy()?, arguments))
+    both(called.copy()?, copies(alloc, arguments))
 }
 
 /// An expression whose names were met, with their numbers; an error for want of memory.
@@ -168,7 +165,7 @@ pub(crate) fn two_flat_exps(
     ensures numbered { IfOk result (λ x. HasNumbers names.now x.0 × HasNumbers names.now x.1) }
 {
     let first = flat_exp(alloc, first, names)?;
-    Ok((first, flat_exp(alloc, second, names)?))
+    both(first, flat_exp(alloc, second, names))
 }
 
 /// The same expression in memory of its own; an error for want of memory.
@@ -224,6 +221,5 @@ pub fn two_copies(
 ) -> Result<(FlatExp, FlatExp), AllocError>
     ensures { IfOk result (λ x. IsCopy first.now x.0 × IsCopy second.now x.1) }
 {
-    let first = copy(alloc, first)?;
-    Ok((first, copy(alloc, second)?))
+    both(copy(alloc, first)?, copy(alloc, second))
 }

@@ -3,12 +3,15 @@
 ghost use Rattle.std.specs.Prelude.{◌≡◌, IfOk};
 ghost use Rattle.janus_meaning.specs.Syntax.{inverse_block};
 ghost use Rattle.janus_syntax.specs.View.{block_of};
-ghost use Rattle.janus_syntax.specs.Tree.{name_view, exp_view, If, Loop, LocalInt, stm_view, cell_view, procedure_view, procedures_view, block_view, Empty};
+ghost use Rattle.janus_syntax.specs.Tree.{stm_view, cell_view, procedure_view, procedures_view, block_view, Empty};
 ghost use Rattle.janus_code.specs.Cells.{opposite_of, IsOpposite, inverse_stm, inverse_cell, turned};
 
-use crate::copies::{same_call, same_declarations, same_parameters, two_exps, two_names};
+use crate::copies::{same_declarations, same_parameters};
 use crate::fault::InvertFault;
-use janus_syntax::tree::{Cell, Exp, Name, Procedure, Stm, Update};
+use crate::statements::{
+    assign_of, call_of, element_of, if_of, int_of, loop_of, pop_of, push_of, stack_of, uncall_of,
+};
+use janus_syntax::tree::{Cell, Procedure, Stm, Update};
 use std::alloc::{AllocError, Global};
 
 /// The operator that takes an assignment back.
@@ -83,95 +86,31 @@ fn inverse_statement(alloc: Global, statement: &Stm) -> Result<Stm, AllocError>
 {
     match statement {
         Stm::Skip => Ok(Stm::Skip),
-        Stm::Assign(name, update, exp) => {
-            let name = name.copy()?;
-            Ok(Stm::Assign(name, opposite(*update), exp.copy(alloc)?))
-        }
+        Stm::Assign(name, update, exp) => assign_of(alloc, name, opposite(*update), exp),
         Stm::AssignElement(name, index, update, exp) => {
-            let name = name.copy()?;
-            let (index, exp) = two_exps(alloc, index, exp)?;
-            Ok(Stm::AssignElement(name, index, opposite(*update), exp))
+            element_of(alloc, name, index, opposite(*update), exp)
         }
-        Stm::Push(variable, stack) => {
-            let (variable, stack) = two_names(variable, stack)?;
-            Ok(Stm::Pop(variable, stack))
-        }
-        Stm::Pop(variable, stack) => {
-            let (variable, stack) = two_names(variable, stack)?;
-            Ok(Stm::Push(variable, stack))
-        }
+        Stm::Push(variable, stack) => pop_of(variable, stack),
+        Stm::Pop(variable, stack) => push_of(variable, stack),
         Stm::If(test, then_part, else_part, last) => {
             let then_part = inverse_statements(alloc, then_part)?;
             let else_part = inverse_statements(alloc, else_part)?;
-            inverse_if(alloc, test, then_part, else_part, last)
+            if_of(alloc, last, then_part, else_part, test)
         }
         Stm::Loop(entry, do_part, loop_part, exit) => {
             let do_part = inverse_statements(alloc, do_part)?;
             let loop_part = inverse_statements(alloc, loop_part)?;
-            inverse_loop(alloc, entry, do_part, loop_part, exit)
+            loop_of(alloc, exit, do_part, loop_part, entry)
         }
         Stm::LocalInt(name, first, block, end, last) => {
             let block = inverse_statements(alloc, block)?;
-            inverse_int(alloc, name, first, block, end, last)
+            int_of(alloc, name, last, block, end, first)
         }
         Stm::LocalStack(name, block, end) => {
             let block = inverse_statements(alloc, block)?;
-            let (name, end) = two_names(name, end)?;
-            Ok(Stm::LocalStack(name, block, end))
+            stack_of(name, block, end)
         }
-        Stm::Call(called, arguments) => {
-            let (called, arguments) = same_call(alloc, called, arguments)?;
-            Ok(Stm::Uncall(called, arguments))
-        }
-        Stm::Uncall(called, arguments) => {
-            let (called, arguments) = same_call(alloc, called, arguments)?;
-            Ok(Stm::Call(called, arguments))
-        }
+        Stm::Call(called, arguments) => uncall_of(alloc, called, arguments),
+        Stm::Uncall(called, arguments) => call_of(alloc, called, arguments),
     }
-}
-
-/// The inverse of an `if` of these tests, whose parts are inverted.
-fn inverse_if(
-    alloc: Global,
-    test: &Exp,
-    then_part: Vec<Stm>,
-    else_part: Vec<Stm>,
-    last: &Exp,
-) -> Result<Stm, AllocError>
-    ensures { IfOk result (λ inverse. stm_view inverse ≡ If (exp_view last.now) (block_view then_part.items) (block_view else_part.items) (exp_view test.now)) }
-{
-    let (test, last) = two_exps(alloc, test, last)?;
-    Ok(Stm::If(last, then_part, else_part, test))
-}
-
-/// The inverse of a loop of these tests, whose parts are inverted.
-fn inverse_loop(
-    alloc: Global,
-    entry: &Exp,
-    do_part: Vec<Stm>,
-    loop_part: Vec<Stm>,
-    exit: &Exp,
-) -> Result<Stm, AllocError>
-    ensures { IfOk result
-        (λ inverse. stm_view inverse ≡ Loop (exp_view exit.now) (block_view do_part.items) (block_view loop_part.items) (exp_view entry.now)) }
-{
-    let (entry, exit) = two_exps(alloc, entry, exit)?;
-    Ok(Stm::Loop(exit, do_part, loop_part, entry))
-}
-
-/// The inverse of a local number, whose statements are inverted.
-fn inverse_int(
-    alloc: Global,
-    name: &Name,
-    first: &Exp,
-    block: Vec<Stm>,
-    end: &Name,
-    last: &Exp,
-) -> Result<Stm, AllocError>
-    ensures { IfOk result
-        (λ inverse. stm_view inverse ≡ LocalInt (name_view name.now) (exp_view last.now) (block_view block.items) (name_view end.now) (exp_view first.now)) }
-{
-    let (name, end) = two_names(name, end)?;
-    let (first, last) = two_exps(alloc, first, last)?;
-    Ok(Stm::LocalInt(name, last, block, end, first))
 }

@@ -21,6 +21,7 @@ mod fault;
 mod flat;
 mod inverse;
 mod procedure;
+mod statements;
 
 pub use crate::code::{Block, Code, FlatExp, FlatParameter, FlatProcedure, Statement, Symbol};
 pub use crate::expression::flat_exp;

@@ -20,7 +20,6 @@ pub mod Assignments
 pub mod Blocks
 pub mod Declared
 pub mod Pieces
-pub mod PrintedBlocks
 pub mod Views
 pub mod Follow
 pub mod LeftOut

@@ -12,6 +12,7 @@ ghost use Rattle.janus_syntax.specs.Statements.{IsDeclarationOrOther, FailsDecla
 use crate::expression::whole_expression;
 use crate::fault::What;
 use crate::item::{behind_sign, keyword_at, name, number, sign_at};
+use crate::pair::both;
 use crate::problem::Problem;
 use crate::procedure::procedures;
 use crate::statement::statements;
@@ -140,6 +141,6 @@ fn all_tokens_expression(alloc: Global, tokens: &[Token]) -> Result<Exp, Problem
     ensures { Reads (λ exp. IsTree Whole all (exp_view exp) (views tokens.now)) (Refused Whole (views tokens.now)) result }
 {
     let (exp, rest) = whole_expression(alloc, tokens, 0)?;
-    end(rest)?;
+    let (exp, _) = both(exp, end(rest))?;
     Ok(exp)
 }

@@ -13,6 +13,7 @@ ghost use Rattle.janus_syntax.specs.Reading.{Reads, IsPart, FailsPart, IsExp, Fa
 use crate::fault::What;
 use crate::item::{behind_sign, sign_at, stack};
 use crate::operator::{Infix, Joint, infix_of};
+use crate::pair::both;
 use crate::problem::Problem;
 use crate::token::{Keyword, Sign, Token, TokenKind};
 use crate::tree::{Exp, Name};
@@ -31,7 +32,7 @@ pub(crate) const DEPTH_LIMIT: usize = 64;
 fn join(alloc: Global, joint: Joint, left: Exp, right: Exp) -> Result<Exp, AllocError>
     ensures { IfOk result (λ exp. exp_view exp ≡ joined joint (exp_view left) (exp_view right)) }
 {
-    let left = Box::new(alloc, left)?;
+    let (right, left) = both(right, Box::new(alloc, left))?;
     let right = Box::new(alloc, right)?;
     Ok(match joint {
         Joint::Binary(operator) => Exp::Binary(operator, left, right),
@@ -73,7 +74,7 @@ fn operand(
                     return Err(Problem::TooNested { left: tokens.len() });
                 }
                 let (inner, used, rest) = expression(alloc, rest, WEAKEST, depth + 1, used)?;
-                let rest = behind_sign(Sign::Close, rest)?;
+                let (inner, rest) = both(inner, behind_sign(Sign::Close, rest))?;
                 Ok((inner, used, rest))
             }
             Sign::Minus => {
@@ -126,7 +127,7 @@ fn index(
         return Err(Problem::TooNested { left: tokens.len() });
     }
     let (inner, used, rest) = expression(alloc, rest, WEAKEST, depth + 1, used)?;
-    let rest = behind_sign(Sign::CloseIndex, rest)?;
+    let (inner, rest) = both(inner, behind_sign(Sign::CloseIndex, rest))?;
     Ok((Exp::Element(name, Box::new(alloc, inner)?), used, rest))
 }
 
@@ -173,8 +174,11 @@ fn expression(
             if total == OPERATOR_LIMIT {
                 return Err(Problem::TooNested { left: rest.len() });
             }
-            let (right, now_total, after) = expression(alloc, behind, stronger, depth, total + 1)?;
-            left = join(alloc, operator.joint, left, right)?;
+            let (before, (right, now_total, after)) = both(
+                left,
+                expression(alloc, behind, stronger, depth, total + 1),
+            )?;
+            left = join(alloc, operator.joint, before, right)?;
             total = now_total;
             rest = after;
         }

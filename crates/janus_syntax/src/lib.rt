@@ -20,6 +20,7 @@
 //!
 //! - `token`, `lexer`: tokens, and how they are found in a text. `tree`, `operator`: what is read, and the levels of operators.
 //! - `fault`, `problem`: why a text is refused, and why the reading of its tokens stops.
+//! - `pair`: a part that is kept only if the next is read.
 //! - `item`: single tokens. `expression`, `call`, `statement`, `procedure`, `cell`: how each is read. `parser`: whole texts.
 //! - `printer`: from a tree to its text. `laws`: the laws, each as the contract of a function that does nothing.
 //!
@@ -44,6 +45,7 @@ mod item;
 pub mod laws;
 mod lexer;
 pub mod operator;
+mod pair;
 mod parser;
 mod printer;
 mod problem;

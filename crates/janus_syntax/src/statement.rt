@@ -18,6 +18,7 @@ use crate::item::{
     behind_delocal, behind_keyword, behind_sign, keyword_at, name, sign_at, update,
     variable_and_stack,
 };
+use crate::pair::both;
 use crate::problem::Problem;
 use crate::token::{Keyword, Sign, Token, TokenKind};
 use crate::tree::{Exp, LocalKind, Name, Stm};
@@ -143,9 +144,9 @@ fn assignment(
         return Err(Problem::TooNested { left: tokens.len() });
     }
     let (index, rest) = whole_expression(alloc, rest, depth + 1)?;
-    let rest = behind_sign(Sign::CloseIndex, rest)?;
-    let (update, rest) = update(rest)?;
-    let (exp, rest) = whole_expression(alloc, rest, depth)?;
+    let (index, rest) = both(index, behind_sign(Sign::CloseIndex, rest))?;
+    let (index, (update, rest)) = both(index, update(rest))?;
+    let (index, (exp, rest)) = both(index, whole_expression(alloc, rest, depth))?;
     Ok((Stm::AssignElement(name, index, update, exp), rest))
 }
 
@@ -156,9 +157,9 @@ fn behind_if(alloc: Global, tokens: &[Token], depth: usize) -> Result<(Stm, &[To
     ensures { Reads (λ x. IsIf depth (stm_view x.0) (views tokens.now) (views x.1.now)) (FailsIf depth (views tokens.now)) result }
 {
     let (test, rest) = whole_expression(alloc, tokens, depth)?;
-    let rest = behind_keyword(Keyword::Then, rest)?;
-    let (then_part, rest) = body(alloc, rest, depth)?;
-    let (else_part, rest) = optional_body(alloc, Keyword::Else, rest, depth)?;
+    let (test, rest) = both(test, behind_keyword(Keyword::Then, rest))?;
+    let (test, (then_part, rest)) = both(test, body(alloc, rest, depth))?;
+    let (test, (else_part, rest)) = both(test, optional_body(alloc, Keyword::Else, rest, depth))?;
     end_of_if(alloc, test, then_part, else_part, rest, depth)
 }
 
@@ -175,8 +176,8 @@ fn end_of_if(
     ensures { (from : List AToken) → IsIfBegun depth (exp_view test) (block_view then_part.items) (block_view else_part.items) from (views tokens.now) →
         Reads (λ x. IsIf depth (stm_view x.0) from (views x.1.now)) (FailsIf depth from) result }
 {
-    let rest = behind_keyword(Keyword::Fi, tokens)?;
-    let (assertion, rest) = whole_expression(alloc, rest, depth)?;
+    let (test, rest) = both(test, behind_keyword(Keyword::Fi, tokens))?;
+    let (test, (assertion, rest)) = both(test, whole_expression(alloc, rest, depth))?;
     Ok((Stm::If(test, then_part, else_part, assertion), rest))
 }
 
@@ -187,8 +188,14 @@ fn behind_from(alloc: Global, tokens: &[Token], depth: usize) -> Result<(Stm, &[
     ensures { Reads (λ x. IsLoop depth (stm_view x.0) (views tokens.now) (views x.1.now)) (FailsLoop depth (views tokens.now)) result }
 {
     let (assertion, rest) = whole_expression(alloc, tokens, depth)?;
-    let (do_part, rest) = optional_body(alloc, Keyword::Do, rest, depth)?;
-    let (loop_part, rest) = optional_body(alloc, Keyword::Loop, rest, depth)?;
+    let (assertion, (do_part, rest)) = both(
+        assertion,
+        optional_body(alloc, Keyword::Do, rest, depth),
+    )?;
+    let (assertion, (loop_part, rest)) = both(
+        assertion,
+        optional_body(alloc, Keyword::Loop, rest, depth),
+    )?;
     end_of_loop(alloc, assertion, do_part, loop_part, rest, depth)
 }
 
@@ -206,8 +213,8 @@ fn end_of_loop(
         IsLoopBegun depth (exp_view assertion) (block_view do_part.items) (block_view loop_part.items) from (views tokens.now) →
         Reads (λ x. IsLoop depth (stm_view x.0) from (views x.1.now)) (FailsLoop depth from) result }
 {
-    let rest = behind_keyword(Keyword::Until, tokens)?;
-    let (test, rest) = whole_expression(alloc, rest, depth)?;
+    let (assertion, rest) = both(assertion, behind_keyword(Keyword::Until, tokens))?;
+    let (assertion, (test, rest)) = both(assertion, whole_expression(alloc, rest, depth))?;
     Ok((Stm::Loop(assertion, do_part, loop_part, test), rest))
 }
 
@@ -238,7 +245,7 @@ fn local_int(alloc: Global, tokens: &[Token], depth: usize) -> Result<(Stm, &[To
     ensures { Reads (λ x. IsLocalInt depth (stm_view x.0) (views tokens.now) (views x.1.now)) (FailsLocalInt depth (views tokens.now)) result }
 {
     let (name, exp, rest) = head_of_int(alloc, tokens, depth)?;
-    let (statements, rest) = body(alloc, rest, depth)?;
+    let (exp, (statements, rest)) = both(exp, body(alloc, rest, depth))?;
     end_of_int(alloc, name, exp, statements, rest, depth)
 }
 
@@ -271,8 +278,8 @@ fn end_of_int(
         IsPart Body depth (block_view statements.items) start (views tokens.now) →
         Reads (λ x. IsLocalInt depth (stm_view x.0) from (views x.1.now)) (FailsLocalInt depth from) result }
 {
-    let (again, rest) = behind_delocal(LocalKind::Int, &name, tokens)?;
-    let (test, rest) = whole_expression(alloc, rest, depth)?;
+    let (exp, (again, rest)) = both(exp, behind_delocal(LocalKind::Int, &name, tokens))?;
+    let (exp, (test, rest)) = both(exp, whole_expression(alloc, rest, depth))?;
     Ok((Stm::LocalInt(name, exp, statements, again, test), rest))
 }
 

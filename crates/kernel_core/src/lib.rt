@@ -29,9 +29,9 @@ pub use janus_machine::{Fault, STEP_LIMIT};
 pub use janus_syntax::SyntaxFault;
 pub use janus_syntax::token::Span;
 pub use kernel_history::View;
+pub use kernel_loader::names_in_sight;
 pub use kernel_machine::{
     Begun, CellText, Event, Extent, Job, MINUTES_LIMIT, Outcome, Phase, PostFault, QUEUE_LIMIT,
     Refusal, STEPS_OF_A_SLICE, Sliced, Told, TravelEnd,
 };
-pub use kernel_runner::names_in_sight;
 pub use machine_laws::laws;

@@ -1,6 +1,6 @@
 -- What a desk before a hall holds, and what each call leads to. What lies under the hall's lock when a call takes it can't be named, so an answer is said to be
 -- that of some legal kernel.
-use Rattle.std.specs.Prelude.{◌≡◌, ℕ, ◌+◌, ◌≤◌, ℤ, ◌<◌, Bool, true, List, [], ◌++◌, ◌⊎◌, Option, Some, None, Result, Ok, Err, length}
+use Rattle.std.specs.Prelude.{◌≡◌, ℕ, ◌+◌, ◌≤◌, ◌<◌, Bool, true, List, [], ◌++◌, ◌⊎◌, Option, Some, None, Result, Ok, Err, length}
 use Rattle.kernel_core.specs.Runs.{Machine, IsRefusal}
 use Rattle.kernel_core.specs.LegalMinutes.{IsLegalMachine}
 use Rattle.kernel_core.specs.post.PostFault.{PostFault}
@@ -19,7 +19,7 @@ use Rattle.kernel_board.specs.Log.{Log, IsLog, oldest_of}
 use Rattle.kernel_board.specs.Reads.{batch_from}
 use Rattle.kernel_session.specs.Question.{Question, question_of}
 use Rattle.kernel_session.specs.Call.{Call, Posted, Asked, Changed, Rang, Shut, Published, Kept, Dated}
-use Rattle.stamp_texts.specs.Date.{HasDate, IsDateText}
+use Rattle.stamp_texts.specs.Date.{IsDate}
 
 -- the pass, the ringer's seat, the number of the next broadcast that it reads, and whether a shutdown came
 pub record DeskState : Type 0 where
@@ -45,10 +45,6 @@ pub data AreRead (from : ℕ) : List Frames → ℕ → Type 0 where
       → AreRead from front at → IsLog k → (at < oldest_of k) → (oldest ≡ oldest_of k) → AreRead from front oldest
 
 -- ---- calls
-
--- the date of some instant
-abbrev pub IsDate : List ℕ → Type 0
-IsDate date = (instant : ℤ) × HasDate instant × IsDateText instant date
 
 -- A job that was posted is counted by the pass, and its end stands in the minutes of a legal kernel. A refused one changes nothing, and is refused by a legal
 -- kernel.

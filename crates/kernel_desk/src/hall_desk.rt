@@ -2,7 +2,6 @@
 ghost use Rattle.std.specs.Prelude.{◌≡◌, ℕ, false, IfOk};
 ghost use Rattle.kernel_desk.specs.HallDesk.{AreRead};
 
-use crate::date::present_date;
 use kernel_bell::RingerSeat;
 use kernel_board::{BROADCASTS_OF_A_READ, BoardFault, Broadcast, KEPT_BROADCASTS, Place, Read};
 use kernel_core::{Job, PostFault};
@@ -10,6 +9,7 @@ use kernel_hall::{Answer, Ask, CommChange, Done, Hall, HallFault, Pass, Wish};
 use kernel_iopub::Bulletin;
 use kernel_message::Stamp;
 use kernel_session::Desk;
+use stamp_texts::present_date;
 use std::alloc::{AllocError, Global};
 use std::marker::Model;
 use std::sync::Wait;

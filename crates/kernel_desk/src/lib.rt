@@ -8,7 +8,6 @@
 //! No contract says that a waiting thread wakes.
 #![tactic(auto)]
 
-mod date;
 mod hall_desk;
 mod quiet;
 

@@ -11,7 +11,7 @@ use Rattle.janus_syntax.specs.View.{plain_procedure}
 use Rattle.janus_syntax.specs.declared.tree.Procedure.{Procedure}
 use Rattle.janus_machine.specs.Bodies.{AreBodies}
 use Rattle.janus_machine.specs.declared.linked_procedure.LinkedProcedure as kept
-use Rattle.kernel_runner.specs.Defined.{in_a_row}
+use Rattle.kernel_loader.specs.Defined.{in_a_row}
 use Rattle.kernel_runner.specs.Runner.{ShownWorld, Shows, world_of}
 use Rattle.kernel_runner.specs.declared.runner.Runner.{Runner}
 use Rattle.kernel_machine.specs.State as state

@@ -3,7 +3,7 @@ ghost use Rattle.std.specs.Prelude.{◌≡◌, ℕ, ◌++◌, [], List, map, IfO
 ghost use Rattle.janus_meaning.specs.World.{define as defined_over};
 ghost use Rattle.janus_syntax.specs.Tree.{procedures_view};
 ghost use Rattle.janus_syntax.specs.View.{plain_procedure};
-ghost use Rattle.kernel_runner.specs.Defined.{in_a_row};
+ghost use Rattle.kernel_loader.specs.Defined.{in_a_row};
 ghost use Rattle.kernel_history.specs.Fields.{past_of, job_of, work_of};
 ghost use Rattle.kernel_history.specs.Bodies.{over_here, procedures_in};
 ghost use Rattle.kernel_history.specs.Kept.{HasPathAt, HasPathFor};

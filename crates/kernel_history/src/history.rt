@@ -11,8 +11,10 @@ ghost use Rattle.janus_names.specs.Numbers.{GoOn};
 ghost use Rattle.janus_store.specs.StoreState.{IsWhole, KeepsSight};
 ghost use Rattle.janus_machine.specs.Procedures.{kept_in};
 ghost use Rattle.kernel_machine.specs.Text.{Accepts, Refuses};
-ghost use Rattle.kernel_runner.specs.Program.{cell_of_program, IsReady, KeepsOlder};
-ghost use Rattle.kernel_runner.specs.Runner.{over, Becomes, Is, Between, KeepsShown};
+ghost use Rattle.kernel_runner.specs.Program.{cell_of_program, IsReady};
+ghost use Rattle.kernel_runner.specs.Runner.{over, Becomes, Is, Between};
+ghost use Rattle.kernel_loader.specs.Keeping.{KeepsOlder};
+ghost use Rattle.kernel_loader.specs.Loading.{KeepsShown};
 ghost use Rattle.kernel_machine.specs.Extent.{IsExtent};
 ghost use Rattle.janus_syntax.specs.Tree.{cell_view};
 ghost use Rattle.kernel_history.specs.NodeTrees.{IsTreeAt, HasNoTree};
@@ -29,6 +31,7 @@ use crate::view::View;
 use cell_tree::Tree as Cells;
 use janus_machine::{Store, Writes};
 use janus_syntax::tree::Cell;
+use kernel_loader::load;
 use kernel_machine::{
     Aim, Begun, Extent, Heading, Outcome, Refusal, Sliced, Travel, TravelEnd, Way, Why,
 };
@@ -147,7 +150,7 @@ fn prepare<L: Ledger>(
     let Ok(procedures) = procedures_here(alloc, tree, runner) else {
         return Err(Refusal::Memory);
     };
-    Program::of_text(alloc, text, &procedures, runner)
+    load(alloc, text, &procedures, runner)
 }
 
 impl<L: Ledger> History<L> {

@@ -7,7 +7,7 @@
 //! kept. `begin_cell`, `begin_undo`, `begin_redo`, `begin_goto` and `enter` are the machine's begins, `slice` is its slice, and takes no memory.
 //! `world` lends the world that is shown, `cell` the tree of a node's cell.
 //!
-//! The code, in reading order; `cell_tree` keeps the nodes, and `kernel_runner` runs a cell:
+//! The code, in reading order; `cell_tree` keeps the nodes, `kernel_loader` loads a cell's text, and `kernel_runner` runs it:
 //!
 //! - `tree`: the tree of cells with the position, and what is asked of it; `job`: the open job.
 //! - `history`: the tree, the runner and the open job in one, and how jobs begin. `settle`: the parts of a slice, and what comes at the end of a cell.

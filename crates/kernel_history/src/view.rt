@@ -4,7 +4,7 @@ ghost use Rattle.janus_meaning.specs.Store.{look};
 ghost use Rattle.janus_meaning.specs.World.{size_of, listed};
 ghost use Rattle.janus_store.specs.StoreState.{shown_store};
 ghost use Rattle.janus_store.specs.Values.{found, shown};
-ghost use Rattle.kernel_runner.specs.Defined.{in_a_row};
+ghost use Rattle.kernel_loader.specs.Defined.{in_a_row};
 ghost use Rattle.kernel_machine.specs.State.{procedures_at};
 ghost use Rattle.kernel_history.specs.Fields.{past_of, job_of};
 ghost use Rattle.kernel_history.specs.Kept.{HasPathAt};

@@ -1,27 +1,22 @@
--- What was met stays met, under its number, as names go on.
+-- What has its numbers keeps them as names go on.
 use Rattle.std.proofs.Common.{◌≡◌, ℕ, zero, suc, List, [], ◌∷◌, ◌++◌, sym, ap, ◌∙◌, subst, arith, append_assoc, string_bytes}
 use Rattle.std.specs.Prelude.{slice_get, Some, None}
 use Rattle.std.proofs.lemmas.List.{append-nil}
 use Rattle.std.proofs.lemmas.Option.{slice_get_past}
-use Rattle.janus_meaning.specs.Syntax.{Name, Stm, Blk, Skip, Set, SetAt, Push, Pop, If, From, LocalInt, LocalStack, Call, Uncall, Nil, Cons}
-use Rattle.janus_meaning.specs.World.{Declaration, declared_name}
-use Rattle.janus_names.specs.Numbers.{IsNumbered, IsMet, GoOn}
+use Rattle.janus_meaning.specs.Syntax.{Name, Proc}
+use Rattle.janus_names.specs.Numbers.{IsNumbered, GoOn}
 use Rattle.janus_code.specs.declared.code.Symbol.{Symbol}
 use Rattle.janus_code.specs.declared.code.FlatExp.{FlatExp}
 use Rattle.janus_code.specs.declared.code.FlatExp.TheVariants as exp
 use Rattle.janus_code.specs.declared.code.Statement.{Statement}
 use Rattle.janus_code.specs.declared.code.Statement.TheVariants as statement
 use Rattle.janus_code.specs.Numbered.{HasItsNumber, HaveTheirNumbers, HasNumbers, StatementHasNumbers, HaveNumbers}
-use Rattle.janus_code.specs.Met.{MeetsLocals, MeetsLocalsOf}
 use Rattle.janus_machine.specs.Places.{BookHasNumbers}
 use Rattle.janus_machine.specs.declared.book.Book.{Book}
-use Rattle.janus_meaning.specs.Syntax.{Proc, names_of}
-use Rattle.janus_code.specs.Met.{AreAllMet}
 use Rattle.janus_machine.specs.Bodies.{Define}
 use Rattle.janus_machine.specs.Procedures.{kept_in}
 use Rattle.janus_machine.specs.declared.procedures.Procedures.{Procedures}
 use Rattle.janus_machine.proofs.BodiesInEffect.{define_still, bodies_from_still}
-use Rattle.kernel_runner.specs.Met.{AreDeclaredMet, MeetOwn}
 use Rattle.kernel_runner.specs.Program.{IsReady, procedures_of}
 use Rattle.kernel_runner.specs.declared.program.Program.{Program}
 
@@ -43,9 +38,6 @@ kept (y ∷ xs) more (suc k) x e = kept xs more k x e
 
 pub same_number : (xs ys : List Name) (k : ℕ) (x : Name) → GoOn xs ys → IsNumbered xs k x → IsNumbered ys k x
 same_number xs ys k x g e = subst (λ l. slice_get l k ≡ Some x) (sym g.1) (kept xs g.0 k x e)
-
-pub still_met : (xs ys : List Name) (x : Name) → GoOn xs ys → IsMet xs x → IsMet ys x
-still_met xs ys x g m = (m.0, same_number xs ys m.0 x g m.1)
 
 -- ---- code
 
@@ -86,39 +78,6 @@ module _ (xs ys : List Name) (g : GoOn xs ys) where
 
   pub book_grows : (b : Book) → BookHasNumbers xs b → BookHasNumbers ys b
   book_grows b h = record { forward = code_grows b.forward.code.statements.items h.forward; inverse = code_grows b.inverse.code.statements.items h.inverse }
-
-  -- ---- trees
-
-  mutual
-    pub locals_grow : (c : Stm) → MeetsLocals xs c → MeetsLocals ys c
-    locals_grow Skip h = tt
-    locals_grow (Set x o e) h = tt
-    locals_grow (SetAt a i o e) h = tt
-    locals_grow (Push x y) h = tt
-    locals_grow (Pop x y) h = tt
-    locals_grow (If a s t b) h = (block_locals_grow s h.0, block_locals_grow t h.1)
-    locals_grow (From a s t b) h = (block_locals_grow s h.0, block_locals_grow t h.1)
-    locals_grow (LocalInt x a s b) h = (still_met xs ys x g h.0, block_locals_grow s h.1)
-    locals_grow (LocalStack x s) h = (still_met xs ys x g h.0, block_locals_grow s h.1)
-    locals_grow (Call f zs) h = tt
-    locals_grow (Uncall f zs) h = tt
-
-    pub block_locals_grow : (b : Blk) → MeetsLocalsOf xs b → MeetsLocalsOf ys b
-    block_locals_grow Nil h = tt
-    block_locals_grow (Cons c b) h = (locals_grow c h.0, block_locals_grow b h.1)
-
-  pub declared_grow : (ds : List Declaration) → AreDeclaredMet xs ds → AreDeclaredMet ys ds
-  declared_grow [] h = tt
-  declared_grow (d ∷ ds) h = (still_met xs ys (declared_name d) g h.0, declared_grow ds h.1)
-
-  pub all_grow : (zs : List Name) → AreAllMet xs zs → AreAllMet ys zs
-  all_grow [] h = tt
-  all_grow (z ∷ zs) h = (still_met xs ys z g h.0, all_grow zs h.1)
-
-  pub own_grow : (ps : List Proc) → MeetOwn xs ps → MeetOwn ys ps
-  own_grow [] h = tt
-  own_grow (p ∷ ps) h =
-      (record { name = still_met xs ys p.name g h.0.name; parameters = all_grow (names_of p.params) h.0.parameters; locals = block_locals_grow p.body h.0.locals }, own_grow ps h.1)
 
   -- ---- procedures
 

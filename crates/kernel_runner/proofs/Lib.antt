@@ -1,10 +1,5 @@
 pub mod Borders
-pub mod Kept
 pub mod Going
-pub mod OlderHeads
-pub mod Made
 pub mod Declaring
 pub mod Growing
-pub mod NamesMet
-pub mod Entries
 pub mod Running

@@ -3,13 +3,9 @@
 use Rattle.std.specs.Prelude.{◌≡◌, ℕ, ◌+◌, ◌-◌, ◌≤◌, Bool, true, false, List, length}
 use Rattle.janus_meaning.specs.Syntax.{Blk, Proc}
 use Rattle.janus_meaning.specs.Store.{Store}
-use Rattle.janus_meaning.specs.Shape.{shape_of, heads_of}
 use Rattle.janus_meaning.specs.World.{World, Declaration, declare, entered, stacks_in, size_of}
 use Rattle.janus_meaning.specs.Cells.{IsGoodWorld}
-use Rattle.janus_meaning.specs.FormedWorld.{HaveValues}
 use Rattle.janus_meaning.specs.Limit.{step_limit}
-use Rattle.janus_syntax.specs.Tree.{Cell}
-use Rattle.janus_check.specs.WellFormed.{IsWellFormed}
 use Rattle.janus_names.specs.Numbers.{GoOn, HaveOneNumber}
 use Rattle.janus_store.specs.StoreState.{StoreState, IsWhole, shown_store}
 use Rattle.janus_machine.specs.Open.{Agrees}
@@ -142,12 +138,6 @@ IsInside runner program is_turned = (at : Place) × Is runner (Inside program at
 
 -- ---- what its calls ask for
 
--- the cell was checked over the world that is shown
-pub record IsCheckedOver {L : Type 0} (runner : Runner L) (cell : Cell) (shown : ShownWorld) : Type 0 where
-  pub is : Is runner (Between shown)
-  pub formed : IsWellFormed (shape_of shown.world.store) (heads_of shown.world.procedures) cell
-  pub values : HaveValues shown.world.store
-
 -- the program can run from the world that is shown: it is well formed there, and its bodies are kept behind all that are defined
 pub record CanEnter {L : Type 0} (runner : Runner L) (program : Program) (from : ShownWorld) : Type 0 where
   pub is : Is runner (Between from)
@@ -217,7 +207,3 @@ GoesBack program m old new = (at : Place) → Is old (Inside program at true) �
 -- it has left the program, and shows the world in which that was entered
 abbrev pub Leaves : {L : Type 0} → Program → Runner L → Runner L → Type 0
 Leaves program old new = (to : ShownWorld) → CanLeave old program to → Is new (Between to)
-
--- it shows what it showed: names may have been met, and bodies kept
-abbrev pub KeepsShown : {L : Type 0} → Runner L → Runner L → Type 0
-KeepsShown old new = (shown : ShownWorld) → Is old (Between shown) → Is new (Between shown)

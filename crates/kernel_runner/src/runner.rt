@@ -40,9 +40,10 @@ impl<L: Ledger> Runner<L> {
         ensures is { IfOk result (λ runner. Is runner (Between (over [] empty_world))) }
         ensures none { IfOk result (λ runner. kept_in runner.procedures ≡ []) }
     {
+        let cursor = Cursor::new(alloc)?;
         Ok(Runner {
             store: Store::new(alloc)?,
-            cursor: Cursor::new(alloc)?,
+            cursor,
             procedures: Procedures::new(alloc),
         })
     }

@@ -24,3 +24,7 @@ text_of shown =
 
 abbrev pub IsDateText : ℤ → List ℕ → Type 0
 IsDateText instant text = (shown : DateTime) × Shows instant shown × (text ≡ text_of shown)
+
+-- the date of some instant
+abbrev pub IsDate : List ℕ → Type 0
+IsDate date = (instant : ℤ) × HasDate instant × IsDateText instant date

@@ -1,6 +1,6 @@
 //! Requests as a frontend signs them, and what stands in the messages that it is sent.
 use crate::octets::{message_of, text_of, wrong};
-use jupyter_msg::{Key, Message, Opened, open, seal};
+use jupyter_msg::{Key, Message, MsgFault, Opened, open, seal};
 use serde_json::Value;
 use std::alloc::{AllocError, Global};
 use std::io::Result;
@@ -64,6 +64,7 @@ fn opened(alloc: Global, frames: Vec<Vec<u8>>) -> Result<Opened> {
     match key_of(alloc, KEY) {
         Ok(key) => match open(alloc, frames, &key) {
             Ok(message) => Ok(message),
+            Err(MsgFault::Memory) => Err(AllocError.into()),
             Err(_) => Err(wrong()),
         },
         Err(error) => Err(error),

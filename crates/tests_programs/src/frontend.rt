@@ -1,11 +1,11 @@
 //! A connection to a socket of the kernel, for what a console has no words for, by a frontend of ZMTP 3.0 or 3.1.
 use crate::octets::{opening_as, wrong};
-use std::alloc::Global;
+use std::alloc::{AllocError, Global};
 use std::collections::VecDeque;
 use std::io::{Error, ErrorKind, Read, Result, Write};
 use std::net::TcpStream;
 use std::time::Duration;
-use zmtp_peer::{Peer, PeerEvent, Role};
+use zmtp_peer::{Peer, PeerEvent, PeerFault, Role};
 
 /// How long a read waits.
 const PATIENCE_MILLISECONDS: u64 = 5;
@@ -79,6 +79,7 @@ impl Frontend {
     fn take_in(&mut self, octets: &[u8]) -> Result<()> {
         match self.peer.feed(octets) {
             Ok(events) => self.take_all(events),
+            Err(PeerFault::MEMORY) => Err(AllocError.into()),
             Err(_) => Err(wrong()),
         }
     }

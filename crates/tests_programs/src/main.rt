@@ -3,21 +3,21 @@
 //! No contract says what a socket delivers, nor that an end comes. These rows run the programs from their command lines: what the consoles print,
 //! which statuses come, that an endless cell is interrupted from another connection, what comes on each socket and under which key, and that a kernel
 //! ends once a shutdown was asked for, with all its threads. Whatever connects to a kernel does so in turn by ZMTP 3.0 and by 3.1. The rows stand in
-//! the file `stdin`, the rows with their answers in the file `stdout`, in the form of `tests_rows`. A block of `3.0` or `3.1` is a visit to a kernel
-//! of its own by frontends of that version, one of `reach` such a visit by 3.1 where the kernel listens at all addresses, and the rows of any other
-//! block need no kernel. What may stand in them is said by `visit` and by `outside`.
+//! the file `stdin`, the rows with their answers in the file `stdout`, in the form of `tests_rows`. A block of `3.0` or `3.1` has a kernel
+//! of its own and frontends of that version, one of `reach` has frontends of 3.1 and a kernel that listens at all addresses, and the rows of any other
+//! block need no kernel. What may stand in them is said by `with_kernel` and by `without_kernel`.
 #![tactic(auto)]
 
 mod content;
 mod frontend;
 mod octets;
-mod outside;
 mod programs;
 mod site;
 mod streams;
 mod talk;
 mod told;
-mod visit;
+mod with_kernel;
+mod without_kernel;
 
 use programs::run_kernel;
 use site::{LOOPBACK, Site, make_site};
@@ -36,13 +36,13 @@ fn main(rt: HostRuntime) -> anyhow::Result<()> {
     let mut sheet = Sheet::new(alloc);
     for block in blocks(&text).split("\n\n") {
         if let Some(site) = begin(&rt, block, &mut sheet) {
-            // The kernel runs on a thread of its own, beside its visitors.
+            // The kernel runs on a thread of its own, beside its frontends.
             let (ran, ()) = thread::join(
                 &rt,
                 || run_kernel(&rt, alloc, &["janus-kernel", &site.path]),
-                || visit::tell(&rt, &site, block, &mut sheet),
+                || with_kernel::tell(&rt, &site, block, &mut sheet),
             );
-            visit::end(&rt, &site, &ran, &mut sheet);
+            with_kernel::end(&rt, &site, &ran, &mut sheet);
         }
         sheet.write("\n");
     }
@@ -75,7 +75,7 @@ where
         "3.1" => make_site(rt, LOOPBACK, 1, sheet),
         "reach" => make_site(rt, "0.0.0.0", 1, sheet),
         _ => {
-            outside::tell(rt, calls, sheet);
+            without_kernel::tell(rt, calls, sheet);
             None
         }
     }

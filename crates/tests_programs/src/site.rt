@@ -84,12 +84,21 @@ where
     listen_five(rt, &mut listeners)
 }
 
-/// The text of a connection file with this address and these ports.
-fn connection_text(alloc: Global, ip: &str, ports: [u16; 5], key: &str) -> Result<String> {
+/// The fields of a connection file that have these ports.
+fn fields_of(alloc: Global, ports: [u16; 5]) -> Result<String> {
     let [shell, iopub, stdin, control, heartbeat] = ports;
     Ok(format!(in alloc;
-        "{{\"transport\":\"tcp\",\"ip\":\"{ip}\",\"shell_port\":{shell},\"iopub_port\":{iopub},\"stdin_port\":{stdin},\"control_port\":{control},\"hb_port\":{heartbeat},\"key\":\"{key}\"}}"
+        "\"shell_port\":{shell},\"iopub_port\":{iopub},\"stdin_port\":{stdin},\"control_port\":{control},\"hb_port\":{heartbeat}"
     )?)
+}
+
+/// The text of a connection file with this address and these ports.
+fn connection_text(alloc: Global, ip: &str, ports: [u16; 5], key: &str) -> Result<String> {
+    let ports = fields_of(alloc, ports)?;
+    match format!(in alloc; "{{\"transport\":\"tcp\",\"ip\":\"{ip}\",{ports},\"key\":\"{key}\"}}") {
+        Ok(text) => Ok(text),
+        Err(error) => Err(error.into()),
+    }
 }
 
 /// Writes a connection file with this address and these ports.

@@ -8,6 +8,12 @@ use std::alloc::Global;
 use std::io::{ErrorKind, Result};
 use tests_rows::{cut, number, octets_of};
 
+/// Another key than that of the kernel and its frontends.
+const ANOTHER_KEY: &str = "another key";
+
+/// The type of a request that asks for a shutdown.
+const SHUTDOWN: &str = "shutdown_request";
+
 /// So often the kernel is asked for something, until it is seen.
 const ASKINGS: u32 = 1_000;
 
@@ -73,7 +79,7 @@ pub(crate) fn press(alloc: Global, frontends: &mut [Frontend], row: &str) -> Res
     }
 }
 
-/// Sends a request under the key of this text: its type.
+/// Sends a request under the key of this text.
 fn send(
     alloc: Global,
     frontend: &Frontend,
@@ -87,12 +93,19 @@ fn send(
     }
 }
 
-/// Sends the request of a row under the key of this text.
-pub(crate) fn say(alloc: Global, frontends: &mut [Frontend], key: &str, row: &str) -> Result<bool> {
+/// Sends the request of a row.
+pub(crate) fn say(alloc: Global, frontends: &mut [Frontend], row: &str) -> Result<bool> {
     let (word, row) = cut(row);
     let (msg_type, content) = cut(row);
-    send(alloc, at(frontends, word)?, key, msg_type, content)?;
+    send(alloc, at(frontends, word)?, KEY, msg_type, content)?;
     Ok(true)
+}
+
+/// Asks for a shutdown under another key, which would be replied to otherwise, and then under the kernel's: the content of the next reply.
+pub(crate) fn shut_down(alloc: Global, frontend: &mut Frontend) -> Result<String> {
+    send(alloc, frontend, ANOTHER_KEY, SHUTDOWN, "{\"restart\":true}")?;
+    send(alloc, frontend, KEY, SHUTDOWN, "{\"restart\":false}")?;
+    content_of(alloc, frontend.frames()?)
 }
 
 /// The content of the next reply.
@@ -111,6 +124,14 @@ pub(crate) fn ask(alloc: Global, frontend: &mut Frontend) -> Result<()> {
 pub(crate) fn asked(alloc: Global, frontends: &mut [Frontend], word: &str) -> Result<bool> {
     ask(alloc, at(frontends, word)?)?;
     Ok(true)
+}
+
+/// Asks on each connection what the kernel is, and hears the reply: how many there are.
+pub(crate) fn asked_on_each(alloc: Global, frontends: &mut [Frontend]) -> Result<usize> {
+    for i in 0..frontends.len() {
+        ask(alloc, &mut frontends[i])?;
+    }
+    Ok(frontends.len())
 }
 
 /// Asks on a connection what the kernel is: what the header of the reply tells, whose session is then the one that was seen before.

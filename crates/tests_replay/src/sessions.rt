@@ -12,7 +12,7 @@ use std::sync::ledger::{Blank, Ledger};
 use tests_rows::Sheet;
 
 /// Replays a session to a kernel of its own.
-pub(crate) fn replay_text(session: &str, sheet: &mut Sheet) {
+pub fn tell(session: &str, sheet: &mut Sheet) {
     match String::from_str(sheet.alloc(), session) {
         Ok(session) => replay_alone(&session, sheet),
         Err(_) => sheet.refuse(),

@@ -1,7 +1,7 @@
 //! What the rows of the crates of tests are written in: blocks of calls, words, numbers, texts with escapes and repeated parts, octets
 //! and frames.
 //!
-//! The input of such a crate is a text of blocks with an empty line between them. The first line of a block says what its rows
+//! The rows of such a crate are a text of blocks with an empty line between them. The first line of a block says what its rows
 //! are about, and behind a colon what they show. Each further line is a call: a word, and what stands behind it. What is printed
 //! are the same lines, each call with a colon and its answer. Answers are written on a [`Sheet`], which keeps that memory was refused.
 #![tactic(auto)]
@@ -19,19 +19,6 @@ pub use texts::{unescaped, written};
 /// A value as `Debug` writes it.
 pub fn shown<T: Debug>(alloc: Global, value: &T) -> Result<String, AllocError> {
     format!(in alloc; "{value:?}")
-}
-
-/// Writes two texts one behind the other.
-pub fn push_both(out: &mut String, first: &str, second: &str) -> Result<(), AllocError> {
-    out.push_str(first)?;
-    out.push_str(second)?;
-    Ok(())
-}
-
-/// Writes a call with its answer, which is a line.
-pub fn push_answer(out: &mut String, call: &str, answer: &str) -> Result<(), AllocError> {
-    push_both(out, call, ": ")?;
-    push_both(out, answer, "\n")
 }
 
 /// A word, and what stands behind it.

@@ -2,9 +2,9 @@
 //!
 //! The settings are numbers: the `size` of the pieces that come; how many `reads` succeed; how many octets are `taken` at each write; how many
 //! `writes` succeed, and whether a later one is `failing` or takes nothing; at which octet what comes is at its `end`; which number the `next` message has;
-//! whether the desk is `poor`, so that it finds no memory for an answer; and the `version` of ZMTP in the greeting that comes, its minor number and 256
+//! whether the desk is `without_memory` for an answer; and the `version` of ZMTP in the greeting that comes, its minor number and 256
 //! times its major one. Nothing fails or ends where no row says so.
-use crate::streams::{Pieces, ROOM, Sparing};
+use crate::streams::{LimitedWriter, Pieces, ROOM};
 use std::alloc::Global;
 use std::mem;
 use std::sync::atomic::AtomicUsize;
@@ -35,7 +35,7 @@ pub(crate) struct Case {
     pub is_failing: bool,
     pub end: usize,
     pub next: u64,
-    pub is_poor: bool,
+    pub is_without_memory: bool,
 }
 
 impl Case {
@@ -54,7 +54,7 @@ impl Case {
             is_failing: true,
             end: MANY,
             next: 0,
-            is_poor: false,
+            is_without_memory: false,
         }
     }
 
@@ -95,7 +95,7 @@ impl Case {
             "failing" => self.is_failing = number > 0,
             "end" => self.end = number,
             "next" => self.next = number as u64,
-            "poor" => self.is_poor = number > 0,
+            "without_memory" => self.is_without_memory = number > 0,
             _ => self.set_version(number),
         }
     }
@@ -120,8 +120,12 @@ impl Case {
     }
 
     /// The stream to which is written.
-    pub(crate) fn writer<'a>(&self, written: &'a AtomicUsize, sheet: &mut Sheet) -> Sparing<'a> {
-        Sparing {
+    pub(crate) fn writer<'a>(
+        &self,
+        written: &'a AtomicUsize,
+        sheet: &mut Sheet,
+    ) -> LimitedWriter<'a> {
+        LimitedWriter {
             octets: sheet.room(ROOM),
             size: self.taken,
             writes: self.writes,

@@ -1,7 +1,7 @@
 //! Connections before a desk without a kernel.
 use crate::case::Case;
 use crate::desk::NoKernel;
-use crate::streams::{Pieces, Sparing};
+use crate::streams::{LimitedWriter, Pieces};
 use jupyter_msg::Key;
 use kernel_board::Broadcast;
 use kernel_message::Stamp;
@@ -33,7 +33,7 @@ fn socket_of(name: &str) -> Socket {
 /// Serves what comes on a socket, and writes what is told of it.
 pub(crate) fn tell(word: &str, socket: &str, case: &Case, desk: &mut NoKernel, sheet: &mut Sheet) {
     sheet.write(": ");
-    desk.is_poor = case.is_poor;
+    desk.is_without_memory = case.is_without_memory;
     let written = AtomicUsize::new(0);
     let mut reader = case.reader(&written);
     let mut writer = case.writer(&written, sheet);
@@ -58,7 +58,7 @@ fn served(
     socket: Socket,
     case: &Case,
     reader: &mut Pieces<'_>,
-    writer: &mut Sparing<'_>,
+    writer: &mut LimitedWriter<'_>,
     desk: &mut NoKernel,
     sheet: &mut Sheet,
 ) -> Result<(), ServeFault> {

@@ -15,7 +15,7 @@ pub(crate) struct NoKernel {
     alloc: Global,
     pub kept: Vec<Broadcast>,
     /// Whether it finds no memory for an answer.
-    pub is_poor: bool,
+    pub is_without_memory: bool,
     /// What it was called for, each in a line.
     pub calls: Sheet,
 }
@@ -26,7 +26,7 @@ impl NoKernel {
         NoKernel {
             alloc,
             kept: Vec::new(alloc),
-            is_poor: false,
+            is_without_memory: false,
             calls: Sheet::new(alloc),
         }
     }
@@ -78,7 +78,7 @@ impl Desk for NoKernel {
 
     fn ask(&mut self, ask: Ask<'_>) -> Result<Answer, HallFault> {
         write_question(ask, &mut self.calls);
-        if self.is_poor {
+        if self.is_without_memory {
             return Err(HallFault::Memory);
         }
         Ok(Answer {

@@ -4,7 +4,7 @@ ghost use Rattle.std.specs.Prelude.{◌≡◌, ◌<◌};
 use crate::case::{Case, MANY};
 use crate::connections::{stamp, write_octets};
 use crate::sending::willing;
-use crate::streams::{Pieces, Sparing};
+use crate::streams::{LimitedWriter, Pieces};
 use jupyter_msg::Key;
 use kernel_ask::Comms;
 use kernel_core::Kernel;
@@ -21,12 +21,14 @@ pub(crate) fn tell_whole(case: &mut Case, sheet: &mut Sheet) {
     write_octets("\n  out: ", &case.whole, sheet);
 }
 
-/// Serves what comes before a new kernel, and writes what is told of it: that a beginning went out of what goes out where nothing fails, and
-/// of how many octets, where the writer does not fail; or what went out, where it is no beginning.
+/// Serves what comes before a new kernel, and writes what is told of it: that all went out which goes out where nothing fails, or a beginning of it,
+/// and of how many octets, where the writer does not fail; or what went out, where it is no beginning.
 pub(crate) fn tell(case: &Case, sheet: &mut Sheet) {
     let out = seen(case, sheet);
     if !case.whole.starts_with(&out) {
         write_octets("\n  out: ", &out, sheet);
+    } else if out.len() == case.whole.len() {
+        sheet.write("\n  out: all");
     } else if case.writes == MANY {
         sheet.write("\n  out: a beginning of octets ");
         sheet.show(&out.len());
@@ -91,7 +93,7 @@ fn tell_ended<L: Ledger>(
     desk: &mut LoneDesk<L>,
     connection: u64,
     mut reader: Pieces<'_>,
-    writer: &mut Sparing<'_>,
+    writer: &mut LimitedWriter<'_>,
     sheet: &mut Sheet,
 ) {
     let alloc = sheet.alloc();

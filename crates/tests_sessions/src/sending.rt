@@ -1,6 +1,6 @@
 //! In how many writes a message goes out.
 use crate::case::MANY;
-use crate::streams::{ROOM, Sparing};
+use crate::streams::{LimitedWriter, ROOM};
 use std::sync::atomic::AtomicUsize;
 use tests_rows::Sheet;
 use zmtp_wire::{octets_of_message, send_message};
@@ -20,8 +20,8 @@ pub(crate) fn tell(row: &str, sheet: &mut Sheet) {
 }
 
 /// A stream that takes all.
-pub(crate) fn willing<'a>(written: &'a AtomicUsize, sheet: &mut Sheet) -> Sparing<'a> {
-    Sparing {
+pub(crate) fn willing<'a>(written: &'a AtomicUsize, sheet: &mut Sheet) -> LimitedWriter<'a> {
+    LimitedWriter {
         octets: sheet.room(ROOM),
         size: MANY,
         writes: MANY,

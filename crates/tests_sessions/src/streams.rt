@@ -32,7 +32,7 @@ impl Read for Pieces<'_> {
 
 /// Takes a number of octets at each write, and behind a number of writes fails, or takes nothing.
 #[derive(Drop)]
-pub(crate) struct Sparing<'a> {
+pub(crate) struct LimitedWriter<'a> {
     pub octets: Vec<u8>,
     pub size: usize,
     pub writes: usize,
@@ -40,7 +40,7 @@ pub(crate) struct Sparing<'a> {
     pub written: &'a AtomicUsize,
 }
 
-impl Write for Sparing<'_> {
+impl Write for LimitedWriter<'_> {
     fn write(&mut self, buf: &[u8]) -> io::Result<usize> {
         if self.writes == 0 {
             return if self.is_failing {

@@ -171,34 +171,49 @@ fn follow_row<R: Wait>(rt: &R, board: &Board, from: usize, rest: &str, sheet: &m
     note(", missed ", &account.missed, sheet);
 }
 
-/// Reads on from the start up to the end, and counts itself where it went wrong.
-fn follow_to_the_end<R: Wait>(rt: &R, board: &Board, end: u64, wrong: &AtomicU64) {
+/// Reads on from the start up to the end, and counts itself where memory was refused to it, or where it went wrong.
+fn follow_to_the_end<R: Wait>(
+    rt: &R,
+    board: &Board,
+    end: u64,
+    wrong: &AtomicU64,
+    refused: &AtomicU64,
+) {
     let account = follow(rt, board, Place { number: 0 }, end, TURNS);
-    if account.is_refused || !account.is_whole(end) {
+    if account.is_refused {
+        refused.fetch_add(1, Ordering::SeqCst);
+    } else if !account.is_whole(end) {
         wrong.fetch_add(1, Ordering::SeqCst);
     }
 }
 
-/// Publishes, while threads read on from the start: how many broadcasts got their number, and how many readers went wrong.
+/// Publishes, while threads read on from the start: how many broadcasts got their number, how many readers went wrong, and to how many memory was
+/// refused.
 fn followed_by_threads<R: Threads + Wait + Sync>(
     rt: &R,
     alloc: Global,
     board: &Board,
     readers: usize,
     count: u64,
-) -> (Result<u64, AllocError>, u64) {
-    let wrong = AtomicU64::new(0);
-    let wrong_seen = &wrong;
+) -> (Result<u64, AllocError>, u64, u64) {
+    let (wrong, refused) = (AtomicU64::new(0), AtomicU64::new(0));
+    let (wrong_seen, refused_seen) = (&wrong, &refused);
     let published = thread::scope(thread::scope_env(), rt, |scope| {
         for _ in 0..readers {
-            let started = scope.spawn(move || follow_to_the_end(rt, board, count, wrong_seen));
+            let started = scope.spawn(move || follow_to_the_end(
+                rt,
+                board,
+                count,
+                wrong_seen,
+                refused_seen,
+            ));
             if started.is_err() {
                 wrong_seen.fetch_add(1, Ordering::SeqCst);
             }
         }
         published(rt, alloc, board, 0, count)
     });
-    (published, wrong.into_inner())
+    (published, wrong.into_inner(), refused.into_inner())
 }
 
 /// Publishes while readers on threads read on, and writes what came of it.
@@ -210,11 +225,11 @@ fn followed<R: Threads + Wait + Sync>(
     sheet: &mut Sheet,
 ) {
     match followed_by_threads(rt, sheet.alloc(), board, readers, count as u64) {
-        (Ok(count), wrong) => {
+        (Ok(count), wrong, 0) => {
             note("published ", &count, sheet);
             note(", wrong ", &wrong, sheet);
         }
-        (Err(_), _) => sheet.refuse(),
+        _ => sheet.refuse(),
     }
 }
 

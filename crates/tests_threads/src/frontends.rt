@@ -8,7 +8,7 @@
 //! counter, the node, the shown text and the values of its job. `state` (a pass) gives how many minutes the hall has seen and the shown world,
 //! `comms` (a pass) the same with the open comms; `open` and `close` (a pass, and an id) whether a comm was opened or closed. `shut` shuts the hall.
 //! `lose` loses the last pass, which it gives. `first` (a ticket) puts a ticket to the front of the others. `claim` (three numbers, and a code)
-//! claims a ticket of a cell. `bend` makes the last end another one: what it was.
+//! claims a ticket of a cell. `alter` gives the outcome of the last end, and puts another one in its place.
 use crate::lines::note;
 use kernel_ask::{Answer, Ask, Content, Done, HallFault, Wish};
 use kernel_core::{CellText, Job, Outcome, PostFault};
@@ -93,7 +93,7 @@ fn change<L: Ledger>(away: &mut Away<L>, word: &str, rest: &str, sheet: &mut She
         "lose" => lose(&mut away.passes, sheet),
         "first" => first(&mut away.tickets, rest, sheet),
         "claim" => claim(&mut away.tickets, rest, sheet),
-        _ => bend(&mut away.dones, sheet),
+        _ => alter(&mut away.dones, sheet),
     }
 }
 
@@ -360,8 +360,8 @@ fn claim(tickets: &mut Vec<Ticket>, row: &str, sheet: &mut Sheet) {
     }
 }
 
-/// Makes the last end another one.
-fn bend(dones: &mut Vec<Done>, sheet: &mut Sheet) {
+/// Writes the outcome of the last end, and puts another one in its place.
+fn alter(dones: &mut Vec<Done>, sheet: &mut Sheet) {
     if let Some(done) = dones.last_mut() {
         sheet.show(&done.outcome);
         done.outcome = Outcome::Ran(2, 4);

@@ -3,8 +3,8 @@
 //! steps.
 use crate::frontends::{Away, job_of};
 use crate::lines::note;
-use kernel_ask::Done;
-use kernel_core::Outcome;
+use kernel_ask::{Done, HallFault};
+use kernel_core::{Outcome, PostFault, Refusal};
 use kernel_hall::{Hall, Pass, Ticket};
 use std::alloc::Global;
 use std::sync::ledger::Ledger;
@@ -22,11 +22,34 @@ impl<L: Ledger> Away<L> {
         self.wrong = self.wrong.saturating_add(1);
     }
 
+    /// Takes in why a post was refused: for want of memory, or otherwise than it is to be.
+    fn note_refused_post(&mut self, fault: PostFault) {
+        match fault {
+            PostFault::Memory => self.is_refused = true,
+            _ => self.note_wrong(),
+        }
+    }
+
+    /// Takes in why there is no pass: for want of memory, or otherwise than it is to be.
+    fn note_no_pass(&mut self, fault: HallFault) {
+        match fault {
+            HallFault::Memory => self.is_refused = true,
+            HallFault::NoPass => self.note_wrong(),
+        }
+    }
+
+    /// Takes in the outcome of a job.
+    fn note_outcome(&mut self, outcome: Outcome) {
+        match outcome {
+            Outcome::Ran(_, 3) => {}
+            Outcome::Refused(Refusal::Memory) => self.is_refused = true,
+            _ => self.note_wrong(),
+        }
+    }
+
     /// Keeps a ticket and what came of its job.
     fn keep_done(&mut self, ticket: Ticket, done: Done) {
-        if !matches!(done.outcome, Outcome::Ran(_, 3)) {
-            self.note_wrong();
-        }
+        self.note_outcome(done.outcome);
         let is_kept = is_pushed(&mut self.tickets, ticket);
         self.is_refused = self.is_refused || !is_kept;
         let is_kept = is_pushed(&mut self.dones, done);
@@ -70,8 +93,8 @@ fn post_once<W: Ledger, L: Ledger, R: Wait>(
                 wait(rt, hall, all, ticket);
                 own
             }
-            Err((_, own)) => {
-                all.lock(rt).note_wrong();
+            Err((fault, own)) => {
+                all.lock(rt).note_refused_post(fault);
                 own
             }
         },
@@ -82,6 +105,21 @@ fn post_once<W: Ledger, L: Ledger, R: Wait>(
     }
 }
 
+/// Posts the job for this pass and waits for it, a number of times.
+fn post_for<W: Ledger, L: Ledger, R: Wait>(
+    rt: &R,
+    alloc: Global,
+    hall: &Hall<W, L>,
+    all: &Mutex<Away<L>>,
+    mut own: Pass<L>,
+    times: usize,
+) {
+    for _ in 0..times {
+        own = post_once(rt, alloc, hall, all, own);
+    }
+    all.lock(rt).keep_pass(own);
+}
+
 /// Posts the job for a new pass and waits for it, a number of times.
 fn post_often<W: Ledger, L: Ledger, R: Wait>(
     rt: &R,
@@ -90,14 +128,12 @@ fn post_often<W: Ledger, L: Ledger, R: Wait>(
     all: &Mutex<Away<L>>,
     times: usize,
 ) {
-    let Ok(mut own) = hall.pass(rt) else {
-        all.lock(rt).note_wrong();
-        return;
-    };
-    for _ in 0..times {
-        own = post_once(rt, alloc, hall, all, own);
+    match hall.pass(rt) {
+        Ok(own) => post_for(rt, alloc, hall, all, own, times),
+        Err(fault) => {
+            all.lock(rt).note_no_pass(fault);
+        }
     }
-    all.lock(rt).keep_pass(own);
 }
 
 /// Each of the threads posts.

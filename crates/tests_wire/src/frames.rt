@@ -43,7 +43,7 @@ pub(crate) fn write_sent(octets: Result<Vec<u8>, WireFault>, sheet: &mut Sheet) 
 fn tell_pong(context: &[u8], sheet: &mut Sheet) {
     match Frame::pong(sheet.alloc(), context) {
         Ok(pong) => write_sent(pong.write(sheet.alloc()), sheet),
-        Err(_) => sheet.refuse(),
+        Err(_) => sheet.write(WireFault::Memory.name()),
     }
 }
 

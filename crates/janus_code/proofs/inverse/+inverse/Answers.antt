@@ -7,19 +7,19 @@ use Rattle.janus_code.proofs.inverse.+inverse.Goals as goal
 
 pub inverse_statement-returns-in_ok-else_part-in-If : goal.inverse_statement-returns-in_ok-else_part-in-If
 inverse_statement-returns-in_ok-else_part-in-If t c =
-    if_ok c.inverse_if.result (λ inverse h.
+    if_ok c.if_of.result (λ inverse h.
     h ∙ if_turned c.in-If.test c.in-If.last c.in-If.then_part c.in-If.else_part c.in_ok-then_part-in-If.then_part c.in_ok-else_part-in-If.else_part
     (c.in_ok-then_part-in-If.ensures ∙ ap (λ b. turned (block_view b) Empty) c.deref.ensures.value)
     (c.in_ok-else_part-in-If.ensures ∙ ap (λ b. turned (block_view b) Empty) c.deref-in-If.ensures.value)
-    ∙ ap (λ s. inverse_stm (stm_view s)) (sym c.in-If.is)) c.inverse_if.ensures
+    ∙ ap (λ s. inverse_stm (stm_view s)) (sym c.in-If.is)) c.if_of.ensures
 
 pub inverse_statement-returns-in_ok-loop_part-in-Loop : goal.inverse_statement-returns-in_ok-loop_part-in-Loop
 inverse_statement-returns-in_ok-loop_part-in-Loop t c =
-    if_ok c.inverse_loop.result (λ inverse h.
+    if_ok c.loop_of.result (λ inverse h.
     h ∙ loop_turned c.in-Loop.entry c.in-Loop.exit c.in-Loop.do_part c.in-Loop.loop_part c.in_ok-do_part-in-Loop.do_part c.in_ok-loop_part-in-Loop.loop_part
     (c.in_ok-do_part-in-Loop.ensures ∙ ap (λ b. turned (block_view b) Empty) c.deref-in-Loop.ensures.value)
     (c.in_ok-loop_part-in-Loop.ensures ∙ ap (λ b. turned (block_view b) Empty) c.deref-in-Loop-2.ensures.value)
-    ∙ ap (λ s. inverse_stm (stm_view s)) (sym c.in-Loop.is)) c.inverse_loop.ensures
+    ∙ ap (λ s. inverse_stm (stm_view s)) (sym c.in-Loop.is)) c.loop_of.ensures
 
 pub inverse_statements-loop-i-preserved : goal.inverse_statements-loop-i-preserved
 inverse_statements-loop-i-preserved t c =
@@ -27,14 +27,14 @@ inverse_statements-loop-i-preserved t c =
 
 pub inverse_statement-returns-in_ok-block-in-LocalInt : goal.inverse_statement-returns-in_ok-block-in-LocalInt
 inverse_statement-returns-in_ok-block-in-LocalInt t c =
-    if_ok c.inverse_int.result (λ inverse h.
+    if_ok c.int_of.result (λ inverse h.
     h ∙ local_int_turned c.in-LocalInt.name c.in-LocalInt.end c.in-LocalInt.first c.in-LocalInt.last c.in-LocalInt.block c.in_ok-block-in-LocalInt.block
     (c.in_ok-block-in-LocalInt.ensures ∙ ap (λ b. turned (block_view b) Empty) c.deref-in-LocalInt.ensures.value)
-    ∙ ap (λ s. inverse_stm (stm_view s)) (sym c.in-LocalInt.is)) c.inverse_int.ensures
+    ∙ ap (λ s. inverse_stm (stm_view s)) (sym c.in-LocalInt.is)) c.int_of.ensures
 
-pub inverse_statement-returns-in_ok-name-in-LocalStack : goal.inverse_statement-returns-in_ok-name-in-LocalStack
-inverse_statement-returns-in_ok-name-in-LocalStack t c =
-    local_stack_turned c.in-LocalStack.name c.in-LocalStack.end c.in_ok-name-in-LocalStack.name c.in_ok-name-in-LocalStack.end c.in-LocalStack.block c.in_ok-block-in-LocalStack.block
-    c.in_ok-name-in-LocalStack.ensures.0 c.in_ok-name-in-LocalStack.ensures.1
+pub inverse_statement-returns-in_ok-block-in-LocalStack : goal.inverse_statement-returns-in_ok-block-in-LocalStack
+inverse_statement-returns-in_ok-block-in-LocalStack t c =
+    if_ok c.stack_of.result (λ inverse h.
+    h ∙ local_stack_turned c.in-LocalStack.name c.in-LocalStack.end c.in-LocalStack.block c.in_ok-block-in-LocalStack.block
     (c.in_ok-block-in-LocalStack.ensures ∙ ap (λ b. turned (block_view b) Empty) c.deref-in-LocalStack.ensures.value)
-    ∙ ap (λ s. inverse_stm (stm_view s)) (sym c.in-LocalStack.is)
+    ∙ ap (λ s. inverse_stm (stm_view s)) (sym c.in-LocalStack.is)) c.stack_of.ensures

@@ -9,10 +9,10 @@ returns-in_err-exp c =
     let p = err_from_is_err_and c.from_residual.result c.from_residual.ensures.1 in
     rw (p.1, p.2) (passes_on _ _ c.in_err-exp.field-0.0 c.in_err-exp.ensures (λ out f. exp_stops (views c.args.tokens.now) out f))
 
-pub returns-in_err-end : goal.returns-in_err-end
-returns-in_err-end c =
-    let p = err_from_is_err_and c.from_residual-in_err-end.result c.from_residual-in_err-end.ensures.1 in
-    rw (p.1, p.2) (passes_on _ _ c.in_err-end.field-0.0 c.in_err-end.ensures (λ out f. exp_stops_end out c.in_ok-exp.ensures f))
+pub returns-in_err-exp-2 : goal.returns-in_err-exp-2
+returns-in_err-exp-2 c =
+    let p = err_from_is_err_and c.from_residual-in_err-exp-2.result c.from_residual-in_err-exp-2.ensures.1 in
+    rw (p.1, p.2) (passes_on _ _ c.in_err-exp-2.field-0.0 (rw c.in_err-exp-2.ensures at c.end.ensures) (λ out f. exp_stops_end out c.in_ok-exp.ensures f))
 
 pub returns : goal.returns
-returns c = exp_is c.in_ok-exp.ensures c.in_ok-end.ensures
+returns c = rw c.in_ok-exp-2.ensures.0 (exp_is c.in_ok-exp.ensures (rw c.in_ok-exp-2.ensures.1 at c.end.ensures))

@@ -41,16 +41,16 @@ expression-expression-requires t c =
     let o = shorter_operator c.in-Some.ensures.found in
     (omega (arith, c.decreases, s, o), (c.requires.room, (omega (arith, k, c.if-total-eq-OPERATOR_LIMIT.false), omega (arith, c.levels-test.true, c.requires.level))))
 
-pub expression-returns-in_err-right : goal.expression-returns-in_err-right
-expression-returns-in_err-right t c =
-    let p = err_from_is_err_and c.from_residual-in_err-right.result c.from_residual-in_err-right.ensures.1 in
+pub expression-returns-in_err-before : goal.expression-returns-in_err-before
+expression-returns-in_err-before t c =
+    let p = err_from_is_err_and c.from_residual-in_err-before.result c.from_residual-in_err-before.ensures.1 in
     let k = c.operators.invariant.within in
     let few : c.operators.total < operator_limit = omega (arith, c.if-total-eq-OPERATOR_LIMIT.false, k) in
-    rw (p.1, p.2) (passes_on _ _ c.in_err-right.field-0.0 c.in_err-right.ensures (λ out f. chain_fails out c.requires.room few c.operators.invariant (next_level c.in-Some.ensures.found) f))
+    rw (p.1, p.2) (passes_on _ _ c.in_err-before.field-0.0 (rw c.in_err-before.ensures at c.expression.ensures) (λ out f. chain_fails out c.requires.room few c.operators.invariant (next_level c.in-Some.ensures.found) f))
 
 pub expression-operators-smaller : goal.expression-operators-smaller
 expression-operators-smaller t c =
-    let i = c.in_ok-right.ensures in
+    let i = (rw c.in_ok-before.ensures.1 at c.expression.ensures) in
     let s = i.shorter in
     let o = shorter_operator c.in-Some.ensures.found in
     omega (arith, s, o)
@@ -59,7 +59,7 @@ pub expression-operators-preserved : goal.expression-operators-preserved
 expression-operators-preserved t c =
     let k = c.operators.invariant.within in
     let few : c.operators.total < operator_limit = omega (arith, c.if-total-eq-OPERATOR_LIMIT.false, k) in
-    rw (c.in_ok-left-2.ensures) (chain_goes_on c.requires.room few c.operators.invariant (next_level c.in-Some.ensures.found) c.in_ok-right.ensures)
+    rw (c.in_ok-left-2.ensures, c.in_ok-before.ensures.0) (chain_goes_on c.requires.room few c.operators.invariant (next_level c.in-Some.ensures.found) (rw c.in_ok-before.ensures.1 at c.expression.ensures))
 
 pub expression-levels-preserved : goal.expression-levels-preserved
 expression-levels-preserved t c = chain_ends_there c.in_default.ensures.none c.operators.invariant
@@ -74,11 +74,11 @@ operand-returns-in_err-inner-in-Open t c =
     rw (p.1, p.2) (passes_on _ _ c.in_err-inner-in-Open.field-0.0 c.in_err-inner-in-Open.ensures
     (λ out f. subst (λ ts. FailsExp 0 c.args.depth c.args.used ts out) (sym e) (group_fails c.in-Some.first.now.span c.args.depth c.args.used (views c.in-Some.rest.now) out (omega (arith, c.requires.room, c.if-depth-eq-DEPTH_LIMIT.false)) c.requires.few f)))
 
-pub operand-returns-in_err-rest-in-Open : goal.operand-returns-in_err-rest-in-Open
-operand-returns-in_err-rest-in-Open t c =
-    let p = err_from_is_err_and c.from_residual-in_err-rest-in-Open.result c.from_residual-in_err-rest-in-Open.ensures.1 in
+pub operand-returns-in_err-inner-in-Open-2 : goal.operand-returns-in_err-inner-in-Open-2
+operand-returns-in_err-inner-in-Open-2 t c =
+    let p = err_from_is_err_and c.from_residual-in_err-inner-in-Open-2.result c.from_residual-in_err-inner-in-Open-2.ensures.1 in
     let e = first_token c.args.tokens.now c.in-Some.rest.now c.in-Some.first.now (kinds.Sign sign.Open) c.in-Some.ensures.cases (c.in-Sign.is ∙ ap kinds.Sign c.in-Open.is) in
-    rw (p.1, p.2) (passes_on _ _ c.in_err-rest-in-Open.field-0.0 c.in_err-rest-in-Open.ensures
+    rw (p.1, p.2) (passes_on _ _ c.in_err-inner-in-Open-2.field-0.0 (rw c.in_err-inner-in-Open-2.ensures at c.behind_sign.ensures)
     (λ out f. subst (λ ts. FailsExp 0 c.args.depth c.args.used ts out) (sym e) (group_open c.in-Some.first.now.span c.args.depth c.args.used out (omega (arith, c.requires.room, c.if-depth-eq-DEPTH_LIMIT.false)) c.requires.few c.in_ok-inner-in-Open.ensures f)))
 
 pub operand-returns-in_err-inner-in-Minus : goal.operand-returns-in_err-inner-in-Minus
@@ -93,10 +93,10 @@ operand-returns-in_ok-clone-in-Name t c =
     let e = first_token c.args.tokens.now c.in-Some.rest.now c.in-Some.first.now (kinds.Name c.in-Name.text) c.in-Some.ensures.cases c.in-Name.is in
     rw e (name_result _ _ c.args.depth c.args.used (views c.in-Some.rest.now) c.index.result c.requires.room c.requires.few (rw (sym c.in_ok-clone-in-Name.ensures.cases) c.index.ensures))
 
-pub operand-returns-in_ok-rest-in-Open : goal.operand-returns-in_ok-rest-in-Open
-operand-returns-in_ok-rest-in-Open t c =
+pub operand-returns-in_ok-inner-in-Open-2 : goal.operand-returns-in_ok-inner-in-Open-2
+operand-returns-in_ok-inner-in-Open-2 t c =
     let e = first_token c.args.tokens.now c.in-Some.rest.now c.in-Some.first.now (kinds.Sign sign.Open) c.in-Some.ensures.cases (c.in-Sign.is ∙ ap kinds.Sign c.in-Open.is) in
-    rw e (group_is _ c.args.depth c.args.used (omega (arith, c.requires.room, c.if-depth-eq-DEPTH_LIMIT.false)) c.requires.few c.in_ok-inner-in-Open.ensures c.in_ok-rest-in-Open.ensures)
+    rw (e, c.in_ok-inner-in-Open-2.ensures.0) (group_is _ c.args.depth c.args.used (omega (arith, c.requires.room, c.if-depth-eq-DEPTH_LIMIT.false)) c.requires.few c.in_ok-inner-in-Open.ensures (rw c.in_ok-inner-in-Open-2.ensures.1 at c.behind_sign.ensures))
 
 pub operand-returns-in_ok-new-in-Minus : goal.operand-returns-in_ok-new-in-Minus
 operand-returns-in_ok-new-in-Minus t c =
@@ -110,11 +110,11 @@ index-returns-in_err-inner t c =
     rw (p.1, p.2) (passes_on _ _ c.in_err-inner.field-0.0 c.in_err-inner.ensures
     (λ out f. subst (λ ts. FailsIndexed c.args.depth c.args.used (name_view c.args.name) ts out) (sym b.is) (index_fails b.at (name_view c.args.name) c.args.depth c.args.used (views c.in-Some.rest.now) out (omega (arith, c.requires.room, c.if-depth-eq-DEPTH_LIMIT.false)) c.requires.few f)))
 
-pub index-returns-in_err-rest : goal.index-returns-in_err-rest
-index-returns-in_err-rest t c =
-    let p = err_from_is_err_and c.from_residual-in_err-rest.result c.from_residual-in_err-rest.ensures.1 in
+pub index-returns-in_err-inner-2 : goal.index-returns-in_err-inner-2
+index-returns-in_err-inner-2 t c =
+    let p = err_from_is_err_and c.from_residual-in_err-inner-2.result c.from_residual-in_err-inner-2.ensures.1 in
     let b = c.in-Some.ensures.found in
-    rw (p.1, p.2) (passes_on _ _ c.in_err-rest.field-0.0 c.in_err-rest.ensures
+    rw (p.1, p.2) (passes_on _ _ c.in_err-inner-2.field-0.0 (rw c.in_err-inner-2.ensures at c.behind_sign.ensures)
     (λ out f. subst (λ ts. FailsIndexed c.args.depth c.args.used (name_view c.args.name) ts out) (sym b.is) (index_open b.at (name_view c.args.name) c.args.depth c.args.used out (omega (arith, c.requires.room, c.if-depth-eq-DEPTH_LIMIT.false)) c.requires.few c.in_ok-inner.ensures f)))
 
 pub index-returns-in_default : goal.index-returns-in_default
@@ -123,4 +123,4 @@ index-returns-in_default t c = no_index_is (name_view c.args.name) c.args.depth 
 pub index-returns : goal.index-returns
 index-returns t c =
     let b = c.in-Some.ensures.found in
-    rw (b.is, c.in_ok-new.ensures.ok) (index_is b.at (name_view c.args.name) c.args.depth c.args.used (omega (arith, c.requires.room, c.if-depth-eq-DEPTH_LIMIT.false)) c.requires.few c.in_ok-inner.ensures c.in_ok-rest.ensures)
+    rw (b.is, c.in_ok-new.ensures.ok, c.in_ok-inner-2.ensures.0) (index_is b.at (name_view c.args.name) c.args.depth c.args.used (omega (arith, c.requires.room, c.if-depth-eq-DEPTH_LIMIT.false)) c.requires.few c.in_ok-inner.ensures (rw c.in_ok-inner-2.ensures.1 at c.behind_sign.ensures))

@@ -1,12 +1,10 @@
-use Rattle.std.proofs.Common.{◌≡◌, ◌-◌, ◌≤◌, length, take}
+use Rattle.std.proofs.Common.{drop}
 use Rattle.janus_syntax.specs.Tree.{declarations_view}
-use Rattle.janus_syntax.specs.Printed.{line_view}
-use Rattle.janus_syntax.specs.Printing.{with_pieces, declarations_pieces}
+use Rattle.janus_syntax.specs.Printed.{Adds}
+use Rattle.janus_syntax.specs.Printing.{declarations_pieces}
+use Rattle.janus_syntax.specs.declared.printer.Line as code
 use Rattle.janus_syntax.proofs.printer.put_declarations.Given as goal
 
--- the first n declarations are printed
-abbrev pub invariant-declarations : goal.invariant-declarations
-invariant-declarations l = (l.n ≤ length l.declarations) × (line_view l.line ≡ with_pieces (line_view l.fn.line) (declarations_pieces (declarations_view (take l.n l.declarations))))
-
-abbrev pub decreases-declarations : goal.decreases-declarations
-decreases-declarations l = length l.declarations - l.n
+-- what is left makes of the line what all make of the first
+abbrev pub invariant-loop-i : goal.invariant-loop-i
+invariant-loop-i l = (end : code.Line) → Adds l.line end (declarations_pieces (declarations_view (drop l.i l.declarations))) → Adds l.fn.line end (declarations_pieces (declarations_view l.declarations))

@@ -17,49 +17,51 @@ use Rattle.janus_syntax.proofs.Locals.{int_stops_body, stack_stops_body, local_i
 use Rattle.janus_syntax.proofs.Constructs.{if_result, from_result, local_result, is_local}
 use Rattle.janus_syntax.proofs.statement.+statement.Goals as goal
 
-pub behind_if-returns-in_err-rest : goal.behind_if-returns-in_err-rest
-behind_if-returns-in_err-rest t c =
-    let p = err_from_is_err_and c.from_residual-in_err-rest.result c.from_residual-in_err-rest.ensures.1 in
-    rw (p.1, p.2) (passes_on _ _ c.in_err-rest.field-0.0 c.in_err-rest.ensures (λ out f. if_stops_then c.args.depth c.requires out c.in_ok-test.ensures f))
+pub behind_if-returns-in_err-test-2 : goal.behind_if-returns-in_err-test-2
+behind_if-returns-in_err-test-2 t c =
+    let p = err_from_is_err_and c.from_residual-in_err-test-2.result c.from_residual-in_err-test-2.ensures.1 in
+    rw (p.1, p.2) (passes_on _ _ c.in_err-test-2.field-0.0 (rw c.in_err-test-2.ensures at c.behind_keyword.ensures) (λ out f. if_stops_then c.args.depth c.requires out c.in_ok-test.ensures f))
 
-pub behind_if-returns-in_err-then_part : goal.behind_if-returns-in_err-then_part
-behind_if-returns-in_err-then_part t c =
-    let p = err_from_is_err_and c.from_residual-in_err-then_part.result c.from_residual-in_err-then_part.ensures.1 in
-    rw (p.1, p.2) (passes_on _ _ c.in_err-then_part.field-0.0 c.in_err-then_part.ensures (λ out f. if_stops_body c.args.depth c.requires out c.in_ok-test.ensures c.in_ok-rest.ensures f))
+pub behind_if-returns-in_err-test-3 : goal.behind_if-returns-in_err-test-3
+behind_if-returns-in_err-test-3 t c =
+    let p = err_from_is_err_and c.from_residual-in_err-test-3.result c.from_residual-in_err-test-3.ensures.1 in
+    rw (p.1, p.2) (passes_on _ _ c.in_err-test-3.field-0.0 (rw c.in_err-test-3.ensures at c.body.ensures) (λ out f. if_stops_body c.args.depth c.requires out c.in_ok-test.ensures (rw c.in_ok-test-2.ensures.1 at c.behind_keyword.ensures) f))
 
-pub behind_if-returns-in_err-else_part : goal.behind_if-returns-in_err-else_part
-behind_if-returns-in_err-else_part t c =
-    let p = err_from_is_err_and c.from_residual-in_err-else_part.result c.from_residual-in_err-else_part.ensures.1 in
-    rw (p.1, p.2) (passes_on _ _ c.in_err-else_part.field-0.0 c.in_err-else_part.ensures (λ out f. if_stops_else c.args.depth c.requires out c.in_ok-test.ensures c.in_ok-rest.ensures c.in_ok-then_part.ensures f))
+pub behind_if-returns-in_err-test-4 : goal.behind_if-returns-in_err-test-4
+behind_if-returns-in_err-test-4 t c =
+    let p = err_from_is_err_and c.from_residual-in_err-test-4.result c.from_residual-in_err-test-4.ensures.1 in
+    rw (p.1, p.2) (passes_on _ _ c.in_err-test-4.field-0.0 (rw c.in_err-test-4.ensures at c.optional_body.ensures) (λ out f. if_stops_else c.args.depth c.requires out c.in_ok-test.ensures (rw c.in_ok-test-2.ensures.1 at c.behind_keyword.ensures) (rw c.in_ok-test-3.ensures.1 at c.body.ensures) f))
 
 pub behind_if-returns : goal.behind_if-returns
 behind_if-returns t c =
     c.end_of_if.ensures (views c.args.tokens.now)
-    (record { behind_test = _; behind_then = _; behind_part = _; test = c.in_ok-test.ensures; then_keyword = c.in_ok-rest.ensures; then_part = c.in_ok-then_part.ensures; else_part = c.in_ok-else_part.ensures })
+    (rw (c.in_ok-test-4.ensures.0, c.in_ok-test-3.ensures.0, c.in_ok-test-2.ensures.0)
+    (record { behind_test = _; behind_then = _; behind_part = _; test = c.in_ok-test.ensures; then_keyword = (rw c.in_ok-test-2.ensures.1 at c.behind_keyword.ensures); then_part = (rw c.in_ok-test-3.ensures.1 at c.body.ensures); else_part = (rw c.in_ok-test-4.ensures.1 at c.optional_body.ensures) }))
 
-pub behind_from-returns-in_err-do_part : goal.behind_from-returns-in_err-do_part
-behind_from-returns-in_err-do_part t c =
-    let p = err_from_is_err_and c.from_residual-in_err-do_part.result c.from_residual-in_err-do_part.ensures.1 in
-    rw (p.1, p.2) (passes_on _ _ c.in_err-do_part.field-0.0 c.in_err-do_part.ensures (λ out f. from_stops_do c.args.depth c.requires out c.in_ok-assertion.ensures f))
+pub behind_from-returns-in_err-assertion-2 : goal.behind_from-returns-in_err-assertion-2
+behind_from-returns-in_err-assertion-2 t c =
+    let p = err_from_is_err_and c.from_residual-in_err-assertion-2.result c.from_residual-in_err-assertion-2.ensures.1 in
+    rw (p.1, p.2) (passes_on _ _ c.in_err-assertion-2.field-0.0 (rw c.in_err-assertion-2.ensures at c.optional_body.ensures) (λ out f. from_stops_do c.args.depth c.requires out c.in_ok-assertion.ensures f))
 
-pub behind_from-returns-in_err-loop_part : goal.behind_from-returns-in_err-loop_part
-behind_from-returns-in_err-loop_part t c =
-    let p = err_from_is_err_and c.from_residual-in_err-loop_part.result c.from_residual-in_err-loop_part.ensures.1 in
-    rw (p.1, p.2) (passes_on _ _ c.in_err-loop_part.field-0.0 c.in_err-loop_part.ensures (λ out f. from_stops_loop c.args.depth c.requires out c.in_ok-assertion.ensures c.in_ok-do_part.ensures f))
+pub behind_from-returns-in_err-assertion-3 : goal.behind_from-returns-in_err-assertion-3
+behind_from-returns-in_err-assertion-3 t c =
+    let p = err_from_is_err_and c.from_residual-in_err-assertion-3.result c.from_residual-in_err-assertion-3.ensures.1 in
+    rw (p.1, p.2) (passes_on _ _ c.in_err-assertion-3.field-0.0 (rw c.in_err-assertion-3.ensures at c.optional_body-2.ensures) (λ out f. from_stops_loop c.args.depth c.requires out c.in_ok-assertion.ensures (rw c.in_ok-assertion-2.ensures.1 at c.optional_body.ensures) f))
 
 pub behind_from-returns : goal.behind_from-returns
 behind_from-returns t c =
     c.end_of_loop.ensures (views c.args.tokens.now)
-    (record { behind_test = _; behind_part = _; assertion = c.in_ok-assertion.ensures; do_part = c.in_ok-do_part.ensures; loop_part = c.in_ok-loop_part.ensures })
+    (rw (c.in_ok-assertion-3.ensures.0, c.in_ok-assertion-2.ensures.0)
+    (record { behind_test = _; behind_part = _; assertion = c.in_ok-assertion.ensures; do_part = (rw c.in_ok-assertion-2.ensures.1 at c.optional_body.ensures); loop_part = (rw c.in_ok-assertion-3.ensures.1 at c.optional_body-2.ensures) }))
 
-pub local_int-returns-in_err-statements : goal.local_int-returns-in_err-statements
-local_int-returns-in_err-statements t c =
-    let p = err_from_is_err_and c.from_residual-in_err-statements.result c.from_residual-in_err-statements.ensures.1 in
+pub local_int-returns-in_err-exp : goal.local_int-returns-in_err-exp
+local_int-returns-in_err-exp t c =
+    let p = err_from_is_err_and c.from_residual-in_err-exp.result c.from_residual-in_err-exp.ensures.1 in
     let h = c.in_ok-name.ensures in
-    rw (p.1, p.2) (passes_on _ _ c.in_err-statements.field-0.0 c.in_err-statements.ensures (λ out f. int_stops_body c.args.depth out h.name h.equals h.first f))
+    rw (p.1, p.2) (passes_on _ _ c.in_err-exp.field-0.0 (rw c.in_err-exp.ensures at c.body.ensures) (λ out f. int_stops_body c.args.depth out h.name h.equals h.first f))
 
 pub local_int-returns : goal.local_int-returns
-local_int-returns t c = c.end_of_int.ensures (views c.args.tokens.now) _ c.in_ok-name.ensures c.in_ok-statements.ensures
+local_int-returns t c = c.end_of_int.ensures (views c.args.tokens.now) _ (rw c.in_ok-exp.ensures.0 c.in_ok-name.ensures) (rw c.in_ok-exp.ensures.1 at c.body.ensures)
 
 pub local_stack-returns-in_err-name : goal.local_stack-returns-in_err-name
 local_stack-returns-in_err-name t c =

@@ -2,7 +2,7 @@ use Rattle.std.proofs.Common.{◌≡◌, ◌-◌, ◌++◌, ◌∷◌, [], ℕ, 
 use Rattle.janus_meaning.specs.World.{define}
 use Rattle.janus_syntax.specs.Tree.{procedure_view, procedures_view}
 use Rattle.janus_syntax.specs.View.{plain_procedure}
-use Rattle.kernel_runner.specs.Defined.{in_a_row}
+use Rattle.kernel_loader.specs.Defined.{in_a_row}
 use Rattle.kernel_history.proofs.Rows.{row_more, pushed}
 use Rattle.kernel_history.proofs.defined.add_newest_first.Goals as goal
 

@@ -2,7 +2,7 @@ use Rattle.std.proofs.Common.{◌≡◌, ◌≤◌, ◌++◌, length, map}
 use Rattle.janus_meaning.specs.World.{define}
 use Rattle.janus_syntax.specs.Tree.{procedures_view}
 use Rattle.janus_syntax.specs.View.{plain_procedure}
-use Rattle.kernel_runner.specs.Defined.{in_a_row}
+use Rattle.kernel_loader.specs.Defined.{in_a_row}
 use Rattle.kernel_history.specs.Fields.{past_of}
 use Rattle.kernel_machine.specs.State.{here, world_at}
 use Rattle.kernel_history.proofs.defined.all_procedures.Given as goal

@@ -2,7 +2,7 @@ use Rattle.std.proofs.Common.{◌≡◌, [], length, ap, sym, ◌∙◌, rules}
 use Rattle.janus_machine.specs.Procedures.{kept_in}
 use Rattle.kernel_history.specs.Fields.{past_of}
 use Rattle.kernel_machine.specs.State.{here}
-use Rattle.kernel_runner.specs.Defined.{in_a_row}
+use Rattle.kernel_loader.specs.Defined.{in_a_row}
 use Rattle.kernel_history.proofs.Rows.{none_kept}
 use Rattle.kernel_history.proofs.defined.procedures_here.Goals as goal
 

@@ -1,0 +1,89 @@
+-- The body that is kept of a procedure stands for it.
+use Rattle.std.proofs.Common.{◌≡◌, ◌+◌, ◌<◌, ◌≤◌, ℕ, zero, suc, List, [], ◌∷◌, ◌++◌, length, get_or, map, take, refl, sym, ap, ◌∙◌, subst, arith}
+use Rattle.std.specs.Prelude.{slice_get, Some}
+use Rattle.std.proofs.lemmas.List.{length-map}
+use Rattle.janus_machine.proofs.BodiesInEffect.{bodies_from_before, bodies_from_more}
+use Rattle.janus_meaning.specs.Limit.{parameter_limit}
+use Rattle.janus_meaning.specs.Syntax.{Name, Proc, names_of}
+use Rattle.janus_syntax.specs.Tree.{procedure_view, procedures_view}
+use Rattle.janus_syntax.specs.View.{plain_procedure}
+use Rattle.janus_syntax.specs.declared.tree.Procedure as Defined
+use Rattle.janus_code.specs.Met.{MeetsProc}
+use Rattle.kernel_loader.specs.Met.{AreProceduresMet}
+use Rattle.janus_names.specs.Numbers.{IsNumbered}
+use Rattle.janus_code.specs.CodeBlock.{code_block}
+use Rattle.janus_code.specs.Numbered.{HaveNumbers}
+use Rattle.janus_code.specs.Procedures.{param_of, params_of, proc_of, ParametersHaveNumbers, ProcedureHasNumbers}
+use Rattle.janus_code.specs.declared.code.FlatParameter.{FlatParameter}
+use Rattle.janus_code.specs.declared.code.FlatProcedure as flat
+use Rattle.janus_store.specs.Calls.{AreNamed}
+use Rattle.janus_machine.specs.Bodies.{numbers_of, IsBody, AreBodiesFrom}
+use Rattle.janus_machine.specs.Places.{block_in, BookHasNumbers}
+use Rattle.janus_machine.specs.declared.book.Direction.TheVariants.{Forward}
+use Rattle.janus_machine.specs.declared.linked_procedure.LinkedProcedure.{LinkedProcedure}
+
+parameters_named : (xs : List Name) (ps : List FlatParameter) → ParametersHaveNumbers xs ps → AreNamed xs (numbers_of ps) (names_of (params_of ps))
+parameters_named xs [] h = tt
+parameters_named xs (p ∷ ps) h = (h.0, parameters_named xs ps h.1)
+
+pub body_of_flat : (xs : List Name) (f : flat.FlatProcedure) (b : LinkedProcedure) (p : Proc) → proc_of f ≡ p → ProcedureHasNumbers xs f → length p.params ≤ parameter_limit → b.name ≡ f.name.number → b.parameters.items ≡ numbers_of f.parameters.items →
+    block_in b.book Forward ≡ code_block f.body → ((xs : List Name) → HaveNumbers xs f.body.statements.items → BookHasNumbers xs b.book) → IsNumbered xs b.name p.name × IsBody xs b p
+body_of_flat xs f b p is numbered few name parameters body books = (
+  subst (λ (p : Proc). IsNumbered xs b.name p.name) is (subst (λ k. IsNumbered xs k (proc_of f).name) (sym name) numbered.name),
+  record {
+    few = subst (λ ks. length ks ≤ parameter_limit) (sym parameters)
+        (subst (λ n. n ≤ parameter_limit) (ap (λ (p : Proc). length p.params) (sym is) ∙ length-map f.parameters.items param_of ∙ sym (length-map f.parameters.items (λ (p : FlatParameter). p.name.number))) few);
+    parameters = subst (λ ks. AreNamed xs ks (names_of p.params)) (sym parameters)
+        (subst (λ (p : Proc). AreNamed xs (numbers_of f.parameters.items) (names_of p.params)) is (parameters_named xs f.parameters.items numbered.parameters));
+    body = body ∙ ap (λ (p : Proc). p.body) is;
+    numbered = books xs numbered.body;
+  },
+)
+
+-- ---- several
+
+pub met_at : (xs : List Name) (ys : List Defined.Procedure) (i : ℕ) (y : Defined.Procedure) → i < length ys → get_or ys i y ≡ y → AreProceduresMet xs (map plain_procedure (procedures_view ys)) → MeetsProc xs (plain_procedure (procedure_view y)) × (length (plain_procedure (procedure_view y)).params ≤ parameter_limit)
+met_at xs [] i y l e h = absurd (omega arith)
+met_at xs (z ∷ ys) zero y l e h = subst (λ (z : Defined.Procedure). MeetsProc xs (plain_procedure (procedure_view z)) × (length (plain_procedure (procedure_view z)).params ≤ parameter_limit)) e h.0
+met_at xs (z ∷ ys) (suc i) y l e h = met_at xs ys i y (omega arith) e h.1
+
+procedures_more : (ys : List Defined.Procedure) (i : ℕ) (y : Defined.Procedure) → i < length ys → get_or ys i y ≡ y → map plain_procedure (procedures_view (take (suc i) ys)) ≡ map plain_procedure (procedures_view (take i ys)) ++ plain_procedure (procedure_view y) ∷ []
+procedures_more [] i y l e = absurd (omega arith)
+procedures_more (z ∷ ys) zero y l e = ap (λ (z : Defined.Procedure). plain_procedure (procedure_view z) ∷ []) e
+procedures_more (z ∷ ys) (suc i) y l e = ap (λ ps. plain_procedure (procedure_view z) ∷ ps) (procedures_more ys i y (omega arith) e)
+
+procedures_count : (ys : List Defined.Procedure) (i : ℕ) → i ≤ length ys → length (map plain_procedure (procedures_view (take i ys))) ≡ i
+procedures_count ys zero l = refl
+procedures_count [] (suc i) l = absurd (omega arith)
+procedures_count (z ∷ ys) (suc i) l = ap suc (procedures_count ys i (omega arith))
+
+last_one : (xs : List LinkedProcedure) (b : LinkedProcedure) → slice_get (xs ++ b ∷ []) (length xs) ≡ Some b
+last_one [] b = refl
+last_one (x ∷ xs) b = last_one xs b
+
+take_before : (n : ℕ) (xs : List LinkedProcedure) (b : LinkedProcedure) → n ≤ length xs → take n (xs ++ b ∷ []) ≡ take n xs
+take_before zero xs b l = refl
+take_before (suc n) [] b l = absurd (omega arith)
+take_before (suc n) (x ∷ xs) b l = ap (λ ys. x ∷ ys) (take_before n xs b (omega arith))
+
+one_longer : (xs : List LinkedProcedure) (b : LinkedProcedure) → length (xs ++ b ∷ []) ≡ suc (length xs)
+one_longer [] b = refl
+one_longer (x ∷ xs) b = ap suc (one_longer xs b)
+
+-- one body more is kept
+pub kept_more : (xs : List Name) (old all new : List LinkedProcedure) (ys : List Defined.Procedure) (i : ℕ) (y : Defined.Procedure) (b : LinkedProcedure) → i < length ys → get_or ys i y ≡ y → AreBodiesFrom xs all (length old) (map plain_procedure (procedures_view (take i ys))) →
+    length all ≡ length old + i → take (length old) all ≡ old → new ≡ all ++ b ∷ [] → IsNumbered xs b.name (plain_procedure (procedure_view y)).name → IsBody xs b (plain_procedure (procedure_view y)) →
+    AreBodiesFrom xs new (length old) (map plain_procedure (procedures_view (take (i + 1) ys))) × (length new ≡ length old + (i + 1)) × (take (length old) new ≡ old)
+kept_more xs old all new ys i y b l e bodies count older made named body =
+    let ps = map plain_procedure (procedures_view (take i ys)) in
+    let p = plain_procedure (procedure_view y) in
+    let one : suc i ≡ i + 1 = omega arith in
+    let place : length all ≡ length old + length ps = count ∙ ap (λ n. length old + n) (sym (procedures_count ys i (let r : i ≤ length ys = omega arith in r))) in
+    let at : slice_get (all ++ b ∷ []) (length old + length ps) ≡ Some b = ap (slice_get (all ++ b ∷ [])) (sym place) ∙ last_one all b in
+    let longer = one_longer all b in (
+      subst (λ bs. AreBodiesFrom xs bs (length old) (map plain_procedure (procedures_view (take (i + 1) ys)))) (sym made)
+          (subst (λ qs. AreBodiesFrom xs (all ++ b ∷ []) (length old) qs) (sym (procedures_more ys i y l e) ∙ ap (λ n. map plain_procedure (procedures_view (take n ys))) one)
+          (bodies_from_more xs (all ++ b ∷ []) (length old) ps p (bodies_from_before xs all b (length old) ps bodies) (b, at, named, body))),
+      ap (λ (bs : List LinkedProcedure). length bs) made ∙ longer ∙ (let r : suc (length all) ≡ length old + (i + 1) = omega arith in r),
+      ap (take (length old)) made ∙ take_before (length old) all b (omega arith) ∙ older,
+    )

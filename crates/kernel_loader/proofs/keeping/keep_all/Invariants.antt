@@ -1,0 +1,13 @@
+use Rattle.std.proofs.Common.{◌≡◌, ◌+◌, ℕ, List, length, map, take}
+use Rattle.janus_syntax.specs.Tree.{procedures_view}
+use Rattle.janus_syntax.specs.View.{plain_procedure}
+use Rattle.janus_machine.specs.Bodies.{AreDefined, AreBodiesFrom}
+use Rattle.janus_machine.specs.Procedures.{kept_in}
+use Rattle.kernel_loader.proofs.keeping.keep_all.Given as goal
+
+abbrev pub invariant-loop-i : goal.invariant-loop-i
+invariant-loop-i l =
+    AreBodiesFrom l.names (kept_in l.kept) (length (kept_in l.fn.kept)) (map plain_procedure (procedures_view (take l.i l.procedures)))
+    × (length (kept_in l.kept) ≡ length (kept_in l.fn.kept) + l.i)
+    × (take (length (kept_in l.fn.kept)) (kept_in l.kept) ≡ kept_in l.fn.kept)
+    × ((stack : List ℕ) → AreDefined l.fn.kept stack → AreDefined l.kept stack)
