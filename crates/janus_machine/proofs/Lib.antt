@@ -15,3 +15,6 @@ pub mod Moves
 pub mod Pulls
 pub mod Turning
 pub mod Turned
+pub mod OpenTotals
+pub mod Leaping
+pub mod Paths

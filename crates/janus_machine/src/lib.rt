@@ -1,4 +1,4 @@
-//! The machine of Janus: one step at a time over flat code.
+//! The machine of Janus over flat code: whole statements where they can be run so, and one step at a time elsewhere.
 //!
 //! To the layer above it promises that its steps are those of the meaning: `slice` takes as many steps as it is asked, or
 //! all that are left to the end of the block or to a fault, and leaves the place and the store to which that many steps of
@@ -8,13 +8,13 @@
 //! defines it step by step.
 //!
 //! The modules, in the order in which a reader needs them:
-//! - `book`: the code of a cell or of a body, both ways.
+//! - `book`: the code of a cell or of a body, both ways, and what is laid of its rows to run whole statements.
 //! - `linked_procedure`, `procedures`: a procedure as it runs, and all bodies with those that are in effect.
 //! - `cursor`, `running`: a place in code with the open calls and the count of steps, and the book in whose row it stands.
 //! - `fault`: why a step is not taken.
 //! - `statement`, `local`, `act`: what a statement, a local and an instruction do to the store.
 //! - `call`: the first and the last step of a call.
-//! - `machine`: `step` and `slice`, which take the steps.
+//! - `machine`: `step` and `slice`, which take the steps; `slice` runs whole statements where just the names of a laid row are in sight.
 //! - `laws`: what the definitions of `specs/` say together.
 //!
 //! The definitions, in specs/, in reading order:

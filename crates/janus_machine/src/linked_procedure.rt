@@ -6,7 +6,9 @@ ghost use Rattle.janus_machine.specs.Bodies.{numbers_of};
 ghost use Rattle.janus_machine.specs.LinkedProcedure.{name_number_of, parameters_of, body_of};
 
 use crate::book::Book;
+use janus_check::Kind;
 use janus_code::FlatParameter;
+use janus_laying::FrameNames;
 use std::alloc::{AllocError, Global};
 
 /// The numbers of a procedure's name and of its parameters' names, and its body both ways.
@@ -34,7 +36,8 @@ impl LinkedProcedure {
     {
         let name = flat.name.number;
         let parameters = numbers(alloc, &flat.parameters)?;
-        let book = Book::new(alloc, flat.body)?;
+        let names = names_of(alloc, &flat.parameters)?;
+        let book = Book::laid(alloc, flat.body, names)?;
         Ok(LinkedProcedure {
             name,
             parameters,
@@ -52,4 +55,18 @@ fn numbers(alloc: Global, parameters: &[FlatParameter]) -> Result<Vec<usize>, Al
         numbers.push(parameters[i].name.number)?;
     }
     Ok(numbers)
+}
+
+/// The names over which a body runs, those of parameters: in sight the last one is the oldest. The only error is want of memory.
+fn names_of(alloc: Global, parameters: &[FlatParameter]) -> Result<FrameNames, AllocError> {
+    let mut names = FrameNames::new(alloc);
+    for i in (0..parameters.len()).rev() {
+        let number = parameters[i].name.number;
+        match parameters[i].kind {
+            Kind::Number => names.add_number(number)?,
+            Kind::Array => names.add_array(number)?,
+            Kind::Stack => names.add_stack(number)?,
+        }
+    }
+    Ok(names)
 }

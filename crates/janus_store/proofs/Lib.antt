@@ -1,4 +1,5 @@
 pub mod Variables
+pub mod Marks
 pub mod Rows
 pub mod Indexes
 pub mod Numbers
@@ -13,6 +14,9 @@ pub mod Views
 pub mod Lent
 pub mod Shown
 pub mod Standing
+pub mod Sight
+pub mod Nth
+pub mod Kept
 pub mod Opening
 pub mod Calling
 pub mod Returning

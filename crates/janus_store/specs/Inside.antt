@@ -7,6 +7,7 @@ use Rattle.cell_pool.specs.Chains.{times}
 use Rattle.janus_names.specs.Numbers.{HaveOneNumber}
 use Rattle.janus_store.specs.StoreState.{StoreState, Caller, local_limit, call_limit, bound_limit, params_bound, live_stacks}
 use Rattle.janus_store.specs.Bounds.{Bound, Level, seen, all_of, callers_of, AreNested}
+use Rattle.janus_store.specs.Places.{marks_of, lengths_before, AreSorted, AreCounted}
 use Rattle.janus_store.specs.Plain.{Plain}
 use Rattle.janus_store.specs.Values.{plain_of, number_in}
 use Rattle.janus_store.specs.declared.value.Value.TheVariants as values
@@ -42,6 +43,11 @@ stacks_of (v ∷ vs) = number_in v.value ++ stacks_of vs
 abbrev pub here : List Bound → ℕ → List Call → Level
 here ts n [] = record { start = 0; base = 0; locals = ts; params = [] }
 here ts n (c ∷ cs) = record { start = c.start; base = c.end; locals = take (n - c.end) ts; params = take (c.end - c.start) (drop (n - c.end) ts) }
+
+-- how many variables stand in front of those in sight: those from before the innermost of the open calls
+abbrev pub sight_start : List Call → ℕ
+sight_start [] = 0
+sight_start (c ∷ cs) = c.start
 
 -- the levels around it, the innermost first
 abbrev pub around : List Bound → ℕ → List Call → List Level
@@ -129,7 +135,7 @@ pub record IsHeld (pool : List (List ℤ)) (xs : List Name) (ns : List ℕ) (vs 
   pub calls : length cs ≤ call_limit
 
 -- Each stack that may live is a variable's or a spare one, and no two of these are one. There is room for all locals, calls and
--- parameters that may be.
+-- parameters that may be. The places of the values of each kind are kept apart.
 pub record IsKept {L : Type 0} (a : Inside L) : Type 0 where
   pub held : IsHeld a.stacks.lists a.names a.newest.items a.variables.items a.declared (reverse a.calls.items)
   pub stacks : length a.stacks.spare + live_stacks (held_of a) ≡ live_stack_limit
@@ -137,3 +143,7 @@ pub record IsKept {L : Type 0} (a : Inside L) : Type 0 where
   pub known : (i : ℕ) → live_stack_limit ≤ i → times i a.stacks.spare + times i (stacks_of a.variables.items) ≡ 0
   pub room : a.declared + local_limit + bound_limit ≤ vec_capacity a.variables
   pub call_room : call_limit ≤ vec_capacity a.calls
+  pub sorted : AreSorted a.places (marks_of a.variables.items)
+  pub counted : AreCounted (marks_of a.variables.items) (reverse a.calls.items)
+  pub places_room : a.declared + local_limit + bound_limit ≤ a.places.room
+  pub in_front : a.in_front ≡ lengths_before (reverse a.calls.items)

@@ -2,7 +2,7 @@
 
 ghost use Rattle.std.specs.Prelude.{◌≡◌, ℤ, ℕ, suc, ◌+◌, ◌-◌, List, [], ◌∷◌, ◌++◌, pos, ◌<◌, ◌≤◌, length, vec_len, vec_capacity, slice_set, slice_index};
 ghost use Rattle.std.specs.Prelude.{IsTrue, ◌↔◌, IfOk, OnOk, OnErr, slice_get, Some};
-ghost use Rattle.std.specs.Prelude.{◌^◌, take};
+ghost use Rattle.std.specs.Prelude.{◌^◌, take, reverse, slice_index_or};
 ghost use Rattle.janus_meaning.specs.Syntax.{Name};
 ghost use Rattle.janus_meaning.specs.Fault.{Fine, Bad, Broken, IndexRange, TopEmpty, and_then};
 ghost use Rattle.janus_meaning.specs.Store.{Store as Values, Slot, Num, Arr, Stk, look, number, element, set_element, zeros, cleared_val};
@@ -16,9 +16,12 @@ ghost use Rattle.janus_store.specs.Calls.{AreNamed, CanLend, HasCallRoom, HasPar
 ghost use Rattle.janus_store.specs.Values.{first_of, val_in, number_in, shown, found, read_or};
 ghost use Rattle.janus_store.specs.Stores.{IsFirstOnTop, IsNumber, IsArray, IsStack, IsOpenStack, IsHeldStack, HasElementAt, rest_of, write};
 ghost use Rattle.janus_store.specs.declared.store.Variable.{Variable};
-ghost use Rattle.janus_store.specs.Inside.{newest_from, none_of, AreHidden, AreRow, AreBelow, HavePlaces, IsPlaceOf, IsStackOf, bounds, lent_to, stacks_of};
+ghost use Rattle.janus_store.specs.Inside.{newest_from, none_of, AreHidden, AreRow, AreBelow, HavePlaces, IsPlaceOf, IsStackOf, bounds, lent_to, stacks_of, sight_start};
+ghost use Rattle.janus_store.specs.Kinds.{IsNumberInSight, IsArrayInSight, IsStackInSight, count_numbers, count_arrays, count_stacks};
+ghost use Rattle.janus_store.specs.Places.{marks_of, AreSorted, lengths_before};
 
 use crate::limit::{BOUND_LIMIT, CALL_LIMIT, LOCAL_LIMIT};
+use crate::places::{Lengths, Places};
 use crate::stacks::Stacks;
 use crate::value::{Declared, Value, ValueView};
 use crate::writes::Writes;
@@ -47,6 +50,8 @@ struct Call {
     start: usize,
     /// The place behind the last of them.
     end: usize,
+    /// How many places of each kind there were before it.
+    lengths: Lengths,
 }
 
 /// The declared names, the open locals and the bound parameters with their values, the numbers of all names that were met, and the memory
@@ -60,6 +65,10 @@ pub struct Store<L: Ledger> {
     calls: Vec<Call>,
     /// For each number the place behind its newest variable among these, or 0 where it has none.
     newest: Vec<usize>,
+    /// The places of the variables' values, apart by their kinds.
+    places: Places,
+    /// How many of these places stand in front of those in sight.
+    in_front: Lengths,
     /// How many of the variables are declared.
     declared: usize,
     /// The stacks of the variables, and those that none has.
@@ -93,11 +102,18 @@ impl<L: Ledger> Store<L> {
         let stacks = Stacks::new(alloc)?;
         let variables = Vec::with_capacity(alloc, NAME_LIMIT + LOCAL_LIMIT + BOUND_LIMIT)?;
         let calls = Vec::with_capacity(alloc, CALL_LIMIT)?;
+        let places = Places::new(alloc, NAME_LIMIT + LOCAL_LIMIT + BOUND_LIMIT)?;
         Ok(Store {
             names: Names::new(alloc),
             variables,
             calls,
             newest: Vec::new(alloc),
+            places,
+            in_front: Lengths {
+                numbers: 0,
+                arrays: 0,
+                stacks: 0,
+            },
             declared: 0,
             stacks,
             ledger: PhantomData,
@@ -151,6 +167,26 @@ impl<L: Ledger> Store<L> {
         (
             self.names.name(variable.name),
             variable.value.view(&self.stacks),
+        )
+    }
+
+    /// How many names are in sight: outside of calls the declared ones, in a call its parameters, and the locals that are open there.
+    pub fn sight_len(&self) -> usize
+        ensures { result ≡ size_of self.now.sight }
+    {
+        self.variables.len() - sight_start(&self.calls)
+    }
+
+    /// The i-th name in sight, the oldest being 0: its number, and its value.
+    pub fn sight_entry(&self, i: usize) -> (usize, ValueView<'_>)
+        requires { i < size_of self.now.sight }
+        ensures met { result.0 < length self.now.names }
+        ensures entry { slice_get (listed self.now.sight) i ≡ Some (slice_index_or self.now.names result.0 [], shown result.1) }
+    {
+        let variable = &self.variables[sight_start(&self.calls) + i];
+        (
+            variable.name,
+            self.variables[variable.place].value.view(&self.stacks),
         )
     }
 
@@ -291,8 +327,16 @@ impl<L: Ledger> Store<L> {
     {
         let name = self.number_of(name)?;
         self.variables.reserve(LOCAL_LIMIT + BOUND_LIMIT + 1)?;
+        self.places
+            .reserve(self.variables.len() + LOCAL_LIMIT + BOUND_LIMIT + 1)?;
         let value = first_value(&mut self.stacks, declared);
-        put_own(&mut self.newest, &mut self.variables, name, value);
+        put_own(
+            &mut self.newest,
+            &mut self.variables,
+            &mut self.places,
+            name,
+            value,
+        );
         self.declared += 1;
         Ok(())
     }
@@ -303,7 +347,11 @@ impl<L: Ledger> Store<L> {
         requires whole { IsWhole self.old }
         ensures { self.new ≡ record { sight = rest_of self.old.sight; declared = self.old.declared - 1; names = self.old.names; callers = [] } }
     {
-        let Variable { value, .. } = remove(&mut self.newest, &mut self.variables);
+        let Variable { value, .. } = remove_own(
+            &mut self.newest,
+            &mut self.variables,
+            &mut self.places,
+        );
         take_back(&mut self.stacks, value);
         self.declared -= 1;
     }
@@ -317,6 +365,7 @@ impl<L: Ledger> Store<L> {
         put_own(
             &mut self.newest,
             &mut self.variables,
+            &mut self.places,
             name,
             Value::Number(number),
         );
@@ -329,7 +378,11 @@ impl<L: Ledger> Store<L> {
         ensures left { (x : Name) (n : ℤ) (r : Values) → self.old.sight ≡ Slot x (Num n) r → (result ≡ n) × (self.new ≡ with_sight r self.old) }
         ensures room { HasLocalRoom self.new }
     {
-        let Variable { value, .. } = remove(&mut self.newest, &mut self.variables);
+        let Variable { value, .. } = remove_own(
+            &mut self.newest,
+            &mut self.variables,
+            &mut self.places,
+        );
         value.only_number()
     }
 
@@ -341,7 +394,13 @@ impl<L: Ledger> Store<L> {
         ensures { (x : Name) → IsName self.old name x → self.new ≡ opened x (Stk []) self.old }
     {
         let value = first_value(&mut self.stacks, Declared::Stack);
-        put_own(&mut self.newest, &mut self.variables, name, value);
+        put_own(
+            &mut self.newest,
+            &mut self.variables,
+            &mut self.places,
+            name,
+            value,
+        );
     }
 
     /// Closes the newest local, an empty stack.
@@ -350,7 +409,11 @@ impl<L: Ledger> Store<L> {
         requires empty { (x : Name) × (r : Values) × (self.old.sight ≡ Slot x (Stk []) r) }
         ensures { (x : Name) (r : Values) → self.old.sight ≡ Slot x (Stk []) r → self.new ≡ with_sight r self.old }
     {
-        let Variable { value, .. } = remove(&mut self.newest, &mut self.variables);
+        let Variable { value, .. } = remove_own(
+            &mut self.newest,
+            &mut self.variables,
+            &mut self.places,
+        );
         take_back(&mut self.stacks, value);
     }
 
@@ -364,9 +427,21 @@ impl<L: Ledger> Store<L> {
         ensures { (ps xs : List Name) → AreNamed self.old.names params.now ps → AreNamed self.old.names args.now xs → IsEntered ps xs self.old self.new }
     {
         let start = self.variables.len();
-        bind_all(&mut self.newest, &mut self.variables, params, args);
+        let lengths = self.places.lengths();
+        bind_all(
+            &mut self.newest,
+            &mut self.variables,
+            &mut self.places,
+            params,
+            args,
+        );
         let end = self.variables.len();
-        self.calls.push_reserved(Call { start, end });
+        self.calls.push_reserved(Call {
+            start,
+            end,
+            lengths,
+        });
+        self.in_front = lengths;
     }
 
     /// Leaves the innermost call, of which no local is open: the caller's names are in sight again, and what they lent has the parameters'
@@ -376,7 +451,11 @@ impl<L: Ledger> Store<L> {
         ensures { IsLeft self.old self.new }
     {
         match self.calls.pop() {
-            Some(call) => remove_many(&mut self.newest, &mut self.variables, call.end - call.start),
+            Some(call) => {
+                remove_many(&mut self.newest, &mut self.variables, call.end - call.start);
+                self.places.cut(call.lengths);
+                self.in_front = lengths_before(&self.calls);
+            }
             None => unreachable!(),
         }
     }
@@ -432,6 +511,135 @@ impl<L: Ledger> Store<L> {
         let stack = stack(&self.newest, &self.variables, name);
         self.stacks.pop(stack)
     }
+
+    /// How many names in sight have a number.
+    pub fn numbers_in_sight(&self) -> usize
+        ensures { result ≡ count_numbers self.now }
+    {
+        self.places.numbers().len() - self.in_front.numbers
+    }
+
+    /// How many names in sight have an array.
+    pub fn arrays_in_sight(&self) -> usize
+        ensures { result ≡ count_arrays self.now }
+    {
+        self.places.arrays().len() - self.in_front.arrays
+    }
+
+    /// How many names in sight have a stack.
+    pub fn stacks_in_sight(&self) -> usize
+        ensures { result ≡ count_stacks self.now }
+    {
+        self.places.stacks().len() - self.in_front.stacks
+    }
+
+    /// The number of the k-th name in sight that has one, the oldest being 0. No newer name hides it.
+    #[inline(always)]
+    pub fn number_at(&self, k: usize) -> i32
+        requires { (x : Name) × IsNumberInSight self.now k x }
+        ensures { (x : Name) → IsNumberInSight self.now k x → look x self.now.sight ≡ Fine (Num result) }
+    {
+        let place = nth(self.places.numbers(), self.in_front.numbers, k);
+        self.variables[place].value.only_number()
+    }
+
+    /// The element at an index of the k-th array in sight that is not hidden; none where the index is out of its range.
+    #[inline(always)]
+    pub fn element_at(&self, k: usize, index: i32) -> Option<i32>
+        requires { (x : Name) × IsArrayInSight self.now k x }
+        ensures { (x : Name) (l : List ℤ) → IsArrayInSight self.now k x → look x self.now.sight ≡ Fine (Arr l) → read_or IndexRange result ≡ element l index }
+    {
+        let place = nth(self.places.arrays(), self.in_front.arrays, k);
+        self.variables[place].value.element(index)
+    }
+
+    /// The value on top of the k-th stack in sight that is not hidden; none where the stack is empty.
+    #[inline(always)]
+    pub fn top_at(&self, k: usize) -> Option<i32>
+        requires { (x : Name) × IsStackInSight self.now k x }
+        ensures { (x : Name) (l : List ℤ) → IsStackInSight self.now k x → look x self.now.sight ≡ Fine (Stk l) → read_or TopEmpty result ≡ first l }
+    {
+        let place = nth(self.places.stacks(), self.in_front.stacks, k);
+        self.stacks.top(self.variables[place].value.stack())
+    }
+
+    /// Whether the k-th stack in sight that is not hidden has no value.
+    #[inline(always)]
+    pub fn is_empty_at(&self, k: usize) -> bool
+        requires { (x : Name) × IsStackInSight self.now k x }
+        ensures { (x : Name) (l : List ℤ) → IsStackInSight self.now k x → look x self.now.sight ≡ Fine (Stk l) → result ≡ is_none l }
+    {
+        let place = nth(self.places.stacks(), self.in_front.stacks, k);
+        self.stacks.length(self.variables[place].value.stack()) == 0
+    }
+
+    /// Whether the k-th stack in sight that is not hidden takes no value more.
+    #[inline(always)]
+    pub fn is_full_at(&self, k: usize) -> bool
+        requires { (x : Name) × IsStackInSight self.now k x }
+        ensures { (x : Name) (l : List ℤ) → IsStackInSight self.now k x → look x self.now.sight ≡ Fine (Stk l) → IsTrue result ↔ (stack_limit ≤ length l) }
+    {
+        let place = nth(self.places.stacks(), self.in_front.stacks, k);
+        self.stacks.is_full(self.variables[place].value.stack())
+    }
+
+    /// Another number for the k-th name in sight that has one and is not hidden.
+    #[inline(always)]
+    pub fn set_number_at(&mut self, k: usize, number: i32, writes: &mut Writes<L>)
+        requires { (x : Name) × IsNumberInSight self.old k x }
+        ensures written { (x : Name) → IsNumberInSight self.old k x → write x (Num number) self.old.sight ≡ Fine self.new.sight }
+        ensures shape { IsLike self.old self.new }
+        ensures counted { writes.new ≡ writes.old + 1 }
+    {
+        writes.add();
+        let place = nth(self.places.numbers(), self.in_front.numbers, k);
+        self.variables[place].value.set_number(number);
+    }
+
+    /// Another number for an element of the k-th array in sight that is not hidden, at an index within its range.
+    #[inline(always)]
+    pub fn set_element_at(&mut self, k: usize, index: i32, number: i32, writes: &mut Writes<L>)
+        requires { (x : Name) × IsArrayInSight self.old k x × HasElementAt (look x self.old.sight) index }
+        ensures written { (x : Name) (l : List ℤ) → IsArrayInSight self.old k x → look x self.old.sight ≡ Fine (Arr l) →
+            write x (Arr (set_element l index number)) self.old.sight ≡ Fine self.new.sight }
+        ensures shape { IsLike self.old self.new }
+        ensures counted { writes.new ≡ writes.old + 1 }
+    {
+        writes.add();
+        let place = nth(self.places.arrays(), self.in_front.arrays, k);
+        self.variables[place].value.set_element(index, number);
+    }
+
+    /// One number more, on top of the k-th stack in sight that is not hidden, which isn't full.
+    #[inline(always)]
+    pub fn push_at(&mut self, k: usize, number: i32, writes: &mut Writes<L>)
+        requires { (x : Name) × IsStackInSight self.old k x × IsOpenStack (look x self.old.sight) }
+        ensures written { (x : Name) (l : List ℤ) → IsStackInSight self.old k x → look x self.old.sight ≡ Fine (Stk l) →
+            write x (Stk (number ∷ l)) self.old.sight ≡ Fine self.new.sight }
+        ensures shape { IsLike self.old self.new }
+        ensures counted { writes.new ≡ writes.old + 1 }
+    {
+        writes.add();
+        let place = nth(self.places.stacks(), self.in_front.stacks, k);
+        let stack = self.variables[place].value.stack();
+        self.stacks.push(stack, number);
+    }
+
+    /// Takes the number from the top of the k-th stack in sight that is not hidden, which isn't empty.
+    #[inline(always)]
+    pub fn pop_at(&mut self, k: usize, writes: &mut Writes<L>) -> i32
+        requires { (x : Name) × IsStackInSight self.old k x × IsHeldStack (look x self.old.sight) }
+        ensures top { (x : Name) (n : ℤ) (l : List ℤ) → IsStackInSight self.old k x → look x self.old.sight ≡ Fine (Stk (n ∷ l)) → result ≡ n }
+        ensures written { (x : Name) (n : ℤ) (l : List ℤ) → IsStackInSight self.old k x → look x self.old.sight ≡ Fine (Stk (n ∷ l)) →
+            write x (Stk l) self.old.sight ≡ Fine self.new.sight }
+        ensures shape { IsLike self.old self.new }
+        ensures counted { writes.new ≡ writes.old + 1 }
+    {
+        writes.add();
+        let place = nth(self.places.stacks(), self.in_front.stacks, k);
+        let stack = self.variables[place].value.stack();
+        self.stacks.pop(stack)
+    }
 }
 
 /// The value that a name is declared with; a stack is one that no name has.
@@ -456,6 +664,39 @@ fn take_back(stacks: &mut Stacks, value: Value)
 {
     if let Value::Stack(stack) = value {
         stacks.give(stack);
+    }
+}
+
+/// How many places of each kind stand in front of those in sight.
+fn lengths_before(calls: &[Call]) -> Lengths
+    ensures { result ≡ lengths_before (reverse calls.now) }
+{
+    match calls.last() {
+        Some(call) => call.lengths,
+        None => Lengths {
+            numbers: 0,
+            arrays: 0,
+            stacks: 0,
+        },
+    }
+}
+
+/// The k-th of the places behind the first ones.
+#[inline(always)]
+fn nth(places: &[usize], before: usize, k: usize) -> usize
+    requires { (p : ℕ) × (slice_get places.now (before + k) ≡ Some p) }
+    ensures { slice_get places.now (before + k) ≡ Some result }
+{
+    places[before + k]
+}
+
+/// How many variables stand in front of those in sight.
+fn sight_start(calls: &[Call]) -> usize
+    ensures { result ≡ sight_start (reverse calls.now) }
+{
+    match calls.last() {
+        Some(call) => call.start,
+        None => 0,
     }
 }
 
@@ -519,15 +760,26 @@ fn put(
 }
 
 /// Puts a variable with a value of its own behind the others.
-fn put_own(newest: &mut Vec<usize>, variables: &mut Vec<Variable>, name: usize, value: Value)
+fn put_own(
+    newest: &mut Vec<usize>,
+    variables: &mut Vec<Variable>,
+    places: &mut Places,
+    name: usize,
+    value: Value,
+)
     requires met { name < vec_len newest.old }
     requires room { vec_len variables.old < vec_capacity variables.old }
+    requires sorted { AreSorted places.old (marks_of variables.old.items) }
+    requires places_room { length variables.old.items < places.old.room }
     ensures variables { variables.new.items
         ≡ variables.old.items ++ (record { name = name; hidden = slice_index newest.old.items name; place = length variables.old.items; value = value }) ∷ [] }
     ensures room { vec_capacity variables.new ≡ vec_capacity variables.old }
     ensures newest { newest.new.items ≡ slice_set newest.old.items name (suc (length variables.old.items)) }
+    ensures sorted { AreSorted places.new (marks_of variables.new.items) }
+    ensures places_room { places.new.room ≡ places.old.room }
 {
     let place = variables.len();
+    places.add(value.kind(), place);
     put(newest, variables, name, place, value);
 }
 
@@ -535,6 +787,7 @@ fn put_own(newest: &mut Vec<usize>, variables: &mut Vec<Variable>, name: usize, 
 fn bind_all(
     newest: &mut Vec<usize>,
     variables: &mut Vec<Variable>,
+    places: &mut Places,
     params: &[usize],
     args: &[usize],
 )
@@ -543,17 +796,22 @@ fn bind_all(
     requires met { AreBelow (vec_len newest.old) params.now }
     requires placed { HavePlaces newest.old.items args.now }
     requires room { vec_len variables.old + length params.now ≤ vec_capacity variables.old }
+    requires sorted { AreSorted places.old (marks_of variables.old.items) }
+    requires places_room { length variables.old.items + length params.now ≤ places.old.room }
     ensures newest { (xs : List Name) → AreRow xs newest.old.items variables.old.items → AreRow xs newest.new.items variables.new.items }
     ensures bound { (xs : List Name) →
         bounds xs [] variables.new.items ≡ lent_to xs newest.old.items variables.old.items params.now args.now ++ bounds xs [] variables.old.items }
     ensures behind { (more : List Variable) × (variables.new.items ≡ variables.old.items ++ more) }
     ensures stacks { stacks_of variables.new.items ≡ stacks_of variables.old.items }
     ensures room { vec_capacity variables.new ≡ vec_capacity variables.old }
+    ensures sorted { AreSorted places.new (marks_of variables.new.items) }
+    ensures places_room { places.new.room ≡ places.old.room }
 {
     let oldest = variables.len();
     for i in (0..params.len()).rev() {
         let behind = place_below(newest, variables, oldest, args[i]);
         let place = variables[behind - 1].place;
+        places.add(variables[place].value.kind(), place);
         put(newest, variables, params[i], place, Value::Number(0));
     }
 }
@@ -573,6 +831,27 @@ fn remove(newest: &mut Vec<usize>, variables: &mut Vec<Variable>) -> Variable
         }
         None => unreachable!(),
     }
+}
+
+/// Takes the last variable away, whose value is its own.
+fn remove_own(
+    newest: &mut Vec<usize>,
+    variables: &mut Vec<Variable>,
+    places: &mut Places,
+) -> Variable
+    requires some { 0 < vec_len variables.old }
+    requires met { (i : ℕ) (v : Variable) → slice_get variables.old.items i ≡ Some v → v.name < vec_len newest.old }
+    requires own { (vs : List Variable) (v : Variable) → variables.old.items ≡ vs ++ v ∷ [] → v.place ≡ length vs }
+    requires sorted { AreSorted places.old (marks_of variables.old.items) }
+    ensures variables { variables.old.items ≡ variables.new.items ++ result ∷ [] }
+    ensures room { vec_capacity variables.new ≡ vec_capacity variables.old }
+    ensures newest { newest.new.items ≡ slice_set newest.old.items result.name result.hidden }
+    ensures sorted { AreSorted places.new (marks_of variables.new.items) }
+    ensures places_room { places.new.room ≡ places.old.room }
+{
+    let variable = remove(newest, variables);
+    places.remove(variable.value.kind());
+    variable
 }
 
 /// Takes the last `count` variables away.

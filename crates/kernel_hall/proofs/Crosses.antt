@@ -1,7 +1,9 @@
 -- A hall may be shared by threads, and what frontends and the runner hold may go to other threads. A `search` that goes down through all of its fields runs out of steps, so what is written of a layer is found over what was found of
 -- the layers below it; each fact is that of the type as a field.
 use denote.RattleType.{RattleType}
-use denote.Param.Send.{IsSend, IsSync, sendable}
+use denote.Enum.Declared as E
+use denote.Enum.Enum as enum
+use denote.Param.Send.{IsSend, IsSync, EachSend, enum_send, sendable}
 use Rattle.std.proofs.Crossing.{crosses}
 use Rattle.std.proofs.MapsCrossing.{crosses as maps}
 use Rattle.std.specs.declared.sync.ledger.Ledger as Ledger
@@ -25,6 +27,11 @@ use Rattle.janus_code.proofs.code.FlatExp.TheLaws.TheKnot.{crosses as exp_crosse
 use Rattle.janus_code.specs.contracts.code.Statement as Statement
 use Rattle.janus_code.specs.contracts.code.Code as Code
 use Rattle.janus_linear.specs.contracts.code.Linear as Linear
+use Rattle.janus_linear.specs.contracts.code.Assertion as Assertion
+use Rattle.janus_flat.specs.contracts.code.Primitive as Primitive
+use Rattle.janus_flat.specs.contracts.statements.Head as Head
+use Rattle.janus_laying.specs.contracts.frame_names.FrameNames as FrameNames
+use Rattle.janus_laying.specs.contracts.row.FlatRow as FlatRow
 use Rattle.janus_machine.specs.contracts.book.Book as Book
 use Rattle.janus_store.specs.contracts.store.Store as Store
 use Rattle.janus_store.specs.contracts.writes.Writes as Writes
@@ -62,8 +69,29 @@ Code-send = search (crosses, Statement-send, sendable) depth 60 fits 20000
 Linear-send : IsSend (Linear.the_field).row
 Linear-send = search (crosses, maps, FlatExp-send, Code-send, sendable) depth 60 fits 20000
 
+FrameNames-send : IsSend (FrameNames.the_field).row
+FrameNames-send = search (crosses, sendable) depth 60 fits 20000
+
+Assertion-send : IsSend (Assertion.the_field).row
+Assertion-send = search (crosses, sendable) depth 60 fits 20000
+
+Primitive-each : EachSend (E.shape Primitive.the_type).variants
+Primitive-each = (search (crosses, Assertion-send, sendable) depth 20, (search (crosses, Assertion-send, sendable) depth 20, (search (crosses, Assertion-send, sendable) depth 20, (search (crosses, Assertion-send, sendable) depth 20, (search (crosses, Assertion-send, sendable) depth 20, (search (crosses, Assertion-send, sendable) depth 20, (search (crosses, Assertion-send, sendable) depth 20, (search (crosses, Assertion-send, sendable) depth 20, (search (crosses, Assertion-send, sendable) depth 20, (search (crosses, Assertion-send, sendable) depth 20, (search (crosses, Assertion-send, sendable) depth 20, (search (crosses, Assertion-send, sendable) depth 20, (search (crosses, Assertion-send, sendable) depth 20, (search (crosses, Assertion-send, sendable) depth 20, (search (crosses, Assertion-send, sendable) depth 20, (search (crosses, Assertion-send, sendable) depth 20, (search (crosses, Assertion-send, sendable) depth 20, (search (crosses, Assertion-send, sendable) depth 20, (search (crosses, Assertion-send, sendable) depth 20, (search (crosses, Assertion-send, sendable) depth 20, (search (crosses, Assertion-send, sendable) depth 20, (search (crosses, Assertion-send, sendable) depth 20, (search (crosses, Assertion-send, sendable) depth 20, (search (crosses, Assertion-send, sendable) depth 20, (search (crosses, Assertion-send, sendable) depth 20, (search (crosses, Assertion-send, sendable) depth 20, (search (crosses, Assertion-send, sendable) depth 20, (search (crosses, Assertion-send, sendable) depth 20, (search (crosses, Assertion-send, sendable) depth 20, (search (crosses, Assertion-send, sendable) depth 20, (search (crosses, Assertion-send, sendable) depth 20, (search (crosses, Assertion-send, sendable) depth 20, (search (crosses, Assertion-send, sendable) depth 20, (search (crosses, Assertion-send, sendable) depth 20, (search (crosses, Assertion-send, sendable) depth 20, (search (crosses, Assertion-send, sendable) depth 20, (search (crosses, Assertion-send, sendable) depth 20, (search (crosses, Assertion-send, sendable) depth 20, (search (crosses, Assertion-send, sendable) depth 20, (search (crosses, Assertion-send, sendable) depth 20, (search (crosses, Assertion-send, sendable) depth 20, (search (crosses, Assertion-send, sendable) depth 20, (search (crosses, Assertion-send, sendable) depth 20, (search (crosses, Assertion-send, sendable) depth 20, (search (crosses, Assertion-send, sendable) depth 20, (search (crosses, Assertion-send, sendable) depth 20, (search (crosses, Assertion-send, sendable) depth 20, (search (crosses, Assertion-send, sendable) depth 20, (search (crosses, Assertion-send, sendable) depth 20, (search (crosses, Assertion-send, sendable) depth 20, (search (crosses, Assertion-send, sendable) depth 20, (search (crosses, Assertion-send, sendable) depth 20, tt))))))))))))))))))))))))))))))))))))))))))))))))))))
+
+Primitive-enum : IsSend (enum.Enum (E.shape Primitive.the_type))
+Primitive-enum = enum_send (E.shape Primitive.the_type) Primitive-each
+
+Primitive-send : IsSend (Primitive.the_field).row
+Primitive-send = search (Primitive-enum, sendable) depth 60 fits 20000
+
+Head-send : IsSend (Head.the_field).row
+Head-send = search (crosses, sendable) depth 60 fits 20000
+
+FlatRow-send : IsSend (FlatRow.the_field).row
+FlatRow-send = search (crosses, Primitive-send, Head-send, sendable) depth 60 fits 20000
+
 Book-send : IsSend (Book.the_field).row
-Book-send = search (crosses, Linear-send, sendable) depth 60 fits 20000
+Book-send = search (crosses, Linear-send, FrameNames-send, FlatRow-send, sendable) depth 60 fits 20000
 
 TreeExp-send : IsSend (TreeExp.the_field).row
 TreeExp-send = search (crosses, tree_exp_crosses, sendable) depth 60 fits 20000

@@ -1,7 +1,7 @@
 -- What is shown stays shown while the names of a cell are met and its bodies are kept.
 use Rattle.std.proofs.Common.{◌≡◌, ◌≢◌, ℕ, zero, suc, ◌+◌, List, [], ◌∷◌, length, map, take, Some, Result, Ok, Err, refl, sym, ap, ◌∙◌, subst, arith}
 use Rattle.std.specs.Prelude.{slice_get}
-use Rattle.std.specs.Result.{OnOk, IfErr}
+use Rattle.std.specs.Result.{IfOk, OnOk, IfErr}
 use Rattle.std.proofs.lemmas.Option.{slice_get_within}
 use Rattle.janus_meaning.specs.Syntax.{Name, Proc}
 use Rattle.janus_meaning.specs.Store.{Store}
@@ -20,11 +20,14 @@ use Rattle.janus_check.specs.declared.fault.CheckFault as check
 use Rattle.janus_check.specs.declared.fault.CheckFault.TheVariants as check_fault
 use Rattle.janus_check.proofs.SameHeads.{formed_same, faults_same}
 use Rattle.janus_code.specs.Met.{MeetsBlk, MeetsLocalsOf}
+use Rattle.janus_code.specs.Numbered.{HaveNumbers}
+use Rattle.janus_code.specs.declared.code.Statement.{Statement}
 use Rattle.janus_code.proofs.Meeting.{AreMet, AreCalledMet}
 use Rattle.janus_store.specs.StoreState.{StoreState, Caller, AreKnown, KeepsSight, shown_store, given_back}
 use Rattle.janus_machine.specs.Bodies.{AreBelow, AreBodies, AreBodiesFrom, AreDefined, Define}
 use Rattle.janus_machine.specs.Procedures.{kept_in}
-use Rattle.janus_machine.specs.Places.{BookHasNumbers}
+use Rattle.janus_machine.specs.Places.{BookHasNumbers, KeepsNumbers}
+use Rattle.janus_machine.specs.declared.book.Book.{Book}
 use Rattle.janus_machine.specs.declared.linked_procedure.LinkedProcedure.{LinkedProcedure}
 use Rattle.janus_machine.specs.declared.procedures.Procedures.{Procedures}
 use Rattle.kernel_loader.specs.Known.{FindTheSame}
@@ -152,3 +155,8 @@ pub first_here : (w : World) (g : Shape) (hs : Heads) (t : tree.Cell) (f : check
     f ≢ check_fault.Memory → IsFirst f (cell_faults (shape_of w.store) (heads_of w.procedures) t)
 first_here w g hs t f same heads first real =
     subst (λ (h : Shape). IsFirst f (cell_faults h (heads_of w.procedures) t)) same (subst (λ fs. IsFirst f fs) (faults_same g hs (heads_of w.procedures) t heads) (first real))
+
+-- a book that is made of statements whose names have their numbers
+pub book_numbered : {E : Type 0} (xs : List Name) (ss : List Statement) (r : Result Book E) → HaveNumbers xs ss → IfOk r (KeepsNumbers ss) → IfOk r (BookHasNumbers xs)
+book_numbered xs ss (Ok b) h keeps = keeps xs h
+book_numbered xs ss (Err e) h keeps = tt

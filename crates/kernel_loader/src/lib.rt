@@ -7,13 +7,15 @@
 //! - `names_in_sight` gives the names that a store declares, as the check of a cell sees them.
 //!
 //! The code, in reading order: `sight` and `known` (what a cell is checked over), `checking` (a text, parsed and checked), `meeting` (the names
-//! of a cell, met in the store), `keeping` (the bodies of its procedures), `loader` (all of these for one text).
+//! of a cell, met in the store), `frame` (those over which it runs), `keeping` (the bodies of its procedures), `loader` (all of these for one
+//! text).
 //!
 //! The definitions are in specs/: `Kinds`, `Defined`, `Known` (what a cell is checked over), `Met` (names that were met), `Keeping` (the bodies that
 //! are kept) and `Loading` (what stays while a cell is loaded).
 #![tactic(auto)]
 
 mod checking;
+mod frame;
 mod keeping;
 mod known;
 mod loader;

@@ -17,11 +17,12 @@ ghost use Rattle.kernel_loader.specs.Keeping.{AreBodiesBehind, KeepsOlder, Keeps
 ghost use Rattle.kernel_loader.specs.Loading.{IsCheckedOver, KeepsShown};
 
 use crate::checking::cell_of_text;
+use crate::frame::{frame_names, has_loop};
 use crate::keeping::keep_all;
 use crate::meeting::meet_cell;
 use janus_check::Checked;
 use janus_code::flatten;
-use janus_machine::{Book, Procedures};
+use janus_machine::{Book, Procedures, Store};
 use janus_names::Names;
 use janus_syntax::tree::Procedure;
 use kernel_machine::Refusal;
@@ -81,7 +82,7 @@ fn link<L: Ledger>(
     let names = runner.store.names();
     met?;
     let first = runner.procedures.len();
-    match keep_and_link(alloc, checked, names, &mut runner.procedures) {
+    match keep_and_link(alloc, checked, names, &runner.store, &mut runner.procedures) {
         Ok(book) => Ok((book, first)),
         Err(error) => {
             runner.procedures.forget(first);
@@ -92,10 +93,11 @@ fn link<L: Ledger>(
 
 /// Keeps the bodies of a cell's procedures, whose names were met, and gives the cell's code both ways; an error for want of memory, after
 /// which some of the bodies may be kept.
-fn keep_and_link(
+fn keep_and_link<L: Ledger>(
     alloc: Global,
     checked: &Checked,
     names: &Names,
+    store: &Store<L>,
     kept: &mut Procedures,
 ) -> Result<Book, AllocError>
     requires block { MeetsBlk names.now (plain_cell (cell_in checked.now)).block }
@@ -108,11 +110,17 @@ fn keep_and_link(
     ensures defined { KeepsDefined kept.old kept.new }
 {
     keep_all(alloc, &checked.cell().procedures, names, kept)?;
-    book_of(alloc, checked, names)
+    book_of(alloc, checked, names, store)
 }
 
-/// The code of a cell whose names were met, both ways. The only error is want of memory.
-fn book_of(alloc: Global, checked: &Checked, names: &Names) -> Result<Book, AllocError>
+/// The code of a cell whose names were met, both ways, for whole statements over what a store declares and what the cell does where it has a
+/// loop. The only error is want of memory.
+fn book_of<L: Ledger>(
+    alloc: Global,
+    checked: &Checked,
+    names: &Names,
+    store: &Store<L>,
+) -> Result<Book, AllocError>
     requires { MeetsBlk names.now (plain_cell (cell_in checked.now)).block }
     ensures block { IfOk result (λ book. block_in book Forward ≡ (plain_cell (cell_in checked.now)).block) }
     ensures numbered { IfOk result (BookHasNumbers names.now) }
@@ -120,5 +128,9 @@ fn book_of(alloc: Global, checked: &Checked, names: &Names) -> Result<Book, Allo
     let Ok(code) = flatten(alloc, checked, names) else {
         return Err(AllocError);
     };
+    if has_loop(&code.statements) {
+        let frame = frame_names(alloc, store, names, &checked.cell().declarations)?;
+        return Book::laid(alloc, code, frame);
+    }
     Book::new(alloc, code)
 }

@@ -12,7 +12,7 @@ use Rattle.janus_machine.specs.Cursors.{IsStanding, has_ended}
 use Rattle.janus_machine.specs.Faults.{fault_of}
 use Rattle.janus_machine.specs.Law.{RunMeans, BackMeans}
 use Rattle.janus_machine.specs.Open.{Agrees}
-use Rattle.janus_machine.specs.Steps.{AreSteps, next_of, IsSafeAhead, KeepsMet, SliceEndsBy}
+use Rattle.janus_machine.specs.Steps.{AreSteps, next_of, NoneBroken, IsSafeAhead, KeepsMet, SliceEndsBy}
 use Rattle.janus_machine.specs.declared.machine.End as ends
 use Rattle.janus_machine.specs.declared.machine.End.TheVariants as end
 use Rattle.janus_machine.specs.declared.cursor.Cursor.{Cursor}
@@ -56,9 +56,11 @@ module _ {L : Type 0} (runner : Runner L) (program : Program) (at : Place) where
 
 module _ {L : Type 0} (runner : Runner L) (program : Program) (at : Place) where
   module _ (store : StoreState) (cursor : Cursor) (t : ℕ) where
-    -- what a slice promises of its steps, and of what is open, where the store agrees with the cursor
-    abbrev pub TakesSteps : Type 0
-    TakesSteps = (ps : List Proc) (k : ℕ) → AreInEffect runner.store.names runner.procedures ps → Agrees k runner.procedures program.book runner.cursor runner.store → AreSteps ps k t runner.procedures program.book runner.cursor runner.store cursor store
+    -- what a slice of m steps promises of its steps, and of what is open, where the store agrees with the cursor
+    abbrev pub TakesSteps : ℕ → Type 0
+    TakesSteps m =
+        (ps : List Proc) (k : ℕ) → AreInEffect runner.store.names runner.procedures ps → Agrees k runner.procedures program.book runner.cursor runner.store
+        → NoneBroken ps k runner.procedures program.book m runner.cursor runner.store → AreSteps ps k t runner.procedures program.book runner.cursor runner.store cursor store
 
     abbrev pub KeepsAgreement : Type 0
     KeepsAgreement = (k : ℕ) → Agrees k runner.procedures program.book runner.cursor runner.store → Agrees k runner.procedures program.book cursor store
@@ -66,8 +68,9 @@ module _ {L : Type 0} (runner : Runner L) (program : Program) (at : Place) where
     abbrev pub gone : Runner L
     gone = record { store = store; cursor = cursor; procedures = runner.procedures }
 
-    pub gone_on : Stands runner program at false → IsStanding runner.procedures program.book cursor store → KeepsMet runner.store store → KeepsAgreement → Counts t runner.cursor cursor → TakesSteps → Stands gone program (at_count (at.count + t) at) false
-    gone_on h standing names agrees counts steps =
+    pub gone_on : (m : ℕ) → Stands runner program at false → IsStanding runner.procedures program.book cursor store → KeepsMet runner.store store → KeepsAgreement → Counts t runner.cursor cursor → TakesSteps m
+        → Stands gone program (at_count (at.count + t) at) false
+    gone_on m h standing names agrees counts steps =
         let now : cursor.count ≡ at.count + t = counts.count ∙ ap (λ (b : Bool). counted b runner.cursor.count t) h.turned ∙ ap (λ (n : ℕ). n + t) h.counted in
         let few = standing.few in
         record {
@@ -82,13 +85,18 @@ module _ {L : Type 0} (runner : Runner L) (program : Program) (at : Place) where
           ready = subst (λ (xs : List Name). IsReady xs runner.procedures program) (sym names.names) h.ready;
           one_number = subst (λ (xs : List Name). HaveOneNumber xs) (sym names.names) h.one_number;
           defined = subst (λ (xs : List Name). Define xs runner.procedures at.bodies (start_at at).procedures) (sym names.names) h.defined;
-          faces = ((run_means runner program at h).more t cursor store (steps _ _ (in_effect runner program at false h) h.agrees), h.faces.1);
+          faces = (
+            (run_means runner program at h).more t cursor store (steps _ _ (in_effect runner program at false h) h.agrees ((run_means runner program at h).unbroken m h.faces.1)),
+            h.faces.1,
+          );
         }
 
-    pub gone_back : Stands runner program at true → IsStanding runner.procedures program.book cursor store → KeepsMet runner.store store → KeepsAgreement → Counts t runner.cursor cursor → TakesSteps → Stands gone program (at_count (at.count - t) at) true × (t ≤ at.count)
-    gone_back h standing names agrees counts steps =
+    pub gone_back : (m : ℕ) → Stands runner program at true → IsStanding runner.procedures program.book cursor store → KeepsMet runner.store store → KeepsAgreement → Counts t runner.cursor cursor → TakesSteps m
+        → Stands gone program (at_count (at.count - t) at) true × (t ≤ at.count)
+    gone_back m h standing names agrees counts steps =
         let means = back_means runner program at h in
-        let within : t ≤ at.count = means.no_further t cursor store (steps _ _ (in_effect runner program at true h) h.agrees) in
+        let taken = steps _ _ (in_effect runner program at true h) h.agrees (means.unbroken m) in
+        let within : t ≤ at.count = means.no_further t cursor store taken in
         let few = h.few in (
           record {
             cell = h.cell;
@@ -102,24 +110,24 @@ module _ {L : Type 0} (runner : Runner L) (program : Program) (at : Place) where
             ready = subst (λ (xs : List Name). IsReady xs runner.procedures program) (sym names.names) h.ready;
             one_number = subst (λ (xs : List Name). HaveOneNumber xs) (sym names.names) h.one_number;
             defined = subst (λ (xs : List Name). Define xs runner.procedures at.bodies (start_at at).procedures) (sym names.names) h.defined;
-            faces = means.back t cursor store within (steps _ _ (in_effect runner program at true h) h.agrees);
+            faces = means.back t cursor store within taken;
           },
           within,
         )
 
     -- a slice back, by why it ends
-    pub back_cut : (m : ℕ) (e : ends.End) → Stands runner program at true → IsStanding runner.procedures program.book cursor store → KeepsMet runner.store store → KeepsAgreement → t ≤ m → Counts t runner.cursor cursor → TakesSteps →
+    pub back_cut : (m : ℕ) (e : ends.End) → Stands runner program at true → IsStanding runner.procedures program.book cursor store → KeepsMet runner.store store → KeepsAgreement → t ≤ m → Counts t runner.cursor cursor → TakesSteps m →
         ((ps : List Proc) (k : ℕ) → AreInEffect runner.store.names runner.procedures ps → Agrees k runner.procedures program.book runner.cursor runner.store → SliceEndsBy ps k m t runner.procedures program.book cursor store e) → Stands gone program (at_count (at.count - m) at) true
     back_cut m end.Cut h standing names agrees low counts steps why =
-        let s = gone_back h standing names agrees counts steps in
+        let s = gone_back m h standing names agrees counts steps in
         subst (λ (x : ℕ). Stands gone program (at_count (at.count - x) at) true) (why _ _ (in_effect runner program at true h) h.agrees).0 s.0
     back_cut m end.Ended h standing names agrees low counts steps why =
-        let s = gone_back h standing names agrees counts steps in
+        let s = gone_back m h standing names agrees counts steps in
         let start : at.count - t ≡ 0 = (back_means gone program (at_count (at.count - t) at) s.0).begun.0 (why _ _ (in_effect runner program at true h) h.agrees) in
         let e : at.count - t ≡ at.count - m = omega arith in
         subst (λ (x : ℕ). Stands gone program (at_count x at) true) e s.0
     back_cut m (end.Fault f) h standing names agrees low counts steps why =
-        let s = gone_back h standing names agrees counts steps in
+        let s = gone_back m h standing names agrees counts steps in
         absurd (
         elim (why _ _ (in_effect runner program at true h) h.agrees).2 [
           | inl at ↦ (let facing : true ≡ false = sym s.0.turned ∙ at.0.forward in cc)

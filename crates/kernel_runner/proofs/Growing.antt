@@ -77,7 +77,11 @@ module _ (xs ys : List Name) (g : GoOn xs ys) where
   code_grows ss h = λ n s at. statement_grows s (h n s at)
 
   pub book_grows : (b : Book) → BookHasNumbers xs b → BookHasNumbers ys b
-  book_grows b h = record { forward = code_grows b.forward.code.statements.items h.forward; inverse = code_grows b.inverse.code.statements.items h.inverse }
+  book_grows b h = record {
+    forward = code_grows b.forward.code.statements.items h.forward;
+    inverse = code_grows b.inverse.code.statements.items h.inverse;
+    laid = h.laid;
+  }
 
   -- ---- procedures
 

@@ -1,7 +1,7 @@
 //! Rows of flat code: what is laid of a row of instructions. `in scope` assigns to the one number in scope, `elsewhere` to a name that has no place.
 use janus_code::{FlatExp, Statement, Symbol};
 use janus_flat::statements::Head;
-use janus_laying::{FlatRow, NamePlace, lay, place_row};
+use janus_laying::{FlatRow, FrameNames, lay, place_row};
 use janus_linear::Instruction;
 use janus_syntax::tree::Update;
 use std::alloc::AllocError;
@@ -32,6 +32,15 @@ fn assignment(text: String, number: usize) -> Statement {
 
 /// What is laid of the statement of this number.
 fn tell_of(statements: [Statement; 2], number: usize, sheet: &mut Sheet) {
+    let mut names = FrameNames::new(sheet.alloc());
+    match names.add_number(0) {
+        Ok(_) => tell_over(&names, &statements, number, sheet),
+        Err(_) => sheet.refuse(),
+    }
+}
+
+/// What is laid of the statement of this number over these names.
+fn tell_over(names: &FrameNames, statements: &[Statement], number: usize, sheet: &mut Sheet) {
     let alloc = sheet.alloc();
     let instructions = [
         Instruction::Enter(9),
@@ -39,9 +48,8 @@ fn tell_of(statements: [Statement; 2], number: usize, sheet: &mut Sheet) {
         Instruction::Follow,
         Instruction::Leave,
     ];
-    let places = [NamePlace::Number(0)];
-    match place_row(alloc, &statements, &instructions, &places) {
-        Ok(row) => tell_laid(lay(alloc, &row, 1), sheet),
+    match place_row(alloc, statements, &instructions, names) {
+        Ok(row) => tell_laid(lay(alloc, &row, 1, 9), sheet),
         Err(_) => sheet.refuse(),
     }
 }

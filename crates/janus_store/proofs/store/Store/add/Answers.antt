@@ -16,6 +16,7 @@ use Rattle.janus_store.proofs.NameStack.{with_number}
 use Rattle.janus_store.proofs.Owned.{times_append, times_put}
 use Rattle.janus_store.proofs.Laid.{laid_of, as_many}
 use Rattle.janus_store.proofs.Opening.{put_over, put_declared, put_stacks, no_calls, all_declared}
+use Rattle.janus_store.proofs.Sight.{start_low, counted_over}
 use Rattle.janus_store.proofs.store.Store.add.Goals as goal
 
 pub first_value-value-requires : goal.first_value-value-requires
@@ -122,6 +123,10 @@ invariant_of-self-2 g c =
       known = λ i le. let z = times_put i vs y in let w = ap (λ (l : List Variable). times i (stacks_of l)) vars in let b = ap (times i) spare in let t = times_append i left (number_in y.value) in let o = c.self.invariant.known i le in omega (arith, z, w, b, t, o);
       room = omega (arith, all, c.in_ok-reserve.ensures.ok, c.reserve.new.self.ok.0, place, c.put_own.ensures.room);
       call_room = c.self.invariant.call_room;
+      sorted = c.put_own.ensures.sorted;
+      counted = counted_over vs ws y cs (start_low a.stacks.lists xs ns vs a.declared cs h) vars c.self.invariant.counted;
+      places_room = omega (arith, all, c.in_ok-reserve-2.ensures.ok, c.len.ensures, c.reserve.new.self.ok.0, place, c.put_own.ensures.places_room);
+      in_front = c.self.invariant.in_front;
     }
 
 pub returns-clause-ok : goal.returns-clause-ok

@@ -1,4 +1,4 @@
-use Rattle.std.proofs.Common.{◌≡◌, [], ◌∷◌, length, ap, ◌∙◌, sym, subst, arith}
+use Rattle.std.proofs.Common.{◌≡◌, [], ◌∷◌, ◌++◌, length, ap, ◌∙◌, sym, subst, arith}
 use Rattle.std.specs.Prelude.{reverse}
 use Rattle.std.proofs.lemmas.List.{reverse-append, length-reverse}
 use Rattle.janus_store.specs.Calls.{CanLend, IsEntered}
@@ -9,6 +9,8 @@ use Rattle.janus_store.proofs.Laid.{laid_of, as_many}
 use Rattle.janus_store.proofs.Standing.{calls_are_held}
 use Rattle.janus_store.proofs.Calling.{named_one, named_below, args_have_places, entered_is, entered_held, entered_live, bound_after}
 use Rattle.cell_pool.specs.Chains.{times}
+use Rattle.janus_store.specs.Places.{lengths_before, marks_of, AreCounted}
+use Rattle.janus_store.proofs.Marks.{marks_both, marks_long, counted_call}
 use Rattle.janus_store.proofs.store.Store.bind.Goals as goal
 
 pub bind_all-requires-clause-met : goal.bind_all-requires-clause-met
@@ -52,6 +54,17 @@ bind_all-requires-clause-room g c =
     let H = c.args.self.now in
     omega (arith, bound_after a.stacks.lists xs ns vs a.declared cs h H c.self.view_is (length c.args.args.now) c.requires.room, c.requires.count, h.few, c.self.invariant.room, a.variables.ok.0)
 
+pub bind_all-requires-clause-places_room : goal.bind_all-requires-clause-places_room
+bind_all-requires-clause-places_room g c =
+    let a = c.self.inside in
+    let xs = a.names in
+    let ns = a.newest.items in
+    let vs = a.variables.items in
+    let cs = reverse a.calls.items in
+    let h = c.self.invariant.held in
+    let H = c.args.self.now in
+    omega (arith, bound_after a.stacks.lists xs ns vs a.declared cs h H c.self.view_is (length c.args.args.now) c.requires.room, c.requires.count, h.few, c.self.invariant.places_room, a.variables.ok.0)
+
 pub push_reserved-requires : goal.push_reserved-requires
 push_reserved-requires g c =
     let a = c.self.inside in
@@ -79,11 +92,13 @@ invariant_of-self g c =
     let args = c.requires.found in
     let ms = c.bind_all.new.newest.items in
     let ws = c.bind_all.new.variables.items in
-    let call : Call = record { start = c.len-start.result; end = c.len-end.result } in
+    let call : Call = record { start = c.len-start.result; end = c.len-end.result; lengths = c.lengths-lengths.result } in
     let start : call.start ≡ length vs = omega (arith, c.len-start.ensures, a.variables.ok.0) in
     let end : call.end ≡ length ws = omega (arith, c.len-end.ensures, c.bind_all.new.variables.ok.0) in
     let calls : reverse c.push_reserved.new.self.items ≡ call ∷ cs = ap reverse c.push_reserved.ensures.items ∙ reverse-append a.calls.items (call ∷ []) in
     let row = c.bind_all.ensures.newest xs h.row in
+    let more = c.bind_all.ensures.behind in
+    let marks : marks_of ws ≡ marks_of vs ++ marks_of more.0 = ap marks_of more.1 ∙ marks_both vs more.0 in
     record {
       held = subst (λ cs. IsHeld a.stacks.lists xs ms ws d cs) (sym calls)
           (entered_held a.stacks.lists xs ns vs d cs h H c.self.view_is js ks params.0 args.0 params.1 args.1 c.requires.count args.2.0 args.2.1 ms ws row (c.bind_all.ensures.bound xs) c.bind_all.ensures.behind call start end c.requires.room);
@@ -98,6 +113,10 @@ invariant_of-self g c =
       known = λ i le. let z = ap (times i) c.bind_all.ensures.stacks in let o = c.self.invariant.known i le in omega (arith, z, o);
       room = omega (arith, c.self.invariant.room, c.bind_all.ensures.room);
       call_room = omega (arith, c.self.invariant.call_room, c.push_reserved.ensures.capacity);
+      sorted = c.bind_all.ensures.sorted;
+      counted = subst (AreCounted (marks_of ws)) (sym calls) (subst (λ l. AreCounted l (call ∷ cs)) (sym marks) (counted_call a.places (marks_of vs) (marks_of more.0) call cs c.self.invariant.sorted (omega (arith, start, marks_long vs)) c.lengths-lengths.ensures c.self.invariant.counted));
+      places_room = omega (arith, c.self.invariant.places_room, c.bind_all.ensures.places_room);
+      in_front = sym (ap lengths_before calls);
     }
 
 pub returns : goal.returns
@@ -116,7 +135,7 @@ returns g c = λ ps zs p e.
     let args = c.requires.found in
     let ms = c.bind_all.new.newest.items in
     let ws = c.bind_all.new.variables.items in
-    let call : Call = record { start = c.len-start.result; end = c.len-end.result } in
+    let call : Call = record { start = c.len-start.result; end = c.len-end.result; lengths = c.lengths-lengths.result } in
     let start : call.start ≡ length vs = omega (arith, c.len-start.ensures, a.variables.ok.0) in
     let end : call.end ≡ length ws = omega (arith, c.len-end.ensures, c.bind_all.new.variables.ok.0) in
     let calls : reverse c.push_reserved.new.self.items ≡ call ∷ cs = ap reverse c.push_reserved.ensures.items ∙ reverse-append a.calls.items (call ∷ []) in

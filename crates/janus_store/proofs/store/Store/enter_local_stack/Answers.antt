@@ -13,6 +13,7 @@ use Rattle.janus_store.proofs.Owned.{times_append, times_put}
 use Rattle.janus_store.proofs.Laid.{laid_of, as_many}
 use Rattle.janus_store.proofs.Standing.{names_are_held, params_are_held, bound_low}
 use Rattle.janus_store.proofs.Opening.{put_over, put_held, put_stacks}
+use Rattle.janus_store.proofs.Sight.{start_low, counted_over}
 use Rattle.janus_store.proofs.store.Store.enter_local_stack.Goals as goal
 
 pub put_own-requires-clause-met : goal.put_own-requires-clause-met
@@ -38,6 +39,17 @@ put_own-requires-clause-room g c =
     let h = c.self.invariant.held in
     let H = c.args.self.now in
     omega (arith, c.requires.room, names_are_held a.stacks.lists xs ns vs a.declared cs h H c.self.view_is, params_are_held a.stacks.lists xs ns vs a.declared cs h H c.self.view_is, bound_low a.stacks.lists xs ns vs a.declared cs h, ap (λ (h : StoreState). h.declared) c.self.view_is, c.self.invariant.room, a.variables.ok.0)
+
+pub put_own-requires-clause-places_room : goal.put_own-requires-clause-places_room
+put_own-requires-clause-places_room g c =
+    let a = c.self.inside in
+    let xs = a.names in
+    let ns = a.newest.items in
+    let vs = a.variables.items in
+    let cs = reverse a.calls.items in
+    let h = c.self.invariant.held in
+    let H = c.args.self.now in
+    omega (arith, c.requires.room, names_are_held a.stacks.lists xs ns vs a.declared cs h H c.self.view_is, params_are_held a.stacks.lists xs ns vs a.declared cs h H c.self.view_is, bound_low a.stacks.lists xs ns vs a.declared cs h, ap (λ (h : StoreState). h.declared) c.self.view_is, c.self.invariant.places_room, a.variables.ok.0)
 
 pub invariant_of-self : goal.invariant_of-self
 invariant_of-self g c =
@@ -74,6 +86,10 @@ invariant_of-self g c =
       known = λ i le. let z = times_put i vs y in let w = ap (λ (l : List Variable). times i (stacks_of l)) c.put_own.ensures.variables in let b = ap (times i) spare in let t = times_append i left (number_in y.value) in let o = c.self.invariant.known i le in omega (arith, z, w, b, t, o);
       room = omega (arith, c.self.invariant.room, c.put_own.ensures.room);
       call_room = c.self.invariant.call_room;
+      sorted = c.put_own.ensures.sorted;
+      counted = counted_over vs ws y cs (start_low a.stacks.lists xs ns vs a.declared cs h) c.put_own.ensures.variables c.self.invariant.counted;
+      places_room = omega (arith, c.self.invariant.places_room, c.put_own.ensures.places_room);
+      in_front = c.self.invariant.in_front;
     }
 
 pub returns : goal.returns

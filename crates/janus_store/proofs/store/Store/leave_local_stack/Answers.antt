@@ -12,10 +12,14 @@ use Rattle.janus_store.proofs.Owned.{times_append, times_left}
 use Rattle.janus_store.proofs.Laid.{laid_of, as_many, met, held_is}
 use Rattle.janus_store.proofs.Standing.{names_are_held}
 use Rattle.janus_store.proofs.Opening.{more_stacks, left_over, left_held, is_above, start_under, still_declared}
+use Rattle.std.specs.Prelude.{slice_set}
+use Rattle.janus_store.proofs.Opening.{left_place}
+use Rattle.janus_store.specs.Inside.{bounds}
+use Rattle.janus_store.proofs.Sight.{start_of, counted_under}
 use Rattle.janus_store.proofs.store.Store.leave_local_stack.Goals as goal
 
-pub remove-value-requires-clause-met : goal.remove-value-requires-clause-met
-remove-value-requires-clause-met g c = λ i v e.
+pub remove_own-value-requires-clause-met : goal.remove_own-value-requires-clause-met
+remove_own-value-requires-clause-met g c = λ i v e.
     let a = c.self.inside in
     let xs = a.names in
     let ns = a.newest.items in
@@ -26,8 +30,21 @@ remove-value-requires-clause-met g c = λ i v e.
     let l = laid_of a.stacks.lists xs ns vs a.declared cs h in
     omega (arith, met xs ns vs l i v e, as_many xs ns vs l, a.newest.ok.0)
 
-pub remove-value-requires-clause-some : goal.remove-value-requires-clause-some
-remove-value-requires-clause-some g c =
+pub remove_own-value-requires-clause-own : goal.remove_own-value-requires-clause-own
+remove_own-value-requires-clause-own g c = λ ws y gone.
+    let a = c.self.inside in
+    let xs = a.names in
+    let ns = a.newest.items in
+    let vs = a.variables.items in
+    let cs = reverse a.calls.items in
+    let h = c.self.invariant.held in
+    let H = c.args.self.now in
+    let above = is_above a.stacks.lists xs ns vs a.declared cs h y (slice_set ns y.name y.hidden) ws gone refl H c.self.view_is c.requires.local in
+    let over = start_under a.stacks.lists xs ns vs a.declared cs h y (slice_set ns y.name y.hidden) ws gone refl above in
+    left_place a.stacks.lists xs ns vs a.declared cs h y (slice_set ns y.name y.hidden) ws gone refl above over
+
+pub remove_own-value-requires-clause-some : goal.remove_own-value-requires-clause-some
+remove_own-value-requires-clause-some g c =
     let a = c.self.inside in
     let xs = a.names in
     let ns = a.newest.items in
@@ -46,11 +63,11 @@ take_back-requires-clause-first g c =
     let cs = reverse a.calls.items in
     let h = c.self.invariant.held in
     let H = c.args.self.now in
-    let y = c.remove-value.result in
-    let ms = c.remove-value.new.newest.items in
-    let ws = c.remove-value.new.variables.items in
-    let gone = c.remove-value.ensures.variables in
-    let newest = c.remove-value.ensures.newest in
+    let y = c.remove_own-value.result in
+    let ms = c.remove_own-value.new.newest.items in
+    let ws = c.remove_own-value.new.variables.items in
+    let gone = c.remove_own-value.ensures.variables in
+    let newest = c.remove_own-value.ensures.newest in
     let above = is_above a.stacks.lists xs ns vs a.declared cs h y ms ws gone newest H c.self.view_is c.requires.local in
     let over = start_under a.stacks.lists xs ns vs a.declared cs h y ms ws gone newest above in
     let was = left_over a.stacks.lists xs ns vs a.declared cs h y ms ws gone newest above over H c.self.view_is in
@@ -70,11 +87,11 @@ take_back-requires-clause-room g c =
     let cs = reverse a.calls.items in
     let h = c.self.invariant.held in
     let H = c.args.self.now in
-    let y = c.remove-value.result in
-    let ms = c.remove-value.new.newest.items in
-    let ws = c.remove-value.new.variables.items in
-    let gone = c.remove-value.ensures.variables in
-    let newest = c.remove-value.ensures.newest in
+    let y = c.remove_own-value.result in
+    let ms = c.remove_own-value.new.newest.items in
+    let ws = c.remove_own-value.new.variables.items in
+    let gone = c.remove_own-value.ensures.variables in
+    let newest = c.remove_own-value.ensures.newest in
     let above = is_above a.stacks.lists xs ns vs a.declared cs h y ms ws gone newest H c.self.view_is c.requires.local in
     let over = start_under a.stacks.lists xs ns vs a.declared cs h y ms ws gone newest above in
     let was = left_over a.stacks.lists xs ns vs a.declared cs h y ms ws gone newest above over H c.self.view_is in
@@ -92,11 +109,11 @@ invariant_of-self g c =
     let cs = reverse a.calls.items in
     let h = c.self.invariant.held in
     let H = c.args.self.now in
-    let y = c.remove-value.result in
-    let ms = c.remove-value.new.newest.items in
-    let ws = c.remove-value.new.variables.items in
-    let gone = c.remove-value.ensures.variables in
-    let newest = c.remove-value.ensures.newest in
+    let y = c.remove_own-value.result in
+    let ms = c.remove_own-value.new.newest.items in
+    let ws = c.remove_own-value.new.variables.items in
+    let gone = c.remove_own-value.ensures.variables in
+    let newest = c.remove_own-value.ensures.newest in
     let above = is_above a.stacks.lists xs ns vs a.declared cs h y ms ws gone newest H c.self.view_is c.requires.local in
     let over = start_under a.stacks.lists xs ns vs a.declared cs h y ms ws gone newest above in
     let was = left_over a.stacks.lists xs ns vs a.declared cs h y ms ws gone newest above over H c.self.view_is in
@@ -111,8 +128,12 @@ invariant_of-self g c =
       stacks = omega (arith, ap (λ ls. live_stacks (held_in ls xs a.declared ws cs)) lists, with_number a.stacks.lists y.value (live_stacks left), ap length spare, length-append a.stacks.spare (number_in y.value), slots, c.self.invariant.stacks, ap live_stacks c.self.view_is);
       apart = λ i. let z = times_left vs ws y gone i in let w = ap (times i) spare in let t = times_append i a.stacks.spare (number_in y.value) in let o = c.self.invariant.apart i in omega (arith, z, w, t, o);
       known = λ i le. let z = times_left vs ws y gone i in let w = ap (times i) spare in let t = times_append i a.stacks.spare (number_in y.value) in let o = c.self.invariant.known i le in omega (arith, z, w, t, o);
-      room = omega (arith, c.self.invariant.room, c.remove-value.ensures.room);
+      room = omega (arith, c.self.invariant.room, c.remove_own-value.ensures.room);
       call_room = c.self.invariant.call_room;
+      sorted = c.remove_own-value.ensures.sorted;
+      counted = counted_under vs ws y cs (omega (arith, over, start_of (bounds xs [] ws) (length ws) cs)) gone c.self.invariant.counted;
+      places_room = omega (arith, c.self.invariant.places_room, c.remove_own-value.ensures.places_room);
+      in_front = c.self.invariant.in_front;
     }
 
 pub returns : goal.returns
@@ -124,11 +145,11 @@ returns g c = λ x r e.
     let cs = reverse a.calls.items in
     let h = c.self.invariant.held in
     let H = c.args.self.now in
-    let y = c.remove-value.result in
-    let ms = c.remove-value.new.newest.items in
-    let ws = c.remove-value.new.variables.items in
-    let gone = c.remove-value.ensures.variables in
-    let newest = c.remove-value.ensures.newest in
+    let y = c.remove_own-value.result in
+    let ms = c.remove_own-value.new.newest.items in
+    let ws = c.remove_own-value.new.variables.items in
+    let gone = c.remove_own-value.ensures.variables in
+    let newest = c.remove_own-value.ensures.newest in
     let above = is_above a.stacks.lists xs ns vs a.declared cs h y ms ws gone newest H c.self.view_is c.requires.local in
     let over = start_under a.stacks.lists xs ns vs a.declared cs h y ms ws gone newest above in
     let was = left_over a.stacks.lists xs ns vs a.declared cs h y ms ws gone newest above over H c.self.view_is in

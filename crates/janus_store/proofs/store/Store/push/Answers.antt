@@ -86,6 +86,10 @@ invariant_of-self g c =
       known = λ j le. let z = ap (times j) spare in let o = c.self.invariant.known j le in omega (arith, z, o);
       room = c.self.invariant.room;
       call_room = c.self.invariant.call_room;
+      sorted = c.self.invariant.sorted;
+      counted = c.self.invariant.counted;
+      places_room = c.self.invariant.places_room;
+      in_front = c.self.invariant.in_front;
     }
 
 pub returns-clause-written : goal.returns-clause-written

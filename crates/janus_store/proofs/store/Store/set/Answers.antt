@@ -1,4 +1,4 @@
-use Rattle.std.proofs.Common.{◌≡◌, ap, ◌∙◌, sym, arith, w32, refl, length}
+use Rattle.std.proofs.Common.{◌≡◌, ap, ◌∙◌, sym, subst, arith, w32, refl, length}
 use Rattle.std.specs.Prelude.{slice_get, Some, reverse}
 use Rattle.std.proofs.lemmas.Int.{to_z-of_z}
 use Rattle.janus_meaning.specs.Store.{look, Num, cleared_val}
@@ -10,6 +10,8 @@ use Rattle.cell_pool.specs.Chains.{times}
 use Rattle.janus_store.proofs.Owned.{stacks_written}
 use Rattle.janus_store.proofs.Standing.{has_place, place_fits, value_is, set_written, set_held, set_like, set_stacks}
 use Rattle.janus_store.specs.Stores.{write}
+use Rattle.janus_store.specs.Places.{AreSorted, AreCounted}
+use Rattle.janus_store.proofs.Marks.{marks_set, same_shape}
 use Rattle.janus_store.proofs.store.Store.set.Goals as goal
 
 pub place-at-requires : goal.place-at-requires
@@ -73,6 +75,7 @@ invariant_of-self g c =
     let shape : cleared_val (val_in a.stacks.lists new) ≡ cleared_val (Num c.requires.2.0) = ap cleared_val (c.set_number.ensures.written a.stacks.lists) in
     let there : slice_get vs p ≡ Some v = slice_get_read vs (length vs) p v refl (place_fits a.stacks.lists xs ns vs a.declared cs h H c.self.view_is c.args.name c.requires.0 (Num c.requires.2.0) p c.requires.1 c.requires.2.1 q) read in
     let keep = stacks_written vs p v (record { name = v.name; hidden = v.hidden; place = v.place; value = new }) there c.set_number.ensures.stack in
+    let kinds = marks_set vs p v (record { name = v.name; hidden = v.hidden; place = v.place; value = new }) there refl (same_shape a.stacks.lists a.stacks.lists v.value new (shape ∙ sym (ap cleared_val same))) in
     record {
       held = set_held a.stacks.lists xs ns vs a.declared cs h H c.self.view_is c.args.name c.requires.0 (Num c.requires.2.0) p v c.requires.1 c.requires.2.1 q read a.stacks.lists (λ j ne. refl) new;
       stacks = omega (arith, c.self.invariant.stacks, ap live_stacks c.self.view_is, set_stacks a.stacks.lists xs ns vs a.declared cs h H c.self.view_is c.args.name c.requires.0 (Num c.requires.2.0) p v c.requires.1 c.requires.2.1 q read a.stacks.lists (λ j ne. refl) new shape);
@@ -80,6 +83,10 @@ invariant_of-self g c =
       known = λ i le. let z = ap (times i) keep in let o = c.self.invariant.known i le in omega (arith, z, o);
       room = c.self.invariant.room;
       call_room = c.self.invariant.call_room;
+      sorted = subst (AreSorted a.places) (sym kinds) c.self.invariant.sorted;
+      counted = subst (λ l. AreCounted l cs) (sym kinds) c.self.invariant.counted;
+      places_room = c.self.invariant.places_room;
+      in_front = c.self.invariant.in_front;
     }
 
 pub returns-clause-shape : goal.returns-clause-shape

@@ -19,7 +19,7 @@ returns-in-Ended-clause-runs g c = λ at h.
     let r = c.args.self.now in
     let p = c.args.program.now in
     let sliced = c.slice-sliced.ensures in
-    let s = gone_on r p at c.slice-sliced.new.store c.slice-sliced.new.cursor c.slice-sliced.result.taken h sliced.stands sliced.names sliced.agrees sliced.counts sliced.steps in
+    let s = gone_on r p at c.slice-sliced.new.store c.slice-sliced.new.cursor c.slice-sliced.result.taken c.args.m h sliced.stands sliced.names sliced.agrees sliced.counts sliced.steps in
     let why = rw c.in-Ended.is at (sliced.end _ _ (in_effect r p at false h) h.agrees) in
     record {
       reaches = run_ended _ p at c.slice-sliced.result.taken c.args.m s c.count-count.result sliced.taken c.count-count.ensures why;
@@ -32,7 +32,7 @@ returns-in-Fault-clause-runs g c = λ at h.
     let r = c.args.self.now in
     let p = c.args.program.now in
     let sliced = c.slice-sliced.ensures in
-    let s = gone_on r p at c.slice-sliced.new.store c.slice-sliced.new.cursor c.slice-sliced.result.taken h sliced.stands sliced.names sliced.agrees sliced.counts sliced.steps in
+    let s = gone_on r p at c.slice-sliced.new.store c.slice-sliced.new.cursor c.slice-sliced.result.taken c.args.m h sliced.stands sliced.names sliced.agrees sliced.counts sliced.steps in
     let why = rw c.in-Fault.is at (sliced.end _ _ (in_effect r p at false h) h.agrees) in
     record {
       reaches = run_stopped _ p at c.slice-sliced.result.taken c.args.m s c.count-count.result c.in-Fault.fault why.0 c.count-count.ensures why.1 why.2;
@@ -45,7 +45,7 @@ returns-in-Cut-clause-runs g c = λ at h.
     let r = c.args.self.now in
     let p = c.args.program.now in
     let sliced = c.slice-sliced.ensures in
-    let s = gone_on r p at c.slice-sliced.new.store c.slice-sliced.new.cursor c.slice-sliced.result.taken h sliced.stands sliced.names sliced.agrees sliced.counts sliced.steps in
+    let s = gone_on r p at c.slice-sliced.new.store c.slice-sliced.new.cursor c.slice-sliced.result.taken c.args.m h sliced.stands sliced.names sliced.agrees sliced.counts sliced.steps in
     let why = rw c.in-Cut.is at (sliced.end _ _ (in_effect r p at false h) h.agrees) in
     record {
       reaches = run_went _ p at c.slice-sliced.result.taken c.args.m s why.0 why.1;

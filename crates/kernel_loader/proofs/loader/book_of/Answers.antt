@@ -1,0 +1,8 @@
+use Rattle.kernel_loader.proofs.Made.{book_numbered}
+use Rattle.kernel_loader.proofs.loader.book_of.Goals as goal
+
+pub returns-then-has_loop-clause-numbered : goal.returns-then-has_loop-clause-numbered
+returns-then-has_loop-clause-numbered g c = book_numbered c.args.names.now c.in-Ok.code.statements.items c.laid.result c.in-Ok.ensures.numbered c.laid.ensures.numbered
+
+pub returns-clause-numbered : goal.returns-clause-numbered
+returns-clause-numbered g c = book_numbered c.args.names.now c.in-Ok.code.statements.items c.new.result c.in-Ok.ensures.numbered c.new.ensures.numbered
