@@ -4,7 +4,7 @@ use Rattle.janus_meaning.specs.Syntax as tree
 use Rattle.janus_meaning.specs.Shape.{Shape, Heads, heads_of}
 use Rattle.janus_meaning.specs.Formed.{IsStm, IsBlk, AreProcs}
 use Rattle.janus_meaning.specs.FormedWorld.{with_heads, with_declared}
-use Rattle.janus_syntax.specs.Tree.{Stm, Skip, Assign, AssignElement, Push, Pop, If, Loop, LocalInt, LocalStack, Call, Uncall, Block, Empty, More, Procedure, procedure_of, Cell, cell_of}
+use Rattle.janus_syntax.specs.Tree.{Stm, Skip, Assign, AssignElement, Push, Pop, Swap, If, Loop, LocalInt, LocalStack, Call, Uncall, Block, Empty, More, Procedure, procedure_of, Cell, cell_of}
 use Rattle.janus_syntax.specs.View.{text_of, plain_stm, plain_block, plain_parameter}
 use Rattle.janus_check.specs.Names.{shape_in, heads_in}
 use Rattle.janus_check.specs.Check.{declarations_faults, after_declarations, heads_faults, heads_with, use_faults, exp_faults, side_faults, end_use_faults, end_faults, shadow_faults, stm_faults, block_faults, parameters_faults, body_faults, bodies_faults, cell_faults}
@@ -27,6 +27,7 @@ mutual
       (use_formed g tree.AnArray a (left_nil _ _ front), side_formed g (text_of a) i (right_nil (use_faults g tree.AnArray a) _ front), side_formed g (text_of a) e (right_nil (use_faults g tree.AnArray a ++ side_faults g (text_of a) i) _ h))
   stm_formed hs g (Push x y) h = (use_formed g tree.ANumber x (left_nil _ _ h), use_formed g tree.AStack y (right_nil (use_faults g tree.ANumber x) _ h))
   stm_formed hs g (Pop x y) h = (use_formed g tree.ANumber x (left_nil _ _ h), use_formed g tree.AStack y (right_nil (use_faults g tree.ANumber x) _ h))
+  stm_formed hs g (Swap x y) h = (use_formed g tree.ANumber x (left_nil _ _ h), use_formed g tree.ANumber y (right_nil (use_faults g tree.ANumber x) _ h))
   stm_formed hs g (If a s t b) h =
       let f = four (exp_faults g a) (block_faults hs g s) (block_faults hs g t) (exp_faults g b) h in
       (exp_formed g a f.0, block_formed hs g s f.1, block_formed hs g t f.2, exp_formed g b f.3)
@@ -56,6 +57,7 @@ mutual
       both_nil (use_faults g tree.AnArray a ++ side_faults g (text_of a) i) _ (both_nil _ _ (use_no_faults g tree.AnArray a h.0) (side_no_faults g (text_of a) i h.1)) (side_no_faults g (text_of a) e h.2)
   stm_no_faults hs g (Push x y) h = both_nil _ _ (use_no_faults g tree.ANumber x h.0) (use_no_faults g tree.AStack y h.1)
   stm_no_faults hs g (Pop x y) h = both_nil _ _ (use_no_faults g tree.ANumber x h.0) (use_no_faults g tree.AStack y h.1)
+  stm_no_faults hs g (Swap x y) h = both_nil _ _ (use_no_faults g tree.ANumber x h.0) (use_no_faults g tree.ANumber y h.1)
   stm_no_faults hs g (If a s t b) h =
       all_four (exp_faults g a) (block_faults hs g s) (block_faults hs g t) (exp_faults g b) (exp_no_faults g a h.0) (block_no_faults hs g s h.1) (block_no_faults hs g t h.2) (exp_no_faults g b h.3)
   stm_no_faults hs g (Loop a s t b) h =

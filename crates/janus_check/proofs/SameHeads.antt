@@ -2,7 +2,7 @@
 use Rattle.std.proofs.Common.{◌≡◌, ◌≤◌, suc, ℕ, Bool, true, false, List, [], ◌∷◌, ◌++◌, Option, Some, None, is_some, refl, ap, ◌∙◌, sym, subst}
 use Rattle.std.specs.Prelude.{nat_lt}
 use Rattle.janus_meaning.specs.Limit.{procedure_limit}
-use Rattle.janus_meaning.specs.Syntax.{Name, Stm, Blk, Skip, Set, SetAt, Push, Pop, If, From, LocalInt, LocalStack, Call, Uncall, Nil, Cons, Proc, Kind, ANumber, AStack}
+use Rattle.janus_meaning.specs.Syntax.{Name, Stm, Blk, Skip, Set, SetAt, Push, Pop, Swap, If, From, LocalInt, LocalStack, Call, Uncall, Nil, Cons, Proc, Kind, ANumber, AStack}
 use Rattle.janus_meaning.specs.Store.{same_name}
 use Rattle.janus_meaning.specs.Shape.{at_name, pick_newest, left_out, without, count_new, different, Shape, Heads, head_at, head_of}
 use Rattle.janus_meaning.specs.Formed.{IsStm, IsBlk, AreProcs}
@@ -134,6 +134,7 @@ mutual
   stm_same hs js g (SetAt a i o b) e h = h
   stm_same hs js g (Push x y) e h = h
   stm_same hs js g (Pop x y) e h = h
+  stm_same hs js g (Swap x y) e h = h
   stm_same hs js g (If a s t b) e h = (h.0, block_same hs js g s e h.1, block_same hs js g t e h.2, h.3)
   stm_same hs js g (From a s t b) e h = (h.0, block_same hs js g s e h.1, block_same hs js g t e h.2, h.3)
   stm_same hs js g (LocalInt x a s b) e h = (h.0, h.1, block_same hs js ((x, ANumber) ∷ g) s e h.2, h.3)
@@ -187,6 +188,7 @@ mutual
   stm_faults_same hs js g (tree.AssignElement a i u b) e = refl
   stm_faults_same hs js g (tree.Push x y) e = refl
   stm_faults_same hs js g (tree.Pop x y) e = refl
+  stm_faults_same hs js g (tree.Swap x y) e = refl
   stm_faults_same hs js g (tree.If a s t b) e = (λ i. exp_faults g a ++ block_faults_same hs js g s e i ++ block_faults_same hs js g t e i ++ exp_faults g b)
   stm_faults_same hs js g (tree.Loop a s t b) e = (λ i. exp_faults g a ++ block_faults_same hs js g s e i ++ block_faults_same hs js g t e i ++ exp_faults g b)
   stm_faults_same hs js g (tree.LocalInt x a s y b) e =

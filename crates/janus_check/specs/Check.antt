@@ -6,8 +6,8 @@ use Rattle.janus_meaning.specs.Syntax as tree
 use Rattle.janus_meaning.specs.Store.{same_name}
 use Rattle.janus_meaning.specs.Shape.{Shape, kind_at, stack_count, Heads, head_at, different, kinds_in}
 use Rattle.janus_syntax.specs.declared.token.Span.{Span}
-use Rattle.janus_syntax.specs.Tree.{Name, named, Exp, Num, Var, Element, EmptyOf, TopOf, Neg, Bin, And, Or, Stm, Skip, Assign, AssignElement, Push, Pop, If}
-use Rattle.janus_syntax.specs.Tree.{Loop, LocalInt, LocalStack, Call, Uncall, Block, Empty, More, Declaration, Int, Array, StackOf, Parameter, IntParameter}
+use Rattle.janus_syntax.specs.Tree.{Name, named, Exp, Num, Var, Element, EmptyOf, TopOf, Neg, Bin, And, Or, Stm, Skip, Assign, AssignElement, Push, Pop, Swap}
+use Rattle.janus_syntax.specs.Tree.{If, Loop, LocalInt, LocalStack, Call, Uncall, Block, Empty, More, Declaration, Int, Array, StackOf, Parameter, IntParameter}
 use Rattle.janus_syntax.specs.Tree.{ArrayParameter, StackParameter, Procedure, procedure_of, Cell, cell_of}
 use Rattle.janus_syntax.specs.View.{text_of, plain_parameter}
 use Rattle.janus_check.specs.Names.{is_in, shape_in, heads_in, Known}
@@ -241,6 +241,7 @@ abbrev mutual
   stm_faults hs g (AssignElement a i u e) = use_faults g tree.AnArray a ++ side_faults g (text_of a) i ++ side_faults g (text_of a) e
   stm_faults hs g (Push x y) = use_faults g tree.ANumber x ++ use_faults g tree.AStack y
   stm_faults hs g (Pop x y) = use_faults g tree.ANumber x ++ use_faults g tree.AStack y
+  stm_faults hs g (Swap x y) = use_faults g tree.ANumber x ++ use_faults g tree.ANumber y
   stm_faults hs g (If a s t b) = exp_faults g a ++ block_faults hs g s ++ block_faults hs g t ++ exp_faults g b
   stm_faults hs g (Loop a s t b) = exp_faults g a ++ block_faults hs g s ++ block_faults hs g t ++ exp_faults g b
   stm_faults hs g (LocalInt x a s y b) = shadow_faults g x ++ end_faults g (text_of x) a ++ block_faults hs ((text_of x, tree.ANumber) ∷ g) s

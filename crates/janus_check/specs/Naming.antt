@@ -3,8 +3,8 @@ use Rattle.std.specs.Prelude.{Bool, false, not, ◌&&◌, ◌||◌}
 use Rattle.std.specs.List.{list_any}
 use Rattle.janus_meaning.specs.Syntax as meaning
 use Rattle.janus_meaning.specs.Store.{same_name}
-use Rattle.janus_syntax.specs.Tree.{Name, named, Exp, Num, Var, Element, EmptyOf, TopOf, Neg, Bin, And, Or, Stm, Skip, Assign, AssignElement, Push, Pop, If}
-use Rattle.janus_syntax.specs.Tree.{Loop, LocalInt, LocalStack, Call, Uncall, Block, Empty, More, Declaration, Int, Array, StackOf, Cell, cell_of}
+use Rattle.janus_syntax.specs.Tree.{Name, named, Exp, Num, Var, Element, EmptyOf, TopOf, Neg, Bin, And, Or, Stm, Skip, Assign, AssignElement, Push, Pop, Swap}
+use Rattle.janus_syntax.specs.Tree.{If, Loop, LocalInt, LocalStack, Call, Uncall, Block, Empty, More, Declaration, Int, Array, StackOf, Cell, cell_of}
 
 abbrev pub is_it : meaning.Name → Name → Bool
 is_it x (named y at) = same_name y x
@@ -28,6 +28,7 @@ abbrev mutual
   in_stm x (AssignElement a i u e) = is_it x a || in_exp x i || in_exp x e
   in_stm x (Push y z) = is_it x y || is_it x z
   in_stm x (Pop y z) = is_it x y || is_it x z
+  in_stm x (Swap y z) = is_it x y || is_it x z
   in_stm x (If a s t b) = in_exp x a || in_block x s || in_block x t || in_exp x b
   in_stm x (Loop a s t b) = in_exp x a || in_block x s || in_block x t || in_exp x b
   in_stm x (LocalInt y a s z b) = in_exp x a || (not (is_it x y) && in_block x s) || in_exp x b

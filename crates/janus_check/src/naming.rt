@@ -80,6 +80,10 @@ fn stm_names(name: &str, stm: &Stm, found: bool) -> bool
             let next = is_name(name, variable, found);
             is_name(name, stack, next)
         }
+        Stm::Swap(one, other) => {
+            let next = is_name(name, one, found);
+            is_name(name, other, next)
+        }
         Stm::If(test, then_part, else_part, last) => {
             let next = exp_names(name, test, found);
             let next = block_names(name, then_part, next);

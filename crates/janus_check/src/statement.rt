@@ -33,6 +33,10 @@ fn stm_fault(stm: &Stm, sight: &Sight, first: Option<CheckFault>) -> Option<Chec
             let next = use_fault(sight, Kind::Number, variable, first);
             use_fault(sight, Kind::Stack, stack, next)
         }
+        Stm::Swap(one, other) => {
+            let next = use_fault(sight, Kind::Number, one, first);
+            use_fault(sight, Kind::Number, other, next)
+        }
         Stm::If(test, then_part, else_part, last) => {
             let next = exp_fault(test, &Context::Free(&*sight), first);
             let next = block_fault(then_part, sight, next);

@@ -9,7 +9,7 @@ use Rattle.janus_syntax.specs.declared.tree.Name as code_name
 use Rattle.janus_syntax.specs.declared.tree.Exp as code_exp
 use Rattle.janus_syntax.specs.declared.tree.Stm as code_stm
 use Rattle.janus_syntax.proofs.Views.{view_if, view_loop, view_local_int, view_local_stack}
-use Rattle.janus_syntax.specs.Tree.{named, name_view, Stm, Skip, Assign, AssignElement, Push, Pop, If, Loop, LocalInt, LocalStack, Call, Uncall, Block, Empty, More, cell_of, exp_view, stm_view, block_view}
+use Rattle.janus_syntax.specs.Tree.{named, name_view, Stm, Skip, Assign, AssignElement, Push, Pop, Swap, If, Loop, LocalInt, LocalStack, Call, Uncall, Block, Empty, More, cell_of, exp_view, stm_view, block_view}
 use Rattle.janus_code.specs.Cells.{opposite_of, inverse_stm, turned, InverseCellTwice}
 
 -- ---- twice is the identity
@@ -26,6 +26,7 @@ mutual
   inverse_twice (AssignElement x i u e) = ap (λ u. AssignElement x i u e) (opposite_twice u)
   inverse_twice (Push x y) = refl
   inverse_twice (Pop x y) = refl
+  inverse_twice (Swap x y) = refl
   inverse_twice (If a s t b) = ap (λ r. If a r (turned (turned t Empty) Empty) b) (turned_twice s Empty) ∙ ap (λ r. If a s r b) (turned_twice t Empty)
   inverse_twice (Loop a s t b) = ap (λ r. Loop a r (turned (turned t Empty) Empty) b) (turned_twice s Empty) ∙ ap (λ r. Loop a s r b) (turned_twice t Empty)
   inverse_twice (LocalInt x a s y b) = ap (λ r. LocalInt x a r y b) (turned_twice s Empty)
@@ -79,6 +80,7 @@ mutual
   inverse_plain (AssignElement x i u e) = ap (λ o. tree.SetAt (text_of x) (plain_exp i) o (plain_exp e)) (opposite_plain u)
   inverse_plain (Push x y) = refl
   inverse_plain (Pop x y) = refl
+  inverse_plain (Swap x y) = refl
   inverse_plain (If a s t b) =
       ap (λ r. tree.If (plain_exp b) r (plain_block (turned t Empty)) (plain_exp a)) (turned_plain s Empty)
       ∙ ap (λ r. tree.If (plain_exp b) (tree.turn (plain_block s) tree.Nil) r (plain_exp a)) (turned_plain t Empty)

@@ -2,7 +2,7 @@
 use Rattle.std.proofs.Common.{◌≡◌, ◌<◌, ◌+◌, length, get_or, ℕ, zero, suc, Bool, true, false, List, [], ◌∷◌, map, refl, ap, ◌∙◌, sym, subst, arith}
 use Rattle.std.specs.Prelude.{Some}
 use Rattle.janus_meaning.specs.Syntax as tree
-use Rattle.janus_meaning.specs.Syntax.{Name, Kind, Exp, Number, Var, At, Empty, Top, Negate, Binary, And, Or, Stm, Blk, Skip, Set, SetAt, Push, Pop, If, From, LocalInt, LocalStack, Call, Uncall, Nil, Cons, Proc, names_of}
+use Rattle.janus_meaning.specs.Syntax.{Name, Kind, Exp, Number, Var, At, Empty, Top, Negate, Binary, And, Or, Stm, Blk, Skip, Set, SetAt, Push, Pop, Swap, If, From, LocalInt, LocalStack, Call, Uncall, Nil, Cons, Proc, names_of}
 use Rattle.janus_meaning.specs.Store.{same_name}
 use Rattle.janus_meaning.specs.Shape.{Shape, Heads, kind_at, head_at, pick_newest, left_out, without}
 use Rattle.janus_meaning.specs.Formed.{IsExp, AreArguments, IsStm, IsBlk, IsProc}
@@ -87,6 +87,7 @@ mutual
   stm_met hs g xs (SetAt a i o e) q m h l = (m a tree.AnArray h.0, side_met a g xs i m h.1, side_met a g xs e m h.2)
   stm_met hs g xs (Push x y) q m h l = (m x tree.ANumber h.0, m y tree.AStack h.1)
   stm_met hs g xs (Pop x y) q m h l = (m x tree.ANumber h.0, m y tree.AStack h.1)
+  stm_met hs g xs (Swap x y) q m h l = (m x tree.ANumber h.0, m y tree.ANumber h.1)
   stm_met hs g xs (If a s t b) q m h l = (exp_met g xs a m h.0, block_met hs g xs s q m h.1 l.0, block_met hs g xs t q m h.2 l.1, exp_met g xs b m h.3)
   stm_met hs g xs (From a s t b) q m h l = (exp_met g xs a m h.0, block_met hs g xs s q m h.1 l.0, block_met hs g xs t q m h.2 l.1, exp_met g xs b m h.3)
   stm_met hs g xs (LocalInt x a s b) q m h l = (l.0, exp_met g xs a m h.1, block_met hs ((x, tree.ANumber) ∷ g) xs s q (with_local x tree.ANumber g xs m l.0) h.2 l.1, exp_met g xs b m h.3)
@@ -135,6 +136,7 @@ abbrev mutual
   stm_weight (SetAt a i o e) = 1
   stm_weight (Push x y) = 1
   stm_weight (Pop x y) = 1
+  stm_weight (Swap x y) = 1
   stm_weight (If a s t b) = suc (block_weight s + block_weight t)
   stm_weight (From a s t b) = suc (block_weight s + block_weight t)
   stm_weight (LocalInt x a s b) = suc (block_weight s)

@@ -8,7 +8,7 @@ use Rattle.janus_syntax.specs.declared.tree.Operator.{Operator}
 use Rattle.janus_syntax.specs.declared.tree.Operator.TheVariants as operator
 use Rattle.janus_syntax.specs.declared.tree.Update.{Update}
 use Rattle.janus_syntax.specs.declared.tree.Update.TheVariants as update
-use Rattle.janus_syntax.specs.Tree.{Name, named, Exp, Num, Var, Element, EmptyOf, TopOf, Neg, Bin, And, Or, Stm, Skip, Assign, AssignElement, Push, Pop, If, Loop, LocalInt, LocalStack, Call, Uncall, Block, Empty, More, Parameter, IntParameter, ArrayParameter, StackParameter, Procedure, procedure_of}
+use Rattle.janus_syntax.specs.Tree.{Name, named, Exp, Num, Var, Element, EmptyOf, TopOf, Neg, Bin, And, Or, Stm, Skip, Assign, AssignElement, Push, Pop, Swap, If, Loop, LocalInt, LocalStack, Call, Uncall, Block, Empty, More, Parameter, IntParameter, ArrayParameter, StackParameter, Procedure, procedure_of}
 use Rattle.janus_syntax.specs.View.{text_of, operator_of, update_of, plain_exp, plain_stm, plain_block, plain_parameter, plain_procedure}
 use Rattle.janus_syntax.specs.Operators.{weakest}
 use Rattle.janus_syntax.specs.Printing.{Piece, A_name, A_sign, A_keyword, A_minus, An_opening, with_pieces, no_text, operator_sign, sign_level, if_needed, infix_pieces, binding_pieces, more_names_pieces, names_pieces, call_pieces, exp_pieces, update_sign, whole_pieces, stm_pieces, block_pieces, parameter_pieces, more_parameters_pieces, parameters_pieces, procedure_pieces, printed_procedure}
@@ -104,6 +104,7 @@ mutual
       ∙ ap (λ (ps : List Piece). A_name x ∷ A_sign sign.OpenIndex ∷ (told_whole i ++ A_sign sign.CloseIndex ∷ A_sign (update_sign (update_tree (update_of u))) ∷ ps)) (exp_same e weakest)
   stm_same (Push (named x at) (named y to)) = refl
   stm_same (Pop (named x at) (named y to)) = refl
+  stm_same (Swap (named x at) (named y to)) = refl
   stm_same (If e s t f) =
       four_same keyword.If keyword.Then keyword.Else keyword.Fi (whole_pieces e) (block_pieces (closed_block s)) (block_pieces (closed_block t)) (whole_pieces f) (told_whole e) (told_block s) (told_block t) (told_whole f)
       (exp_same e weakest) (block_same s) (block_same t) (exp_same f weakest)

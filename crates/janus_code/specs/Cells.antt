@@ -2,7 +2,7 @@
 use Rattle.std.specs.Prelude.{◌≡◌}
 use Rattle.janus_syntax.specs.declared.tree.Update.{Update}
 use Rattle.janus_syntax.specs.declared.tree.Update.TheVariants.{Add, Subtract, Xor}
-use Rattle.janus_syntax.specs.Tree.{Stm, Skip, Assign, AssignElement, Push, Pop, If, Loop, LocalInt, LocalStack, Call, Uncall, Block, Empty, More, Cell}
+use Rattle.janus_syntax.specs.Tree.{Stm, Skip, Assign, AssignElement, Push, Pop, Swap, If, Loop, LocalInt, LocalStack, Call, Uncall, Block, Empty, More, Cell}
 use Rattle.janus_syntax.specs.Tree.{cell_of}
 
 abbrev pub opposite_of : Update → Update
@@ -25,6 +25,7 @@ abbrev mutual
   inverse_stm (AssignElement x i u e) = AssignElement x i (opposite_of u) e
   inverse_stm (Push x y) = Pop x y
   inverse_stm (Pop x y) = Push x y
+  inverse_stm (Swap x y) = Swap x y
   inverse_stm (If a s t b) = If b (turned s Empty) (turned t Empty) a
   inverse_stm (Loop a s t b) = Loop b (turned s Empty) (turned t Empty) a
   inverse_stm (LocalInt x a s y b) = LocalInt x b (turned s Empty) y a

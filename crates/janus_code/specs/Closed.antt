@@ -1,5 +1,5 @@
 -- Trees in which each `delocal` has the name of its local.
-use Rattle.janus_syntax.specs.Tree.{Stm, Skip, Assign, AssignElement, Push, Pop, If, Loop, LocalInt, LocalStack, Call, Uncall, Block, Empty, More}
+use Rattle.janus_syntax.specs.Tree.{Stm, Skip, Assign, AssignElement, Push, Pop, Swap, If, Loop, LocalInt, LocalStack, Call, Uncall, Block, Empty, More}
 use Rattle.janus_syntax.specs.Tree.{Procedure, procedure_of}
 
 abbrev mutual
@@ -10,6 +10,7 @@ abbrev mutual
   closed_stm (AssignElement x i u e) = AssignElement x i u e
   closed_stm (Push x y) = Push x y
   closed_stm (Pop x y) = Pop x y
+  closed_stm (Swap x y) = Swap x y
   closed_stm (If a s t b) = If a (closed_block s) (closed_block t) b
   closed_stm (Loop a s t b) = Loop a (closed_block s) (closed_block t) b
   closed_stm (LocalInt x a s y b) = LocalInt x a (closed_block s) x b

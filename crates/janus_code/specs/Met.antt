@@ -1,7 +1,7 @@
 -- Trees each of whose names was met, and so has a number, those of locals too.
 use Rattle.janus_names.specs.Numbers.{IsMet}
 use Rattle.std.specs.Prelude.{List, [], ◌∷◌}
-use Rattle.janus_meaning.specs.Syntax.{Name, Exp, Number, Var, At, Empty, Top, Negate, Binary, And, Or, Stm, Blk, Skip, Set, SetAt, Push, Pop, If, From}
+use Rattle.janus_meaning.specs.Syntax.{Name, Exp, Number, Var, At, Empty, Top, Negate, Binary, And, Or, Stm, Blk, Skip, Set, SetAt, Push, Pop, Swap, If, From}
 use Rattle.janus_meaning.specs.Syntax.{LocalInt, LocalStack, Call, Uncall, Nil, Cons, Proc, names_of}
 
 -- each of several names
@@ -28,6 +28,7 @@ abbrev mutual
   MeetsStm xs (SetAt a i o e) = IsMet xs a × MeetsExp xs i × MeetsExp xs e
   MeetsStm xs (Push x y) = IsMet xs x × IsMet xs y
   MeetsStm xs (Pop x y) = IsMet xs x × IsMet xs y
+  MeetsStm xs (Swap x y) = IsMet xs x × IsMet xs y
   MeetsStm xs (If a s t b) = MeetsExp xs a × MeetsBlk xs s × MeetsBlk xs t × MeetsExp xs b
   MeetsStm xs (From a s t b) = MeetsExp xs a × MeetsBlk xs s × MeetsBlk xs t × MeetsExp xs b
   MeetsStm xs (LocalInt x a s b) = IsMet xs x × MeetsExp xs a × MeetsBlk xs s × MeetsExp xs b
@@ -53,6 +54,7 @@ abbrev mutual
   MeetsLocals xs (SetAt a i o e) = Unit {0}
   MeetsLocals xs (Push x y) = Unit {0}
   MeetsLocals xs (Pop x y) = Unit {0}
+  MeetsLocals xs (Swap x y) = Unit {0}
   MeetsLocals xs (If a s t b) = MeetsLocalsOf xs s × MeetsLocalsOf xs t
   MeetsLocals xs (From a s t b) = MeetsLocalsOf xs s × MeetsLocalsOf xs t
   MeetsLocals xs (LocalInt x a s b) = IsMet xs x × MeetsLocalsOf xs s

@@ -7,8 +7,8 @@ use Rattle.janus_syntax.specs.declared.tree.Operator.{Operator}
 use Rattle.janus_syntax.specs.declared.tree.Operator.TheVariants as operator
 use Rattle.janus_syntax.specs.declared.tree.Update.{Update}
 use Rattle.janus_syntax.specs.declared.tree.Update.TheVariants as update
-use Rattle.janus_syntax.specs.Tree.{Name, named, Exp, Num, Var, Element, EmptyOf, TopOf, Neg, Bin, And, Or, Stm, Skip, Assign, AssignElement, Push, Pop, If}
-use Rattle.janus_syntax.specs.Tree.{Loop, LocalInt, LocalStack, Call, Uncall, Block, Empty, More, Parameter, IntParameter, ArrayParameter, StackParameter}
+use Rattle.janus_syntax.specs.Tree.{Name, named, Exp, Num, Var, Element, EmptyOf, TopOf, Neg, Bin, And, Or, Stm, Skip, Assign, AssignElement, Push, Pop, Swap}
+use Rattle.janus_syntax.specs.Tree.{If, Loop, LocalInt, LocalStack, Call, Uncall, Block, Empty, More, Parameter, IntParameter, ArrayParameter, StackParameter}
 use Rattle.janus_syntax.specs.Tree.{Procedure, procedure_of}
 
 -- the place of each part
@@ -60,6 +60,7 @@ abbrev mutual
   stm_tree (meaning.SetAt a i u e) = AssignElement (name_tree a) (exp_tree i) (update_tree u) (exp_tree e)
   stm_tree (meaning.Push x y) = Push (name_tree x) (name_tree y)
   stm_tree (meaning.Pop x y) = Pop (name_tree x) (name_tree y)
+  stm_tree (meaning.Swap x y) = Swap (name_tree x) (name_tree y)
   stm_tree (meaning.If a s t b) = If (exp_tree a) (block_tree s) (block_tree t) (exp_tree b)
   stm_tree (meaning.From a s t b) = Loop (exp_tree a) (block_tree s) (block_tree t) (exp_tree b)
   stm_tree (meaning.LocalInt x a s b) = LocalInt (name_tree x) (exp_tree a) (block_tree s) (name_tree x) (exp_tree b)

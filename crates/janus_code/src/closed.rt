@@ -8,7 +8,8 @@ ghost use Rattle.janus_code.specs.Closed.{closed_block, closed_procedure, closed
 
 use crate::copies::same_parameters;
 use crate::statements::{
-    assign_of, call_of, element_of, if_of, int_of, loop_of, pop_of, push_of, stack_of, uncall_of,
+    assign_of, call_of, element_of, if_of, int_of, loop_of, pop_of, push_of, stack_of, swap_of,
+    uncall_of,
 };
 use janus_syntax::tree::{Procedure, Stm};
 use std::alloc::{AllocError, Global};
@@ -52,6 +53,7 @@ fn closed_statement(alloc: Global, statement: &Stm) -> Result<Stm, AllocError>
         }
         Stm::Push(variable, stack) => push_of(variable, stack),
         Stm::Pop(variable, stack) => pop_of(variable, stack),
+        Stm::Swap(one, other) => swap_of(one, other),
         Stm::If(test, then_part, else_part, last) => {
             let then_part = closed_statements(alloc, then_part)?;
             let else_part = closed_statements(alloc, else_part)?;

@@ -63,6 +63,8 @@ pub enum Statement {
     Push(Symbol, Symbol),
     /// A variable, which takes the newest value of the stack.
     Pop(Symbol, Symbol),
+    /// Two variables, whose numbers are exchanged.
+    Swap(Symbol, Symbol),
     /// The first test, the parts after `then` and `else`, and the test after `fi`.
     If(FlatExp, Block, Block, FlatExp),
     /// The test after `from`, the parts after `do` and `loop`, and the test after `until`.

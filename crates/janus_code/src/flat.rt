@@ -126,6 +126,10 @@ fn flat_statement(
             let (variable, stack) = two_symbols(names, variable, stack)?;
             add(draft, Statement::Pop(variable, stack))
         }
+        Stm::Swap(one, other) => {
+            let (one, other) = two_symbols(names, one, other)?;
+            add(draft, Statement::Swap(one, other))
+        }
         Stm::If(test, then_part, else_part, last) => {
             let then_part = flat_block(alloc, then_part, names, draft)?;
             let else_part = flat_block(alloc, else_part, names, draft)?;

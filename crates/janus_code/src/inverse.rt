@@ -9,7 +9,8 @@ ghost use Rattle.janus_code.specs.Cells.{opposite_of, IsOpposite, inverse_stm, i
 use crate::copies::{same_declarations, same_parameters};
 use crate::fault::InvertFault;
 use crate::statements::{
-    assign_of, call_of, element_of, if_of, int_of, loop_of, pop_of, push_of, stack_of, uncall_of,
+    assign_of, call_of, element_of, if_of, int_of, loop_of, pop_of, push_of, stack_of, swap_of,
+    uncall_of,
 };
 use janus_syntax::tree::{Cell, Procedure, Stm, Update};
 use std::alloc::{AllocError, Global};
@@ -92,6 +93,7 @@ fn inverse_statement(alloc: Global, statement: &Stm) -> Result<Stm, AllocError>
         }
         Stm::Push(variable, stack) => pop_of(variable, stack),
         Stm::Pop(variable, stack) => push_of(variable, stack),
+        Stm::Swap(one, other) => swap_of(one, other),
         Stm::If(test, then_part, else_part, last) => {
             let then_part = inverse_statements(alloc, then_part)?;
             let else_part = inverse_statements(alloc, else_part)?;

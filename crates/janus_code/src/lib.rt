@@ -7,8 +7,8 @@
 //! under which it was met, so that what runs compares no text.
 //! The inverse of a statement is that of Yokoyama and Glück (2007), "A reversible programming language and its invertible
 //! self-interpreter": `+=` and `-=` exchange, `^=` stays; an `if` exchanges its test and its assertion, a loop its entry and its
-//! exit, and their blocks stay where they are, each inverted; `skip` stays; `push` and `pop`, `call` and `uncall` exchange, a local
-//! exchanges its two expressions; a block is reversed with each of its statements inverted.
+//! exit, and their blocks stay where they are, each inverted; `skip` and a swap stay; `push` and `pop`, `call` and `uncall` exchange, a
+//! local exchanges its two expressions; a block is reversed with each of its statements inverted.
 #![tactic(auto)]
 
 ghost use Rattle.janus_code.specs.Cells.{InverseCellTwice};

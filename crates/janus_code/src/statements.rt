@@ -1,7 +1,7 @@
 //! Statements made of copies of their parts; an error for want of memory.
 
 ghost use Rattle.std.specs.Prelude.{◌≡◌, IfOk};
-ghost use Rattle.janus_syntax.specs.Tree.{name_view, names_view, exp_view, block_view, stm_view, Assign, AssignElement, Push, Pop, If, Loop};
+ghost use Rattle.janus_syntax.specs.Tree.{name_view, names_view, exp_view, block_view, stm_view, Assign, AssignElement, Push, Pop, Swap, If, Loop};
 ghost use Rattle.janus_syntax.specs.Tree.{LocalInt, LocalStack, Call, Uncall};
 
 use crate::copies::{both, same_call, two_exps, two_names};
@@ -50,6 +50,14 @@ pub(crate) fn pop_of(variable: &Name, stack: &Name) -> Result<Stm, AllocError>
 {
     let (variable, stack) = two_names(variable, stack)?;
     Ok(Stm::Pop(variable, stack))
+}
+
+/// A swap.
+pub(crate) fn swap_of(one: &Name, other: &Name) -> Result<Stm, AllocError>
+    ensures { IfOk result (λ s. stm_view s ≡ Swap (name_view one.now) (name_view other.now)) }
+{
+    let (one, other) = two_names(one, other)?;
+    Ok(Stm::Swap(one, other))
 }
 
 /// An `if` of these parts.

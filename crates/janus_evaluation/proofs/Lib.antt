@@ -2,5 +2,6 @@ pub mod Assigns
 pub mod Ends
 pub mod Numbers
 pub mod Sizes
+pub mod Swaps
 pub mod Transfers
 pub mod Values

@@ -1,8 +1,8 @@
-//! The numbers of expressions, and what assignments, pushes and pops do to a store.
+//! The numbers of expressions, and what assignments, pushes, pops and swaps do to a store.
 //!
 //! To the layer above it promises that an expression of flat code has in a store the number, or the first fault, that the
-//! meaning gives it, and that an assignment changes its variable or element alone, a push or a pop its variable and its stack alone,
-//! and each of them nothing at a fault. Numbers have 32 bits
+//! meaning gives it, and that an assignment changes its variable or element alone, a push or a pop its variable and its stack alone, a swap
+//! its two variables alone, and each of them nothing at a fault. Numbers have 32 bits
 //! in two's complement; operators are those of Janus (Yokoyama, Axelsen and Glück 2008), division truncates towards zero as
 //! in C.
 #![tactic(auto)]
@@ -19,4 +19,4 @@ pub use crate::expression::{test, value};
 pub use crate::fault::ValueFault;
 pub use crate::local::{close_number, close_stack, open_number, open_stack};
 pub use crate::operator::{bit_of, changed, holds, negative, operate};
-pub use crate::transfer::{pop, push};
+pub use crate::transfer::{pop, push, swap};

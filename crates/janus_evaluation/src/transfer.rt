@@ -1,9 +1,10 @@
-//! What goes between a variable and a stack.
+//! What goes between a variable and a stack, and between two variables.
 
-ghost use Rattle.std.specs.Prelude.{◌≡◌, ◌≢◌, string_bytes};
-ghost use Rattle.janus_meaning.specs.Fault.{Bad, Broken};
-ghost use Rattle.janus_meaning.specs.Moves.{push as push_of, pop as pop_of};
-ghost use Rattle.janus_store.specs.StoreState.{IsLike};
+ghost use Rattle.std.specs.Prelude.{◌≡◌, ◌≢◌, ◌+◌, string_bytes};
+ghost use Rattle.janus_meaning.specs.Fault.{Fine, Bad, Broken};
+ghost use Rattle.janus_meaning.specs.Limit.{pool};
+ghost use Rattle.janus_meaning.specs.Moves.{push as push_of, pop as pop_of, swap as swap_of};
+ghost use Rattle.janus_store.specs.StoreState.{IsLike, values_lent};
 ghost use Rattle.janus_code.specs.Numbered.{HasItsNumber};
 ghost use Rattle.janus_evaluation.specs.Results.{IsDone, IsCounted};
 
@@ -12,25 +13,26 @@ use janus_code::code::Symbol;
 use janus_store::{Store, Writes};
 use std::sync::ledger::Ledger;
 
-/// Moves the number of a variable onto a stack, and leaves 0. Both names have their numbers. A full stack is a fault, which leaves the
-/// store.
+/// Moves the number of a variable onto a stack, and leaves 0. Both names have their numbers. Where all live stacks together hold 262,144
+/// values, those of callers among them, it is a fault, which leaves the store.
 pub fn push<L: Ledger>(
     variable: &Symbol,
     stack: &Symbol,
     store: &mut Store<L>,
     writes: &mut Writes<L>,
 ) -> Result<(), ValueFault>
-    requires safe { push_of (string_bytes variable.now.text) (string_bytes stack.now.text) store.old.sight ≢ Bad Broken }
+    requires safe { push_of pool (values_lent store.old.callers) (string_bytes variable.now.text) (string_bytes stack.now.text) store.old.sight ≢ Bad Broken }
     requires variable { HasItsNumber store.old.names variable.now }
     requires stack { HasItsNumber store.old.names stack.now }
-    ensures done { IsDone (push_of (string_bytes variable.now.text) (string_bytes stack.now.text) store.old.sight) store.old.sight store.new.sight result }
+    ensures done { IsDone (push_of pool (values_lent store.old.callers) (string_bytes variable.now.text) (string_bytes stack.now.text)
+        store.old.sight) store.old.sight store.new.sight result }
     ensures shape { IsLike store.old store.new }
     ensures counted { IsCounted result writes.old writes.new }
 {
     let Some(number) = store.get(variable.number) else {
         unreachable!()
     };
-    if store.is_full(stack.number) {
+    if store.is_full() {
         return Err(ValueFault::StackFull);
     }
     store.push(stack.number, number, writes);
@@ -65,4 +67,28 @@ pub fn pop<L: Ledger>(
     let number = store.pop(stack.number, writes);
     store.set(variable.number, number, writes);
     Ok(())
+}
+
+/// Exchanges the numbers of two variables, which may be the same. Both names have their numbers. There is no fault.
+pub fn swap<L: Ledger>(
+    first: &Symbol,
+    second: &Symbol,
+    store: &mut Store<L>,
+    writes: &mut Writes<L>,
+)
+    requires safe { swap_of (string_bytes first.now.text) (string_bytes second.now.text) store.old.sight ≢ Bad Broken }
+    requires first { HasItsNumber store.old.names first.now }
+    requires second { HasItsNumber store.old.names second.now }
+    ensures done { swap_of (string_bytes first.now.text) (string_bytes second.now.text) store.old.sight ≡ Fine store.new.sight }
+    ensures shape { IsLike store.old store.new }
+    ensures counted { writes.new ≡ writes.old + 2 }
+{
+    let Some(left) = store.get(first.number) else {
+        unreachable!()
+    };
+    let Some(right) = store.get(second.number) else {
+        unreachable!()
+    };
+    store.set(first.number, right, writes);
+    store.set(second.number, left, writes);
 }

@@ -3,13 +3,13 @@ use Rattle.std.proofs.Common.{◌≡◌, List, ◌∷◌, Some, Bool, true, fals
 use Rattle.janus_syntax.specs.Tokens.{Token}
 use Rattle.janus_syntax.specs.Tree.{More}
 use Rattle.janus_syntax.specs.Operators.{weakest, operator_at}
-use Rattle.janus_syntax.specs.Forms.{Part, A_cell, Declarations, Bound, Procedures, A_procedure, Parameters, More_parameters, A_parameter, Brackets, Body, Statements, Else_part, Do_part, Loop_part, Local, Names, More_names, Target_index, Whole, Level, Chain, Index, Tree, agrees, Form, done, part, Rule}
+use Rattle.janus_syntax.specs.Forms.{Part, A_cell, Declarations, Bound, Procedures, A_procedure, Parameters, More_parameters, A_parameter, Brackets, Body, Statements, Else_part, Do_part, Loop_part, Local, Names, More_names, Swap_partner, Target_index, Whole, Level, Chain, Index, Tree, agrees, Form, done, part, Rule}
 use Rattle.janus_syntax.specs.Table.{rule, operand, chains}
 use Rattle.janus_syntax.specs.Grammar
 use Rattle.janus_syntax.specs.Grammar.{Count, Demands, met, Spells}
 use Rattle.janus_syntax.proofs.Agreed.{is_agreed}
 use Rattle.janus_grammar.specs.Derivation.{AreDeclarations, IsParameter, AreParameters}
-use Rattle.janus_grammar.proofs.Table.{Derived, Means, left_out_derived, level_derived, whole_derived, chain_derived, statement_derived, row_derived, none_or_more, bound_derived, declaration_derived, target_derived, index_derived, else_derived, do_derived, loop_part_derived, local_derived, names_derived, more_names_derived}
+use Rattle.janus_grammar.proofs.Table.{Derived, Means, left_out_derived, level_derived, whole_derived, chain_derived, statement_derived, row_derived, none_or_more, bound_derived, declaration_derived, partner_derived, target_derived, index_derived, else_derived, do_derived, loop_part_derived, local_derived, names_derived, more_names_derived}
 use Rattle.janus_grammar.proofs.ProcedureTable.{procedures_derived, procedure_derived, parameter_derived, more_parameters_derived, brackets_derived}
 
 -- a part behind its first token
@@ -50,6 +50,7 @@ rule_derived Loop_part t r u from rest is h = loop_part_derived t r u from rest 
 rule_derived Local t r u from rest is h = local_derived t r u from rest is h
 rule_derived Names t r u from rest is h = names_derived t r u from rest is h
 rule_derived More_names t r u from rest is h = more_names_derived t r u from rest is h
+rule_derived Swap_partner t r u from rest is h = partner_derived t r u from rest is h
 rule_derived Target_index t r u from rest is h = target_derived t r u from rest is h
 rule_derived Whole t r u from rest is h = whole_derived t (operand t (λ e. chains 0 weakest e done)) r u from rest refl is h
 rule_derived (Level n) t r u from rest is h = level_derived n t r u from rest is h

@@ -12,10 +12,10 @@ use Rattle.janus_syntax.specs.declared.tree.LocalKind.{LocalKind}
 use Rattle.janus_syntax.specs.declared.tree.LocalKind.TheVariants as kind
 use Rattle.janus_meaning.proofs.Stores.{same_name_self}
 use Rattle.janus_syntax.specs.Tokens.{Token, Name, Number, Sign_of, Keyword_of}
-use Rattle.janus_syntax.specs.Tree.{Name as Named, named, Exp, Num, EmptyOf, TopOf, Neg, Stm, Skip, Push, Pop, If, Loop, LocalInt, LocalStack, Call, Uncall, Block, Empty, More, Declaration, StackOf}
+use Rattle.janus_syntax.specs.Tree.{Name as Named, named, Exp, Num, EmptyOf, TopOf, Neg, Stm, Skip, Push, Pop, Swap, If, Loop, LocalInt, LocalStack, Call, Uncall, Block, Empty, More, Declaration, StackOf}
 use Rattle.janus_syntax.specs.Operators.{weakest, joined, sign_infix, operator_at}
-use Rattle.janus_syntax.specs.Forms.{Part, Declarations, Bound, Body, Statements, Else_part, Do_part, Loop_part, Local, Names, More_names, Target_index, Whole, Level, Chain, Index, Tree, Class, Seen, seen, The_keyword, The_sign, A_name, A_number, An_update, Same_kind, Same_name, Form, done, take, part, close, Rule}
-use Rattle.janus_syntax.specs.Table.{rule, left_out, variable, assignment, declared, skip_block, sign_then, keyword_then, stack_then, variable_and_stack_then, call_then, delocal_then, local_int, local_stack, whole, operand, chains, chain_rule, statement, declaration}
+use Rattle.janus_syntax.specs.Forms.{Part, Declarations, Bound, Body, Statements, Else_part, Do_part, Loop_part, Local, Names, More_names, Swap_partner, Target_index, Whole, Level, Chain, Index, Tree, Class, Seen, seen, The_keyword, The_sign, A_name, A_number, An_update, Same_kind, Same_name, Form, done, take, part, close, Rule}
+use Rattle.janus_syntax.specs.Table.{rule, left_out, variable, assignment, behind_target, declared, skip_block, sign_then, keyword_then, stack_then, variable_and_stack_then, call_then, delocal_then, local_int, local_stack, whole, operand, chains, chain_rule, statement, declaration}
 use Rattle.janus_syntax.specs.Grammar
 use Rattle.janus_syntax.specs.Grammar.{Count, but_limits, entered, closed, Spells}
 use Rattle.janus_syntax.proofs.Agreed.{agreed, agreed_is, is_agreed, kind_keyword, kind_agreed}
@@ -238,22 +238,34 @@ mutual
   begins (IsStatement.assignment {x = x} {at = at} {t = t} {u = u} {e = e} {from = from} {rest = rest} is d) = λ p k v last h. (
     Name x at,
     t ∷ from,
-    record { opens = 0; counts = 0; is_whole = false; form = part Target_index (λ i. take An_update (λ u. part Whole (λ e. k (assignment (named x at) i u e)))) },
+    record { opens = 0; counts = 0; is_whole = false; form = part Swap_partner (λ other. behind_target (named x at) other k) },
     refl,
     refl,
-    absent Target_index None (t ∷ from) refl p (λ i. take An_update (λ u. part Whole (λ e. k (assignment (named x at) i u e)))) v last
-        (taken (λ u. part Whole (λ e. k (assignment (named x at) None u e))) u v t from last is (whole_is (leads d) p (λ e. k (assignment (named x at) None u e)) v last h)),
+    absent Swap_partner None (t ∷ from) refl p (λ other. behind_target (named x at) other k) v last
+        (absent Target_index None (t ∷ from) refl p (λ i. take An_update (λ u. part Whole (λ e. k (assignment (named x at) i u e)))) v last
+        (taken (λ u. part Whole (λ e. k (assignment (named x at) None u e))) u v t from last is (whole_is (leads d) p (λ e. k (assignment (named x at) None u e)) v last h))),
   )
   begins (IsStatement.element_assignment {x = x} {at = at} {opening = opening} {closing = closing} {t = t} {u = u} {i = i} {e = e} {from = from} {behind = behind} {rest = rest} is c d) = λ p k v last h.
       let inner = whole_is (leads c) Target_index (λ e. sign_then sign.CloseIndex (close (done (Some e)))) (Some i) (t ∷ behind) (sign_behind sign.CloseIndex closing (close (done (Some i))) (Some i) (t ∷ behind) (t ∷ behind) refl (closes (done (Some i)) (Some i) (t ∷ behind) (t ∷ behind) (nothing_more Target_index (Some i) (t ∷ behind)))) in (
         Name x at,
         Sign_of sign.OpenIndex opening ∷ from,
-        record { opens = 0; counts = 0; is_whole = false; form = part Target_index (λ i. take An_update (λ u. part Whole (λ e. k (assignment (named x at) i u e)))) },
+        record { opens = 0; counts = 0; is_whole = false; form = part Swap_partner (λ other. behind_target (named x at) other k) },
         refl,
         refl,
-        begun Target_index (Sign_of sign.OpenIndex opening) (record { opens = 1; counts = 0; is_whole = false; form = part Whole (λ e. sign_then sign.CloseIndex (close (done (Some e)))) }) (Some i) from (t ∷ behind) refl inner p (λ i. take An_update (λ u. part Whole (λ e. k (assignment (named x at) i u e)))) v last
-            (taken (λ u. part Whole (λ e. k (assignment (named x at) (Some i) u e))) u v t behind last is (whole_is (leads d) p (λ e. k (assignment (named x at) (Some i) u e)) v last h)),
+        absent Swap_partner None (Sign_of sign.OpenIndex opening ∷ from) refl p (λ other. behind_target (named x at) other k) v last
+            (begun Target_index (Sign_of sign.OpenIndex opening) (record { opens = 1; counts = 0; is_whole = false; form = part Whole (λ e. sign_then sign.CloseIndex (close (done (Some e)))) }) (Some i) from (t ∷ behind) refl inner p (λ i. take An_update (λ u. part Whole (λ e. k (assignment (named x at) i u e)))) v last
+            (taken (λ u. part Whole (λ e. k (assignment (named x at) (Some i) u e))) u v t behind last is (whole_is (leads d) p (λ e. k (assignment (named x at) (Some i) u e)) v last h))),
       )
+  begins (IsStatement.swap {x = x} {y = y} {at = at} {on = on} {place = place} {rest = rest}) = λ p k v last h. (
+    Name x at,
+    Sign_of sign.Swap on ∷ Name y place ∷ rest,
+    record { opens = 0; counts = 0; is_whole = false; form = part Swap_partner (λ other. behind_target (named x at) other k) },
+    refl,
+    refl,
+    begun Swap_partner (Sign_of sign.Swap on) (record { opens = 0; counts = 0; is_whole = false; form = take A_name (λ z. done (Some z)) }) (Some (named y place)) (Name y place ∷ rest) rest refl
+        (taken {c = A_name} (λ z. done (Some z)) (named y place) (Some (named y place)) (Name y place) rest rest refl (nothing_more Swap_partner (Some (named y place)) rest))
+        p (λ other. behind_target (named x at) other k) v last h,
+  )
   begins (IsStatement.push {at_push = at_push} {opening = opening} {at = at} {comma = comma} {place = place} {closing = closing} {x = x} {s = y} {rest = rest}) = λ p k v last h. (
     Keyword_of keyword.Push at_push,
     Sign_of sign.Open opening ∷ Name x at ∷ Sign_of sign.Comma comma ∷ Name y place ∷ Sign_of sign.Close closing ∷ rest,

@@ -11,10 +11,10 @@ use Rattle.janus_syntax.specs.declared.tree.Update.{Update}
 use Rattle.janus_syntax.specs.declared.tree.LocalKind.{LocalKind}
 use Rattle.janus_syntax.specs.declared.tree.LocalKind.TheVariants as kind
 use Rattle.janus_syntax.specs.Tokens.{Token, Name, Number, Sign_of, Keyword_of}
-use Rattle.janus_syntax.specs.Tree.{Name as Named, named, Exp, Num, EmptyOf, TopOf, Neg, Stm, Skip, Push, Pop, If, Loop, LocalInt, LocalStack, Call, Uncall, Block, Empty, More, Declaration, StackOf, Procedure, Cell, cell_of}
+use Rattle.janus_syntax.specs.Tree.{Name as Named, named, Exp, Num, EmptyOf, TopOf, Neg, Stm, Skip, Push, Pop, Swap, If, Loop, LocalInt, LocalStack, Call, Uncall, Block, Empty, More, Declaration, StackOf, Procedure, Cell, cell_of}
 use Rattle.janus_syntax.specs.Operators.{weakest, joined, operator_at, update_at}
-use Rattle.janus_syntax.specs.Forms.{Part, A_cell, Declarations, Bound, Procedures, A_procedure, Parameters, More_parameters, A_parameter, Brackets, Body, Statements, Else_part, Do_part, Loop_part, Local, Names, More_names, Target_index, Whole, Level, Chain, Index, Tree, Seen, seen, The_sign, A_name, A_number, An_update, Form, done, take, part, close, Rule}
-use Rattle.janus_syntax.specs.Table.{rule, left_out, variable, assignment, declared, with_main, nothing, skip_block, keyword_then, sign_then, stack_then, variable_and_stack_then, call_then, delocal_then, local_int, local_stack, whole, operand, chains, chain_rule, statement, declaration}
+use Rattle.janus_syntax.specs.Forms.{Part, A_cell, Declarations, Bound, Procedures, A_procedure, Parameters, More_parameters, A_parameter, Brackets, Body, Statements, Else_part, Do_part, Loop_part, Local, Names, More_names, Swap_partner, Target_index, Whole, Level, Chain, Index, Tree, Seen, seen, The_sign, A_name, A_number, An_update, Form, done, take, part, close, Rule}
+use Rattle.janus_syntax.specs.Table.{rule, left_out, variable, assignment, behind_target, declared, with_main, nothing, skip_block, keyword_then, sign_then, stack_then, variable_and_stack_then, call_then, delocal_then, local_int, local_stack, whole, operand, chains, chain_rule, statement, declaration}
 use Rattle.janus_grammar.specs.Derivation
 use Rattle.janus_grammar.specs.Derivation.{IsExpression, AreNames, AreMoreNames, IsStatement, AreStatements, IsBody, IsOptional, IsDeclaration, AreDeclarations, IsParameter, AreMoreParameters, AreParameters, AreProcedures, IsMain, IsCell, there, left_out as no_keyword, cell, body}
 use Rattle.janus_syntax.proofs.Agreed.{agreed, kind_keyword}
@@ -25,6 +25,11 @@ pub data IsIndexed : Option Exp → List Token → List Token → Type 0 where
   without : {rest : List Token} → IsIndexed None rest rest
   indexed : {opening closing : Span} {i : Exp} {from rest : List Token} →
       IsExpression weakest i from (Sign_of sign.CloseIndex closing ∷ rest) → IsIndexed (Some i) (Sign_of sign.OpenIndex opening ∷ from) rest
+
+-- behind the name that a statement begins with: `<=>` and a name, or nothing
+pub data HasPartner : Option Named → List Token → List Token → Type 0 where
+  no_partner : {rest : List Token} → HasPartner None rest rest
+  partner : {on at : Span} {y : List ℕ} {rest : List Token} → HasPartner (Some (named y at)) (Sign_of sign.Swap on ∷ Name y at ∷ rest) rest
 
 -- behind a declared name: a length, if there is one
 pub data IsBounded : Option (ℕ × Span) → List Token → List Token → Type 0 where
@@ -66,6 +71,7 @@ Derived Loop_part b from rest = IsOptional keyword.Loop b from rest
 Derived Local s from rest = (at : Span) → IsStatement s (Keyword_of keyword.Local at ∷ from) rest
 Derived Names xs from rest = AreNames xs from rest
 Derived More_names xs from rest = AreMoreNames xs from rest
+Derived Swap_partner y from rest = HasPartner y from rest
 Derived Target_index i from rest = IsIndexed i from rest
 Derived Whole e from rest = IsExpression weakest e from rest
 Derived (Level n) e from rest = IsExpression n e from rest
@@ -105,6 +111,7 @@ left_out_derived Loop_part u ts e = let same : skip_block ≡ u = cc in subst (�
 left_out_derived Local u ts e = absurd cc
 left_out_derived Names u ts e = let same : [] ≡ u = cc in subst (λ xs. AreNames xs ts ts) same AreNames.no_names
 left_out_derived More_names u ts e = let same : [] ≡ u = cc in subst (λ xs. AreMoreNames xs ts ts) same AreMoreNames.none
+left_out_derived Swap_partner u ts e = let same : None ≡ u = cc in subst (λ y. HasPartner y ts ts) same no_partner
 left_out_derived Target_index u ts e = let same : None ≡ u = cc in subst (λ i. IsIndexed i ts ts) same without
 left_out_derived Whole u ts e = absurd cc
 left_out_derived (Level n) u ts e = absurd cc
@@ -308,13 +315,19 @@ loop_derived at k v from rest h =
     let until = until_is m3 t1 u1 b1 w1 is1 in
     (Loop e s t f, m4, IsStatement.repetition d1 d2 (subst (λ ts. IsOptional keyword.Loop t m2 ts) until.1 d3) d4, h5)
 
-pub statement_derived : {p : Part} (t : Token) (k : Stm → Form p) (r : Rule p) (v : Tree p) (from rest : List Token) → statement t k ≡ Some r → Means r.form v from rest → Stated k v (t ∷ from) rest
-statement_derived {p} (Name x at) k r v from rest is h =
-    let a : Rule p = record { opens = 0; counts = 0; is_whole = false; form = part Target_index (λ i. take An_update (λ u. part Whole (λ e. k (assignment (named x at) i u e)))) } in
-    let (i, m1, d1, h1) = form_as a r v from rest is h in
+named_statement_derived : {p : Part} (x : List ℕ) (at : Span) (other : Option Named) (k : Stm → Form p) (v : Tree p) (from middle rest : List Token) → HasPartner other from middle → Means (behind_target (named x at) other k) v middle rest → Stated k v (Name x at ∷ from) rest
+named_statement_derived x at other k v from middle rest no_partner h =
+    let (i, m1, d1, h1) = h in
     let (t, u, behind, whole, updates, h2) = h1 in
     let (e, m2, d2, h3) = h2 in
-    (assignment (named x at) i u e, m2, assignment_derived x at i t u e from m1 behind m2 d1 whole updates d2, h3)
+    (assignment (named x at) i u e, m2, assignment_derived x at i t u e middle m1 behind m2 d1 whole updates d2, h3)
+named_statement_derived x at other k v from middle rest (partner {at = place} {y = y}) h = (Swap (named x at) (named y place), middle, IsStatement.swap, h)
+
+pub statement_derived : {p : Part} (t : Token) (k : Stm → Form p) (r : Rule p) (v : Tree p) (from rest : List Token) → statement t k ≡ Some r → Means r.form v from rest → Stated k v (t ∷ from) rest
+statement_derived {p} (Name x at) k r v from rest is h =
+    let a : Rule p = record { opens = 0; counts = 0; is_whole = false; form = part Swap_partner (λ other. behind_target (named x at) other k) } in
+    let (other, middle, d, more) = form_as a r v from rest is h in
+    named_statement_derived x at other k v from middle rest d more
 statement_derived {p} (Keyword_of keyword.If at) k r v from rest is h =
     let a : Rule p = record { opens = 1; counts = 0; is_whole = false; form = part Whole (λ e. keyword_then keyword.Then (part Body (λ s. part Else_part (λ t. keyword_then keyword.Fi (part Whole (λ f. close (k (If e s t f)))))))) } in
     if_derived at k v from rest (form_as a r v from rest is h)
@@ -420,6 +433,21 @@ indexed_as : (at : Span) (e : Exp) (i : Option Exp) (t : Token) (u : Unit {0}) (
 indexed_as at e i t u from middle behind rest d whole closes same last =
     let c = close_index_is middle t u behind whole closes in
     subst (λ x. IsIndexed x (Sign_of sign.OpenIndex at ∷ from) rest) (sym same) (subst (λ ts. IsIndexed (Some e) (Sign_of sign.OpenIndex at ∷ from) ts) (sym last) (indexed (subst (λ ts. IsExpression weakest e from ts) c.1 d)))
+
+pub partner_derived : (t : Token) (r : Rule Swap_partner) (y : Option Named) (from rest : List Token) → rule Swap_partner t ≡ Some r → Means r.form y from rest → HasPartner y (t ∷ from) rest
+partner_derived (Sign_of sign.Swap at) r y from rest is h =
+    let a : Rule Swap_partner = record { opens = 0; counts = 0; is_whole = false; form = take A_name (λ z. done (Some z)) } in
+    let (t, s, b, w, seen_is, end) = form_as a r y from rest is h in
+    let n = name_is t s seen_is in
+    let same : y ≡ Some (named n.0 n.1) = end.0 ∙ ap (λ z. Some z) (sym n.3) in
+    let whole : from ≡ Name n.0 n.1 ∷ b = w ∙ ap (λ t. t ∷ b) n.2 in
+    subst (λ z. HasPartner z (Sign_of sign.Swap at ∷ from) rest) (sym same)
+    (subst (λ ts. HasPartner (Some (named n.0 n.1)) (Sign_of sign.Swap at ∷ ts) rest) (sym whole)
+    (subst (λ ts. HasPartner (Some (named n.0 n.1)) (Sign_of sign.Swap at ∷ Name n.0 n.1 ∷ b) ts) (sym end.1) partner))
+partner_derived (Sign_of _ at) r y from rest is h = absurd cc
+partner_derived (Name x at) r y from rest is h = absurd cc
+partner_derived (Number n at) r y from rest is h = absurd cc
+partner_derived (Keyword_of w at) r y from rest is h = absurd cc
 
 pub target_derived : (t : Token) (r : Rule Target_index) (i : Option Exp) (from rest : List Token) → rule Target_index t ≡ Some r → Means r.form i from rest → IsIndexed i (t ∷ from) rest
 target_derived (Sign_of sign.OpenIndex at) r i from rest is h =

@@ -7,7 +7,7 @@ use Rattle.janus_syntax.specs.declared.token.Keyword.TheVariants as keyword
 use Rattle.janus_syntax.specs.declared.operator.Infix.{Infix}
 use Rattle.janus_syntax.specs.declared.tree.Update.{Update}
 use Rattle.janus_syntax.specs.Tokens.{Token, Name, Number, Sign_of, Keyword_of}
-use Rattle.janus_syntax.specs.Tree.{Name as Named, named, Exp, Num, Var, Element, EmptyOf, TopOf, Neg, Stm, Skip, Assign, AssignElement, Push, Pop, If}
+use Rattle.janus_syntax.specs.Tree.{Name as Named, named, Exp, Num, Var, Element, EmptyOf, TopOf, Neg, Stm, Skip, Assign, AssignElement, Push, Pop, Swap, If}
 use Rattle.janus_syntax.specs.Tree.{Loop, LocalInt, LocalStack, Call, Uncall, Block, Empty, More, Declaration, Int, Array, StackOf, Parameter, IntParameter}
 use Rattle.janus_syntax.specs.Tree.{ArrayParameter, StackParameter, Procedure, procedure_of, Cell, cell_of}
 use Rattle.janus_syntax.specs.Operators.{weakest, joined, operator_at, update_at}
@@ -57,6 +57,8 @@ mutual
     element_assignment : {x : List ℕ} {at opening closing : Span} {t : Token} {u : Update} {i e : Exp} {from behind rest : List Token} → update_at t ≡ Some u →
         IsExpression weakest i from (Sign_of sign.CloseIndex closing ∷ t ∷ behind) → IsExpression weakest e behind rest →
         IsStatement (AssignElement (named x at) i u e) (Name x at ∷ Sign_of sign.OpenIndex opening ∷ from) rest
+    swap : {x y : List ℕ} {at on place : Span} {rest : List Token} →
+        IsStatement (Swap (named x at) (named y place)) (Name x at ∷ Sign_of sign.Swap on ∷ Name y place ∷ rest) rest
     push : {at_push opening at comma place closing : Span} {x s : List ℕ} {rest : List Token} →
         IsStatement (Push (named x at) (named s place))
         (Keyword_of keyword.Push at_push ∷ Sign_of sign.Open opening ∷ Name x at ∷ Sign_of sign.Comma comma ∷ Name s place ∷ Sign_of sign.Close closing

@@ -6,7 +6,7 @@ use Rattle.janus_meaning.specs.Syntax.{Name}
 use Rattle.janus_code.specs.declared.code.Block.{Block}
 use Rattle.janus_code.specs.declared.code.Symbol.{Symbol}
 use Rattle.janus_code.specs.declared.code.Statement.{Statement}
-use Rattle.janus_code.specs.declared.code.Statement.TheVariants.{Skip, Assign, AssignElement, Push, Pop, If, Loop, LocalInt, LocalStack, Call, Uncall}
+use Rattle.janus_code.specs.declared.code.Statement.TheVariants.{Skip, Assign, AssignElement, Push, Pop, Swap, If, Loop, LocalInt, LocalStack, Call, Uncall}
 use Rattle.janus_code.specs.Numbered.{HaveTheirNumbers, AreSame, StatementHasNumbers, HaveNumbers}
 use Rattle.janus_code.proofs.Placing.{same_at}
 use Rattle.janus_invert.specs.Inverted.{IsInverse, AreInverse}
@@ -22,6 +22,7 @@ statement_turned members others xs (Assign x u e) (Assign y w f) v p = (same_at 
 statement_turned members others xs (AssignElement x i u e) (AssignElement y j w f) v p = (same_at xs x y v.0 p.0, v.1.numbered xs p.1, v.3.numbered xs p.2)
 statement_turned members others xs (Push x y) (Pop v w) h p = (same_at xs x v h.0 p.0, same_at xs y w h.1 p.1)
 statement_turned members others xs (Pop x y) (Push v w) h p = (same_at xs x v h.0 p.0, same_at xs y w h.1 p.1)
+statement_turned members others xs (Swap x y) (Swap v w) h p = (same_at xs x v h.0 p.0, same_at xs y w h.1 p.1)
 statement_turned members others xs (If a k l b) (If c m n d) v p = (v.0.numbered xs p.1, v.3.numbered xs p.0)
 statement_turned members others xs (Loop a k l b) (Loop c m n d) v p = (v.0.numbered xs p.1, v.3.numbered xs p.0)
 statement_turned members others xs (LocalInt x a k b) (LocalInt y c m d) v p = (same_at xs x y v.0 p.0, v.1.numbered xs p.2, v.3.numbered xs p.1)

@@ -10,7 +10,7 @@ use Rattle.janus_syntax.specs.declared.tree.Update.{Update}
 use Rattle.janus_syntax.specs.declared.tree.Update.TheVariants as update
 use Rattle.janus_code.specs.declared.code.Block.{Block}
 use Rattle.janus_code.specs.declared.code.Statement.{Statement}
-use Rattle.janus_code.specs.declared.code.Statement.TheVariants.{Skip, Assign, AssignElement, Push, Pop, If, Loop, LocalInt, LocalStack, Call, Uncall}
+use Rattle.janus_code.specs.declared.code.Statement.TheVariants.{Skip, Assign, AssignElement, Push, Pop, Swap, If, Loop, LocalInt, LocalStack, Call, Uncall}
 use Rattle.janus_code.specs.declared.code.Symbol.{Symbol}
 use Rattle.janus_code.specs.Expressions.{exp_of}
 use Rattle.janus_code.specs.Numbered.{AreSame, texts_of}
@@ -79,6 +79,7 @@ module _ (t u : ℕ → tree.Stm) (members others : List ℕ) (m : ℕ) (inv : (
       ∙ ap (tree.SetAt (string_bytes x.text) (exp_of i) (opposite (update_of o))) h.3.tree
   built_turned (Push x y) (Pop v w) b h = ap (λ z. tree.Pop z (string_bytes w.text)) h.0.text ∙ ap (tree.Pop (string_bytes x.text)) h.1.text
   built_turned (Pop x y) (Push v w) b h = ap (λ z. tree.Push z (string_bytes w.text)) h.0.text ∙ ap (tree.Push (string_bytes x.text)) h.1.text
+  built_turned (Swap x y) (Swap v w) b h = ap (λ z. tree.Swap z (string_bytes w.text)) h.0.text ∙ ap (tree.Swap (string_bytes x.text)) h.1.text
   built_turned (If a p q c) (If d r s e) b h =
       ap (λ z. tree.If z (block_at u others r) (block_at u others s) (exp_of e)) h.0.tree
       ∙ ap (λ z. tree.If (exp_of c) z (block_at u others s) (exp_of e)) (block_turned t u members others m p r b.0 h.1 inv)
@@ -152,6 +153,7 @@ inverse_below members others n (Assign x o e) (Assign y p f) b h = tt
 inverse_below members others n (AssignElement x i o e) (AssignElement y j p f) b h = tt
 inverse_below members others n (Push x y) (Pop v w) b h = tt
 inverse_below members others n (Pop x y) (Push v w) b h = tt
+inverse_below members others n (Swap x y) (Swap v w) b h = tt
 inverse_below members others n (If a p q c) (If d r s e) b h = (backward_below members others n p r b.0 h.1, backward_below members others n q s b.1 h.2)
 inverse_below members others n (Loop a p q c) (Loop d r s e) b h = (backward_below members others n p r b.0 h.1, backward_below members others n q s b.1 h.2)
 inverse_below members others n (LocalInt x a p c) (LocalInt y d r e) b h = backward_below members others n p r b h.2
@@ -181,6 +183,7 @@ inverse_longer members others more (Assign x o e) (Assign y p f) l h = h
 inverse_longer members others more (AssignElement x i o e) (AssignElement y j p f) l h = h
 inverse_longer members others more (Push x y) (Pop v w) l h = h
 inverse_longer members others more (Pop x y) (Push v w) l h = h
+inverse_longer members others more (Swap x y) (Swap v w) l h = h
 inverse_longer members others more (If a p q c) (If d r s e) l h = (h.0, backward_longer members others more p r l h.1, backward_longer members others more q s l h.2, h.3)
 inverse_longer members others more (Loop a p q c) (Loop d r s e) l h = (h.0, backward_longer members others more p r l h.1, backward_longer members others more q s l h.2, h.3)
 inverse_longer members others more (LocalInt x a p c) (LocalInt y d r e) l h = (h.0, h.1, backward_longer members others more p r l h.2, h.3)

@@ -2,7 +2,7 @@
 use Rattle.std.specs.Prelude.{◌≡◌, ℕ, suc, ◌+◌, ◌-◌, ◌<◌, ◌≤◌, List, length, slice_get, slice_index_or, Some}
 use Rattle.janus_code.specs.declared.code.Block.{Block}
 use Rattle.janus_code.specs.declared.code.Statement.{Statement}
-use Rattle.janus_code.specs.declared.code.Statement.TheVariants.{Skip, Assign, AssignElement, Push, Pop, If, Loop, LocalInt, LocalStack, Call, Uncall}
+use Rattle.janus_code.specs.declared.code.Statement.TheVariants.{Skip, Assign, AssignElement, Push, Pop, Swap, If, Loop, LocalInt, LocalStack, Call, Uncall}
 use Rattle.janus_code.specs.Cells.{IsOpposite}
 use Rattle.janus_code.specs.Numbered.{IsSame, AreSame, IsCopy}
 
@@ -21,6 +21,7 @@ IsInverse members others (AssignElement x i u e) (AssignElement y j v f) =
     IsSame x y × IsCopy i j × IsOpposite u v × IsCopy e f
 IsInverse members others (Push x y) (Pop v w) = IsSame x v × IsSame y w
 IsInverse members others (Pop x y) (Push v w) = IsSame x v × IsSame y w
+IsInverse members others (Swap x y) (Swap v w) = IsSame x v × IsSame y w
 IsInverse members others (If a p q b) (If c r s d) =
     IsCopy b c × IsBackward members others p r × IsBackward members others q s × IsCopy a d
 IsInverse members others (Loop a p q b) (Loop c r s d) =

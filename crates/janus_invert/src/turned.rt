@@ -75,6 +75,10 @@ fn inverse_one(
             let (variable, stack) = two_symbol_copies(variable, stack)?;
             Ok(Statement::Push(variable, stack))
         }
+        Statement::Swap(one, other) => {
+            let (one, other) = two_symbol_copies(one, other)?;
+            Ok(Statement::Swap(one, other))
+        }
         Statement::If(test, then_part, else_part, last) => {
             let then_part = backward(members, *then_part, others)?;
             let else_part = backward(members, *else_part, others)?;

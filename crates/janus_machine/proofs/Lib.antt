@@ -8,6 +8,7 @@ pub mod Entering
 pub mod Leaving
 pub mod Lending
 pub mod Levels
+pub mod Kept
 pub mod Seen
 pub mod Agreed
 pub mod Mirrors

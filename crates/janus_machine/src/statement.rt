@@ -5,13 +5,14 @@ ghost use Rattle.janus_meaning.specs.Fault.{Res, Bad, Broken};
 ghost use Rattle.janus_meaning.specs.Store.{Store as Values};
 ghost use Rattle.janus_evaluation.specs.Results.{IsDone as IsAssigned, IsCounted};
 ghost use Rattle.janus_code.specs.Numbered.{StatementHasNumbers};
+ghost use Rattle.janus_store.specs.StoreState.{values_lent};
 ghost use Rattle.janus_evaluation.specs.Locals.{KeepsNames};
 ghost use Rattle.janus_machine.specs.Faults.{IsDone};
 ghost use Rattle.janus_machine.specs.Statements.{run_of};
 
 use crate::fault::Fault;
 use janus_code::Statement;
-use janus_evaluation::{ValueFault, assign, assign_element, pop, push};
+use janus_evaluation::{ValueFault, assign, assign_element, pop, push, swap};
 use janus_store::{Store, Writes};
 use std::sync::ledger::Ledger;
 
@@ -22,9 +23,9 @@ pub(crate) fn run<L: Ledger>(
     store: &mut Store<L>,
     writes: &mut Writes<L>,
 ) -> Result<(), Fault>
-    requires safe { run_of statement.now store.old.sight ≢ Bad Broken }
+    requires safe { run_of (values_lent store.old.callers) statement.now store.old.sight ≢ Bad Broken }
     requires numbered { StatementHasNumbers store.old.names statement.now }
-    ensures done { IsDone (run_of statement.now store.old.sight) store.old.sight store.new.sight result }
+    ensures done { IsDone (run_of (values_lent store.old.callers) statement.now store.old.sight) store.old.sight store.new.sight result }
     ensures names { KeepsNames store.old store.new }
     ensures counted { IsCounted result writes.old writes.new }
 {
@@ -36,6 +37,10 @@ pub(crate) fn run<L: Ledger>(
         }
         Statement::Push(variable, stack) => done(push(variable, stack, store, writes)),
         Statement::Pop(variable, stack) => done(pop(variable, stack, store, writes)),
+        Statement::Swap(first, second) => {
+            swap(first, second, store, writes);
+            Ok(())
+        }
         _ => unreachable!(),
     }
 }

@@ -2,14 +2,14 @@
 use Rattle.std.proofs.Common.{◌≡◌, ℕ, zero, suc, List, [], ◌∷◌, refl}
 use Rattle.std.specs.Prelude.{ℤ, pos, negsuc}
 use Rattle.std.specs.Int.{int_wrap}
-use Rattle.janus_meaning.specs.Outside.{outside}
+use Rattle.janus_meaning.specs.Outside.{outside, under}
 use Rattle.janus_meaning.specs.Fault.{Fault, Fine, Bad, FiAssertion, EntryAssertion, LoopAssertion, DelocalMismatch, PopNotZero, PopEmpty, TopEmpty, DivisionByZero, IndexRange, StackFull, TooDeep, TooManyStacks, Broken}
 use Rattle.janus_meaning.specs.Word.{Plus, Flip, Add', Sub', Div', Rem', And', Or', More', AtMost', AtLeast', Same', Differ', wrap, changed}
-use Rattle.janus_meaning.specs.Syntax.{Name, Exp, Number, Var, Top, Negate, Binary, And, Or, Stm, Blk, Nil, Cons, Skip, Set, SetAt, Push, Pop, If, From, LocalInt, LocalStack, Call, Proc, ANumber, inverse_block}
+use Rattle.janus_meaning.specs.Syntax.{Name, Exp, Number, Var, Top, Negate, Binary, And, Or, Stm, Blk, Nil, Cons, Skip, Set, SetAt, Push, Pop, Swap, If, From, LocalInt, LocalStack, Call, Proc, ANumber, AStack, inverse_block}
 use Rattle.janus_meaning.specs.Store.{Store, Bare, Slot, Num, Arr, Stk}
-use Rattle.janus_meaning.specs.Limit.{frame_limit}
+use Rattle.janus_meaning.specs.Limit.{frame_limit, parts}
 use Rattle.janus_meaning.specs.Value.{value}
-use Rattle.janus_meaning.specs.Moves.{InInt, stack_room, stack_has_room, begin, leave}
+use Rattle.janus_meaning.specs.Moves.{InInt, Over, stack_room, value_room, begin, leave}
 use Rattle.janus_meaning.specs.Meaning.{Block, Exec, Stop}
 use Rattle.janus_meaning.specs.Stepping.{BeforeBlock, AfterBlock, To, Halt, Place, step, steps, shown}
 use Rattle.janus_meaning.specs.World.{stacks_in}
@@ -19,21 +19,21 @@ use Rattle.janus_meaning.proofs.Interface.{machine_meaning}
 
 -- n steps lead from the block's beginning to its end
 abbrev pub Ends : List Proc → Blk → Store → ℕ → Store → Type 0
-Ends ps b s n r = steps (outside ps frame_limit (stacks_in s)) n (BeforeBlock b []) s ≡ To (AfterBlock b []) r
+Ends ps b s n r = steps (outside ps frame_limit (stacks_in s) 0) n (BeforeBlock b []) s ≡ To (AfterBlock b []) r
 
 -- after j steps the next one meets the fault
 abbrev pub Stops : List Proc → Blk → Store → ℕ → Fault → Type 0
-Stops ps b s j f = (p : Place) × (r : Store) × (steps (outside ps frame_limit (stacks_in s)) j (BeforeBlock b []) s ≡ To p r) × (step (outside ps frame_limit (stacks_in s)) p r ≡ Halt f)
+Stops ps b s j f = (p : Place) × (r : Store) × (steps (outside ps frame_limit (stacks_in s) 0) j (BeforeBlock b []) s ≡ To p r) × (step (outside ps frame_limit (stacks_in s) 0) p r ≡ Halt f)
 
 -- after j steps the store shown is r
 abbrev pub Shows : List Proc → Blk → Store → ℕ → Store → Type 0
-Shows ps b s j m = (p : Place) × (r : Store) × (steps (outside ps frame_limit (stacks_in s)) j (BeforeBlock b []) s ≡ To p r) × (shown ps p r ≡ m)
+Shows ps b s j m = (p : Place) × (r : Store) × (steps (outside ps frame_limit (stacks_in s) 0) j (BeforeBlock b []) s ≡ To p r) × (shown ps p r ≡ m)
 
-pub ends_exec : (ps : List Proc) (b : Blk) (s r : Store) (n : ℕ) → Ends ps b s n r → Exec (outside ps frame_limit (stacks_in s)) (Block b) s n r
-ends_exec ps b s r n e = ((machine_meaning (outside ps frame_limit (stacks_in s)) b s).ended n r).0 e
+pub ends_exec : (ps : List Proc) (b : Blk) (s r : Store) (n : ℕ) → Ends ps b s n r → Exec (outside ps frame_limit (stacks_in s) 0) (Block b) s n r
+ends_exec ps b s r n e = ((machine_meaning (outside ps frame_limit (stacks_in s) 0) b s).ended n r).0 e
 
-pub stops_stop : (ps : List Proc) (b : Blk) (s : Store) (j : ℕ) (f : Fault) → Stops ps b s j f → Stop (outside ps frame_limit (stacks_in s)) (Block b) s j f
-stops_stop ps b s j f h = (machine_meaning (outside ps frame_limit (stacks_in s)) b s).stopped j f h.0 h.1 h.2 h.3
+pub stops_stop : (ps : List Proc) (b : Blk) (s : Store) (j : ℕ) (f : Fault) → Stops ps b s j f → Stop (outside ps frame_limit (stacks_in s) 0) (Block b) s j f
+stops_stop ps b s j f h = (machine_meaning (outside ps frame_limit (stacks_in s) 0) b s).stopped j f h.0 h.1 h.2 h.3
 
 -- ---- abbreviations of the programs
 
@@ -187,50 +187,110 @@ endless : Shows [] (one (From (Binary Same' (Var x) (num 0)) (one Skip) (one (Se
 unfolding value wrap changed int_wrap
 endless = (_, _, refl, refl)
 
--- ---- stacks and locals
+-- ---- stacks
 
 abbrev xs_is : ℤ → List ℤ → Store
 xs_is v l = Slot y (Stk l) (x_is v)
 
 pushes : Ends [] (one (Push x y)) (xs_is (pos 4) (pos 7 ∷ [])) 3 (xs_is (pos 0) (pos 4 ∷ pos 7 ∷ []))
-unfolding value wrap changed int_wrap stack_has_room
+unfolding value wrap changed int_wrap value_room
 pushes = refl
 
 pops : Ends [] (one (Pop x y)) (xs_is (pos 0) (pos 4 ∷ pos 7 ∷ [])) 3 (xs_is (pos 4) (pos 7 ∷ []))
-unfolding value wrap changed int_wrap stack_has_room
+unfolding value wrap changed int_wrap value_room
 pops = refl
 
 pop_not_zero : Stops [] (one (Pop x y)) (xs_is (pos 1) []) 1 PopNotZero
-unfolding value wrap changed int_wrap stack_has_room
+unfolding value wrap changed int_wrap value_room
 pop_not_zero = (_, _, refl, refl)
 
 pop_empty : Stops [] (one (Pop x y)) (xs_is (pos 0) []) 1 PopEmpty
-unfolding value wrap changed int_wrap stack_has_room
+unfolding value wrap changed int_wrap value_room
 pop_empty = (_, _, refl, refl)
 
 abbrev copies : ℕ → List ℤ
 copies zero = []
 copies (suc k) = pos 0 ∷ copies k
 
--- 4,096 values are room for no more; with 4,095 there is room for one
-full_stack : Stops [] (one (Push x y)) (xs_is (pos 1) (copies 4096)) 1 StackFull
-unfolding value wrap changed int_wrap stack_has_room
-full_stack = (_, _, refl, refl)
+-- a stack of 4,096 values has room for more
+past_a_part : Ends [] (one (Push x y)) (xs_is (pos 1) (copies 4096)) 3 (xs_is (pos 0) (pos 1 ∷ copies 4096))
+unfolding value wrap changed int_wrap value_room
+past_a_part = refl
 
-last_place : Ends [] (one (Push x y)) (xs_is (pos 1) (copies 4095)) 3 (xs_is (pos 0) (pos 1 ∷ copies 4095))
-unfolding value wrap changed int_wrap stack_has_room
-last_place = refl
+-- with a part for each stack it had none, and with 4,095 room for one
+full_part : begin (under parts (outside [] frame_limit 1 0)) (Push x y) (xs_is (pos 1) (copies 4096)) ≡ Bad StackFull
+unfolding value_room
+full_part = refl
+
+last_of_a_part : begin (under parts (outside [] frame_limit 1 0)) (Push x y) (xs_is (pos 1) (copies 4095)) ≡ Fine (Over (xs_is (pos 0) (pos 1 ∷ copies 4095)))
+unfolding value_room
+last_of_a_part = refl
+
+-- where live stacks hold 262,144 values together, one of them here, the pool is full; where they hold one less, it has room for one
+full_pool : begin (outside [] frame_limit 2 262143) (Push x y) (xs_is (pos 1) (pos 7 ∷ [])) ≡ Bad StackFull
+unfolding value_room
+full_pool = refl
+
+last_of_the_pool : begin (outside [] frame_limit 2 262142) (Push x y) (xs_is (pos 1) (pos 7 ∷ [])) ≡ Fine (Over (xs_is (pos 0) (pos 1 ∷ pos 7 ∷ [])))
+unfolding value_room
+last_of_the_pool = refl
+
+-- procedure f(int x) local stack y = nil push(x, y) pop(x, y) delocal stack y = nil
+abbrev through_a_local : Proc
+through_a_local = record { name = f; params = (x, ANumber) ∷ []; body = one (LocalStack y (two (Push x y) (Pop x y))) }
+
+-- what the caller's stack holds is in the pool while the call runs
+full_in_a_call : (p : Place) × (r : Store) × (steps (outside (through_a_local ∷ []) frame_limit 2 262143) 5 (BeforeBlock (one (Call f (x ∷ []))) []) (xs_is (pos 1) (pos 7 ∷ [])) ≡ To p r) × (step (outside (through_a_local ∷ []) frame_limit 2 262143) p r ≡ Halt StackFull)
+unfolding value_room stack_room
+full_in_a_call = (_, _, refl, refl)
+
+room_in_a_call : steps (outside (through_a_local ∷ []) frame_limit 2 262142) 13 (BeforeBlock (one (Call f (x ∷ []))) []) (xs_is (pos 1) (pos 7 ∷ [])) ≡ To (AfterBlock (one (Call f (x ∷ []))) []) (xs_is (pos 1) (pos 7 ∷ []))
+unfolding value_room stack_room
+room_in_a_call = refl
+
+-- procedure f(int x, stack y) push(x, y)
+abbrev onto_a_parameter : Proc
+onto_a_parameter = record { name = f; params = (x, ANumber) ∷ (y, AStack) ∷ []; body = one (Push x y) }
+
+-- a stack that is lent to a call counts there, and not with its caller too
+full_in_a_parameter : (p : Place) × (r : Store) × (steps (outside (onto_a_parameter ∷ []) frame_limit 2 262143) 3 (BeforeBlock (one (Call f (x ∷ y ∷ []))) []) (xs_is (pos 1) (pos 7 ∷ [])) ≡ To p r) × (step (outside (onto_a_parameter ∷ []) frame_limit 2 262143) p r ≡ Halt StackFull)
+unfolding value_room
+full_in_a_parameter = (_, _, refl, refl)
+
+room_in_a_parameter : steps (outside (onto_a_parameter ∷ []) frame_limit 2 262142) 7 (BeforeBlock (one (Call f (x ∷ y ∷ []))) []) (xs_is (pos 1) (pos 7 ∷ [])) ≡ To (AfterBlock (one (Call f (x ∷ y ∷ []))) []) (xs_is (pos 0) (pos 1 ∷ pos 7 ∷ []))
+unfolding value_room
+room_in_a_parameter = refl
+
+-- ---- swap
+
+abbrev x_y : ℤ → ℤ → Store
+x_y v w = Slot y (Num w) (x_is v)
+
+swaps : Ends [] (one (Swap x y)) (x_y (pos 3) (pos 4)) 3 (x_y (pos 4) (pos 3))
+swaps = refl
+
+swaps_with_itself : Ends [] (one (Swap x x)) (x_is (pos 5)) 3 (x_is (pos 5))
+swaps_with_itself = refl
+
+-- x <=> y and y <=> y, with y a stack
+swap_with_stack_breaks : Stops [] (one (Swap x y)) (xs_is (pos 5) []) 1 Broken
+swap_with_stack_breaks = (_, _, refl, refl)
+
+swap_of_stack_breaks : Stops [] (one (Swap y y)) (xs_is (pos 5) []) 1 Broken
+swap_of_stack_breaks = (_, _, refl, refl)
+
+-- ---- locals
 
 -- local int n = 3 x += n push(n, y) delocal int n = 0
 abbrev with_local : Blk
 with_local = one (LocalInt n (num 3) (two (Set x Plus (Var n)) (Push n y)) (num 0))
 
 local_ends : Ends [] with_local (xs_is (pos 0) []) 9 (xs_is (pos 3) (pos 3 ∷ []))
-unfolding value wrap changed int_wrap stack_has_room
+unfolding value wrap changed int_wrap value_room
 local_ends = refl
 
 local_back : Ends [] (inverse_block with_local) (xs_is (pos 3) (pos 3 ∷ [])) 9 (xs_is (pos 0) [])
-unfolding value wrap changed int_wrap stack_has_room
+unfolding value wrap changed int_wrap value_room
 local_back = refl
 
 -- local int n = 3 x += n delocal int n = 2
@@ -240,15 +300,15 @@ delocal_differs = (_, _, refl, refl)
 
 -- a local stack that is not empty at its end
 stack_left : Stops [] (one (LocalStack n (one (Push x n)))) (x_is (pos 0)) 5 DelocalMismatch
-unfolding value wrap changed int_wrap stack_has_room stack_room
+unfolding value wrap changed int_wrap value_room stack_room
 stack_left = (_, _, refl, refl)
 
 -- where 64 stacks live there is no room for another, where 63 live there is
-too_many_stacks : (p : Place) × (r : Store) × (steps (outside [] frame_limit 64) 1 (BeforeBlock (one (LocalStack n (one Skip))) []) Bare ≡ To p r) × (step (outside [] frame_limit 64) p r ≡ Halt TooManyStacks)
+too_many_stacks : (p : Place) × (r : Store) × (steps (outside [] frame_limit 64 0) 1 (BeforeBlock (one (LocalStack n (one Skip))) []) Bare ≡ To p r) × (step (outside [] frame_limit 64 0) p r ≡ Halt TooManyStacks)
 unfolding value wrap changed int_wrap stack_room
 too_many_stacks = (_, _, refl, refl)
 
-last_stack : steps (outside [] frame_limit 63) 7 (BeforeBlock (one (LocalStack n (one Skip))) []) Bare ≡ To (AfterBlock (one (LocalStack n (one Skip))) []) Bare
+last_stack : steps (outside [] frame_limit 63 0) 7 (BeforeBlock (one (LocalStack n (one Skip))) []) Bare ≡ To (AfterBlock (one (LocalStack n (one Skip))) []) Bare
 unfolding value wrap changed int_wrap stack_room
 last_stack = refl
 
@@ -261,7 +321,7 @@ down zero = []
 down (suc k) = pos k ∷ down k
 
 loop_fills : Ends [] fills (Slot n (Num (pos 0)) (xs_is (pos 0) [])) 767 (Slot n (Num (pos 64)) (xs_is (pos 0) (down 64)))
-unfolding value wrap changed int_wrap stack_has_room
+unfolding value wrap changed int_wrap value_room
 loop_fills = refl
 
 -- ---- ill-formed trees, run: each breaks at the step that doesn't find what it names
@@ -304,18 +364,18 @@ abbrev one_by_zero : Exp
 one_by_zero = Binary Div' (num 1) (num 0)
 
 -- if 1 / 0 then skip fi 1, where no frame may be opened, and where one may
-frame_before_test : begin (outside [] 0 0) (If one_by_zero (one Skip) (one Skip) (num 1)) Bare ≡ Bad TooDeep
+frame_before_test : begin (outside [] 0 0 0) (If one_by_zero (one Skip) (one Skip) (num 1)) Bare ≡ Bad TooDeep
 frame_before_test = refl
 
-test_behind_frame : begin (outside [] 1 0) (If one_by_zero (one Skip) (one Skip) (num 1)) Bare ≡ Bad DivisionByZero
+test_behind_frame : begin (outside [] 1 0 0) (If one_by_zero (one Skip) (one Skip) (num 1)) Bare ≡ Bad DivisionByZero
 unfolding value wrap changed int_wrap
 test_behind_frame = refl
 
 -- local stack y = nil, where 64 stacks live
-frame_before_stack : begin (outside [] 0 64) (LocalStack y (one Skip)) Bare ≡ Bad TooDeep
+frame_before_stack : begin (outside [] 0 64 0) (LocalStack y (one Skip)) Bare ≡ Bad TooDeep
 frame_before_stack = refl
 
-stack_behind_frame : begin (outside [] 1 64) (LocalStack y (one Skip)) Bare ≡ Bad TooManyStacks
+stack_behind_frame : begin (outside [] 1 64 0) (LocalStack y (one Skip)) Bare ≡ Bad TooManyStacks
 unfolding stack_room
 stack_behind_frame = refl
 

@@ -3,15 +3,15 @@ use Rattle.std.specs.Prelude.{◌≡◌, ℕ, ◌<◌, ◌≤◌, ◌⊎◌, Lis
 use Rattle.janus_meaning.specs.Fault.{Fault, StepLimit}
 use Rattle.janus_meaning.specs.Limit.{frame_limit, step_limit}
 use Rattle.janus_meaning.specs.Syntax.{Blk, Proc}
-use Rattle.janus_meaning.specs.Store.{Store, IsGood}
-use Rattle.janus_meaning.specs.Outside.{Outside}
+use Rattle.janus_meaning.specs.Store.{Store}
+use Rattle.janus_meaning.specs.Outside.{Outside, outside, IsGood}
 use Rattle.janus_meaning.specs.Meaning.{Run, Going, Whole, Block, Exec, Part, Stop}
 use Rattle.janus_meaning.specs.Stepping.{BeforeBlock, Next, To, End, Halt, steps, shown}
 use Rattle.janus_meaning.specs.World.{World, Cell, entered, stacks_in, size_of, oldest}
 
 -- what stands outside a block that is run in a world: nothing is open round it, and the world's stacks live
 abbrev pub around : World → Outside
-around w = record { procedures = w.procedures; frames = frame_limit; stacks = stacks_in w.store }
+around w = outside w.procedures frame_limit (stacks_in w.store) 0
 
 -- The block b, run in the world w, has ended after n steps, in the world v.
 pub record WorldExec (w : World) (b : Blk) (n : ℕ) (v : World) : Type 0 where
@@ -54,6 +54,6 @@ store_after w b n = store_at w.procedures (steps (around w) n (BeforeBlock b [])
 unfoldable pub world_after : World → Blk → ℕ → World
 world_after w b n = record w { store = oldest (size_of w.store) (store_after w b n) }
 
--- each number fits 32 bits, and each stack is within its limit
+-- each number fits 32 bits, and the stacks are within their limit together
 abbrev pub IsGoodWorld : World → Type 0
-IsGoodWorld w = IsGood w.store
+IsGoodWorld w = IsGood (around w) w.store

@@ -4,8 +4,8 @@ use Rattle.std.specs.Coded.{Coded, code_by, coded×, coded_ℕ, coded_ℤ, coded
 use Rattle.std.proofs.Common.{ap, ◌∙◌}
 use Rattle.janus_meaning.specs.Word.{Update, Operator, Plus, Minus, Flip, Add', Sub', Mul', Div', Rem', And', Or', Xor', Less', More', AtMost', AtLeast'}
 use Rattle.janus_meaning.specs.Word.{Same', Differ'}
-use Rattle.janus_meaning.specs.Syntax.{Name, Exp, Number, Var, At, Empty, Top, Negate, Binary, And, Or, Stm, Blk, Skip, Set, SetAt, Push, Pop, If, From}
-use Rattle.janus_meaning.specs.Syntax.{LocalInt, LocalStack, Call, Uncall, Nil, Cons, Proc, Kind, ANumber, AnArray, AStack}
+use Rattle.janus_meaning.specs.Syntax.{Name, Exp, Number, Var, At, Empty, Top, Negate, Binary, And, Or, Stm, Blk, Skip, Set, SetAt, Push, Pop, Swap, If}
+use Rattle.janus_meaning.specs.Syntax.{From, LocalInt, LocalStack, Call, Uncall, Nil, Cons, Proc, Kind, ANumber, AnArray, AStack}
 
 abbrev kind_number : Kind → ℕ
 kind_number ANumber = 0
@@ -143,7 +143,7 @@ expression_actions =
     ∷ (λ n xs m. with_exp (Or (exp (exps m.exps)) (exp m.exps)) (exps (exps m.exps)) m)
     ∷ []
 
--- the tokens 9 to 19
+-- the tokens 9 to 20
 abbrev statement_actions : List Action
 statement_actions =
     (λ n xs m. with_stm Skip m.exps m.blks m)
@@ -157,9 +157,10 @@ statement_actions =
     ∷ (λ n xs m. with_stm (LocalStack (first xs) (blk m.blks)) m.exps (blks m.blks) m)
     ∷ (λ n xs m. with_stm (Call (first xs) (rest xs)) m.exps m.blks m)
     ∷ (λ n xs m. with_stm (Uncall (first xs) (rest xs)) m.exps m.blks m)
+    ∷ (λ n xs m. with_stm (Swap (first xs) (first (rest xs))) m.exps m.blks m)
     ∷ []
 
--- the tokens 20 and 21
+-- the tokens 21 and 22
 abbrev block_actions : List Action
 block_actions =
     (λ n xs m. record m { blks = Nil ∷ m.blks })
@@ -206,10 +207,11 @@ abbrev mutual
   stm_tokens (LocalStack x s) ts = blk_tokens s (token 17 0 (x ∷ []) ∷ ts)
   stm_tokens (Call f xs) ts = token 18 0 (f ∷ xs) ∷ ts
   stm_tokens (Uncall f xs) ts = token 19 0 (f ∷ xs) ∷ ts
+  stm_tokens (Swap x y) ts = token 20 0 (x ∷ y ∷ []) ∷ ts
 
   blk_tokens : Blk → List Token → List Token
-  blk_tokens Nil ts = token 20 0 [] ∷ ts
-  blk_tokens (Cons c b) ts = stm_tokens c (blk_tokens b (token 21 0 [] ∷ ts))
+  blk_tokens Nil ts = token 21 0 [] ∷ ts
+  blk_tokens (Cons c b) ts = stm_tokens c (blk_tokens b (token 22 0 [] ∷ ts))
 
 made_exp : (e : Exp) (ts : List Token) (es : List Exp) (cs : List Stm) (bs : List Blk) →
     make (exp_tokens e ts) (record { exps = es; stms = cs; blks = bs }) ≡ make ts (record { exps = e ∷ es; stms = cs; blks = bs })
@@ -248,6 +250,7 @@ mutual
   made_stm (LocalStack x s) ts es cs bs = made_blk s _ es cs bs
   made_stm (Call f xs) ts es cs bs = refl
   made_stm (Uncall f xs) ts es cs bs = refl
+  made_stm (Swap x y) ts es cs bs = refl
 
   made_blk : (b : Blk) (ts : List Token) (es : List Exp) (cs : List Stm) (bs : List Blk) →
       make (blk_tokens b ts) (record { exps = es; stms = cs; blks = bs }) ≡ make ts (record { exps = es; stms = cs; blks = b ∷ bs })

@@ -2,10 +2,10 @@
 use Rattle.std.specs.Prelude.{◌≡◌, ℕ, ◌-◌, ◌<◌, ◌≤◌, ◌⊎◌}
 use Rattle.janus_meaning.specs.Fault.{Fault, Fine}
 use Rattle.janus_meaning.specs.Syntax.{Blk, inverse_block}
-use Rattle.janus_meaning.specs.Store.{Store, cleared, IsGood}
+use Rattle.janus_meaning.specs.Store.{Store, cleared}
 use Rattle.janus_meaning.specs.Formed.{IsReal}
 use Rattle.janus_meaning.specs.FormedWorld.{IsFormedWorld, IsFormedCell}
-use Rattle.janus_meaning.specs.Outside.{Outside}
+use Rattle.janus_meaning.specs.Outside.{Outside, IsGood}
 use Rattle.janus_meaning.specs.Meaning.{Piece, Exec, Part}
 use Rattle.janus_meaning.specs.World.{World, Cell, empty_world, entered, taken_back}
 use Rattle.janus_meaning.specs.Cells.{WorldExec, WorldPart, WorldStop, CellRun, world_after, IsGoodWorld}
@@ -15,10 +15,10 @@ abbrev pub KeepsShape : Type 0
 KeepsShape =
     (out : Outside) (n : ℕ) (t : Piece) (s r : Store) → Exec out t s n r → cleared r ≡ cleared s
 
--- At its end and on the way, numbers fit and stacks are within their limit.
+-- At its end and on the way, numbers fit and stacks are within their limits.
 abbrev pub KeepsGood : Type 0
 KeepsGood =
-    (out : Outside) (n : ℕ) (t : Piece) (s m : Store) → IsGood s → Part out t s n m → IsGood m
+    (out : Outside) (n : ℕ) (t : Piece) (s m : Store) → IsGood out s → Part out t s n m → IsGood out m
 
 -- The world after some steps is a function of the world before.
 pub record WorldsAreFunctions (w : World) (b : Blk) : Type 0 where

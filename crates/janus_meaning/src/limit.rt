@@ -6,8 +6,8 @@ pub const FRAME_LIMIT: u32 = 16_384;
 /// The most stacks that may live, declared and local.
 pub const LIVE_STACK_LIMIT: usize = 64;
 
-/// The most values on one stack.
-pub const STACK_VALUE_LIMIT: usize = 4_096;
+/// The most values that all live stacks may hold together: one stack may take them all.
+pub const VALUE_LIMIT: usize = 262_144;
 
 /// The most steps that a cell may take.
 pub const STEP_LIMIT: u64 = 1_000_000_000_000;

@@ -5,7 +5,7 @@ use Rattle.std.specs.Prelude.{nat_lt}
 use Rattle.std.proofs.lemmas.Bool.{ltb-true, lt-ltb}
 use Rattle.janus_syntax.specs.declared.token.Sign.{Sign}
 use Rattle.janus_syntax.specs.declared.token.Sign.TheVariants as sign
-use Rattle.janus_syntax.specs.Tree.{Name, named, Exp, Num, Var, Element, EmptyOf, TopOf, Neg, Bin, And, Or, Stm, Skip, Assign, AssignElement, Push, Pop, If, Loop, LocalInt, LocalStack, Call, Uncall, Block, Empty, More, Declaration, Int, Array, StackOf, Parameter, IntParameter, ArrayParameter, StackParameter, Procedure, procedure_of, Cell, cell_of}
+use Rattle.janus_syntax.specs.Tree.{Name, named, Exp, Num, Var, Element, EmptyOf, TopOf, Neg, Bin, And, Or, Stm, Skip, Assign, AssignElement, Push, Pop, Swap, If, Loop, LocalInt, LocalStack, Call, Uncall, Block, Empty, More, Declaration, Int, Array, StackOf, Parameter, IntParameter, ArrayParameter, StackParameter, Procedure, procedure_of, Cell, cell_of}
 use Rattle.janus_syntax.specs.Operators.{weakest}
 use Rattle.janus_syntax.specs.Forms.{same_named}
 use Rattle.janus_syntax.specs.Lexical.{IsNameText, IsNoKeyword, largest_number}
@@ -71,6 +71,7 @@ abbrev mutual
   FitsStm (AssignElement x i u e) d = IsName x × (suc d ≤ depth_limit) × FitsWhole i (suc d) × FitsWhole e d
   FitsStm (Push x s) d = IsName x × IsName s
   FitsStm (Pop x s) d = IsName x × IsName s
+  FitsStm (Swap x y) d = IsName x × IsName y
   FitsStm (If e s t f) d = (suc d ≤ depth_limit) × FitsWhole e (suc d) × (IsBody s × FitsBlock s (suc d)) × (IsBody t × FitsBlock t (suc d)) × FitsWhole f (suc d)
   FitsStm (Loop e s t f) d = (suc d ≤ depth_limit) × FitsWhole e (suc d) × (IsBody s × FitsBlock s (suc d)) × (IsBody t × FitsBlock t (suc d)) × FitsWhole f (suc d)
   FitsStm (LocalInt x e s y f) d = (suc d ≤ depth_limit) × IsName x × FitsWhole e (suc d) × (IsBody s × FitsBlock s (suc d)) × IsAgain x y × FitsWhole f (suc d)

@@ -32,6 +32,7 @@ apart_sign : (s : Sign) (ps : List Piece) → Apart (tail false (A_sign s ∷ ps
 apart_sign sign.PlusEquals ps = apart_at 32 _ refl refl refl
 apart_sign sign.MinusEquals ps = apart_at 32 _ refl refl refl
 apart_sign sign.XorEquals ps = apart_at 32 _ refl refl refl
+apart_sign sign.Swap ps = apart_at 32 _ refl refl refl
 apart_sign sign.And ps = apart_at 32 _ refl refl refl
 apart_sign sign.Or ps = apart_at 32 _ refl refl refl
 apart_sign sign.Differs ps = apart_at 32 _ refl refl refl
@@ -114,6 +115,7 @@ first_sign sign.OpenIndex ps = open_index_longest _
 first_sign sign.PlusEquals ps = sign_longest sign.PlusEquals _ (apart ps).sign
 first_sign sign.MinusEquals ps = sign_longest sign.MinusEquals _ (apart ps).sign
 first_sign sign.XorEquals ps = sign_longest sign.XorEquals _ (apart ps).sign
+first_sign sign.Swap ps = sign_longest sign.Swap _ (apart ps).sign
 first_sign sign.And ps = sign_longest sign.And _ (apart ps).sign
 first_sign sign.Or ps = sign_longest sign.Or _ (apart ps).sign
 first_sign sign.Differs ps = sign_longest sign.Differs _ (apart ps).sign

@@ -8,7 +8,7 @@ use Rattle.janus_syntax.specs.declared.token.Sign.TheVariants as sign
 use Rattle.janus_syntax.specs.declared.token.Keyword.TheVariants as keyword
 use Rattle.janus_syntax.specs.declared.operator.Joint.{Joint}
 use Rattle.janus_syntax.specs.declared.operator.Joint.TheVariants as joint
-use Rattle.janus_syntax.specs.Tree.{Name, named, Exp, Num, Var, Element, EmptyOf, TopOf, Neg, Bin, And, Or, Stm, Skip, Assign, AssignElement, Push, Pop, If, Loop, LocalInt, LocalStack, Call, Uncall, Block, Empty, More, Declaration, Int, Array, StackOf, Parameter, IntParameter, ArrayParameter, StackParameter, Procedure, procedure_of, Cell, cell_of}
+use Rattle.janus_syntax.specs.Tree.{Name, named, Exp, Num, Var, Element, EmptyOf, TopOf, Neg, Bin, And, Or, Stm, Skip, Assign, AssignElement, Push, Pop, Swap, If, Loop, LocalInt, LocalStack, Call, Uncall, Block, Empty, More, Declaration, Int, Array, StackOf, Parameter, IntParameter, ArrayParameter, StackParameter, Procedure, procedure_of, Cell, cell_of}
 use Rattle.janus_syntax.specs.Operators.{weakest}
 use Rattle.janus_syntax.specs.Lexical.{IsNameText, IsNoKeyword, largest_number}
 use Rattle.janus_syntax.specs.Printing.{Piece, A_name, A_number, A_sign, A_keyword, A_minus, An_opening, piece_text, leans, holds, Printed, with_piece, with_pieces, sign_level, if_needed, infix_pieces, exp_pieces, whole_pieces, names_pieces, more_names_pieces, stm_pieces, block_pieces, declaration_pieces, declarations_pieces, parameter_pieces, more_parameters_pieces, parameters_pieces, procedure_pieces, procedures_pieces, cell_pieces}
@@ -143,6 +143,7 @@ mutual
   fine_stm (AssignElement (named x at) i u e) d (name, few, f, g) = (name, fine_both (whole_pieces i) _ (fine_exp i weakest (suc d) f.0) (fine_exp e weakest d g.0))
   fine_stm (Push (named x at) (named s place)) d (f, g) = (f, (g, tt))
   fine_stm (Pop (named x at) (named s place)) d (f, g) = (f, (g, tt))
+  fine_stm (Swap (named x at) (named y place)) d (f, g) = (f, (g, tt))
   fine_stm (If e s t f) d (few, a, b, c, g) = fine_both (whole_pieces e) _ (fine_exp e weakest (suc d) a.0) (fine_both (block_pieces s) _ (fine_block s (suc d) b.1) (fine_both (block_pieces t) _ (fine_block t (suc d) c.1) (fine_exp f weakest (suc d) g.0)))
   fine_stm (Loop e s t f) d (few, a, b, c, g) = fine_both (whole_pieces e) _ (fine_exp e weakest (suc d) a.0) (fine_both (block_pieces s) _ (fine_block s (suc d) b.1) (fine_both (block_pieces t) _ (fine_block t (suc d) c.1) (fine_exp f weakest (suc d) g.0)))
   fine_stm (LocalInt (named x at) e s (named y place) f) d (few, name, a, b, c, g) = (name, fine_both (whole_pieces e) _ (fine_exp e weakest (suc d) a.0) (fine_both (block_pieces s) _ (fine_block s (suc d) b.1) (c.0, fine_exp f weakest (suc d) g.0)))

@@ -6,15 +6,15 @@ use Rattle.janus_syntax.specs.declared.token.Keyword.TheVariants as keyword
 use Rattle.janus_syntax.specs.declared.tree.LocalKind.TheVariants as kind
 use Rattle.janus_syntax.specs.declared.tree.Update.{Update}
 use Rattle.janus_syntax.specs.Tokens.{Token, Name, Number, Sign_of, Keyword_of}
-use Rattle.janus_syntax.specs.Tree.{named, Exp, Stm, Skip, Push, Pop, If, Loop, LocalInt, LocalStack, Call, Uncall, Block, More}
-use Rattle.janus_syntax.specs.Forms.{Part, Body, Statements, Else_part, Do_part, Loop_part, Local, Target_index, Whole, Tree, An_update, Form, done, take, part, close, Rule}
-use Rattle.janus_syntax.specs.Table.{rule, left_out, assignment, keyword_then, sign_then, variable_and_stack_then, call_then, delocal_then, local_int, local_stack, statement}
+use Rattle.janus_syntax.specs.Tree.{Name as Named, named, Exp, Stm, Skip, Push, Pop, Swap, If, Loop, LocalInt, LocalStack, Call, Uncall, Block, More}
+use Rattle.janus_syntax.specs.Forms.{Part, Body, Statements, Else_part, Do_part, Loop_part, Local, Swap_partner, Target_index, Whole, Tree, A_name, An_update, Form, done, take, part, close, Rule}
+use Rattle.janus_syntax.specs.Table.{rule, left_out, assignment, behind_target, keyword_then, sign_then, variable_and_stack_then, call_then, delocal_then, local_int, local_stack, statement}
 use Rattle.janus_syntax.specs.Grammar.{Count, all, depth_limit, Spells}
 use Rattle.janus_syntax.specs.Reading.{count}
 use Rattle.janus_printing.proofs.Inside.{inside}
-use Rattle.janus_printing.proofs.Fits.{FitsWhole, FitsStm, FitsBlock}
+use Rattle.janus_printing.proofs.Fits.{IsName, FitsWhole, FitsStm, FitsBlock}
 use Rattle.janus_printing.proofs.Good.{IsGood, AreGood}
-use Rattle.janus_printing.proofs.Measures.{recount, Runs, runs_as, few_of, good_behind, shorter_behind, close_behind, pair_read, head_read, delocal_read}
+use Rattle.janus_printing.proofs.Measures.{recount, Runs, runs_as, few_of, good_behind, shorter_behind, close_behind, name_fits, pair_read, head_read, delocal_read}
 use Rattle.janus_printing.proofs.ExpressionMeasures.{whole_read}
 use Rattle.janus_printing.proofs.NameMeasures.{call_read}
 use Rattle.janus_printing.proofs.BlockMeasures.{IsStm, IsMeasured, BlocksMeasured, keyword_behind, body_read, statements_read, else_is, do_is, loop_is, optional_read}
@@ -80,6 +80,56 @@ assignment_read {p} x at d used k v from m' rest g name s =
           let less' = i.shorter in
           let less'' = s.shorter in
           record { tree = s.tree; total = s.total; middle = s.middle; fits = s.fits; shorter = omega (arith, less, less', less''); good = s.good; onward = s.onward }
+    ]
+
+-- ---- swaps
+
+-- `<=>` and a name
+record IsPartner (d used : ℕ) (y : Option Named) (from : List Token) (m' : Count) (rest : List Token) : Type 0 where
+  name : Named
+  is : y ≡ Some name
+  fits : IsName name
+  counts : m' ≡ count d used
+  shorter : length rest ≤ length from
+  good : AreGood rest
+
+partner_read : (d used : ℕ) (t : Token) (r : Rule Swap_partner) (y : Option Named) (from : List Token) (m' : Count) (rest : List Token) → AreGood from → rule Swap_partner t ≡ Some r → Runs r (count d used) y from m' rest → IsPartner d used y from m' rest
+partner_read d used (Sign_of sign.Swap at) r y from m' rest g is run =
+    let a : Rule Swap_partner = record { opens = 0; counts = 0; is_whole = false; form = take A_name (λ z. done (Some z)) } in
+    let here = runs_as a r (count d used) y from m' rest is run in
+    let t = inside (recount (d + 0) d (used + 0) used (omega arith) (omega arith) here.1) in
+    let end = inside t.onward in
+    let good = good_behind from t.behind t.token t.whole g in
+    let less = shorter_behind from t.behind t.token t.whole in
+    let rests = ap length end.rests in
+    record { name = t.value; is = end.tree; fits = name_fits t.token t.value t.is good.0; counts = end.counts; shorter = omega (arith, less, rests); good = subst AreGood (sym end.rests) good.1 }
+partner_read d used (Sign_of _ at) r y from m' rest g is run = absurd cc
+partner_read d used (Name x at) r y from m' rest g is run = absurd cc
+partner_read d used (Number n at) r y from m' rest g is run = absurd cc
+partner_read d used (Keyword_of w at) r y from m' rest g is run = absurd cc
+
+named_read : {p : Part} (x : List ℕ) (at : Span) (d used : ℕ) (k : Stm → Form p) (v : Tree p) (from : List Token) (m' : Count) (rest : List Token) → AreGood from → IsGood (Name x at) →
+    Spells all p (part Swap_partner (λ other. behind_target (named x at) other k)) v (count d used) from m' rest → IsStm k d v from m' rest
+named_read {p} x at d used k v from m' rest g name s =
+    elim (inside s) [
+      | inr left ↦
+          let same : None ≡ left.tree = cc in
+          assignment_read x at d used k v from m' rest g name (subst (λ other. Spells all p (behind_target (named x at) other k) v (count d used) from m' rest) (sym same) left.onward)
+      | inl there ↦
+          let less = shorter_behind from there.behind there.token there.whole in
+          let good = good_behind from there.behind there.token there.whole g in
+          let y = partner_read d used there.token there.rule_of there.tree there.behind there.between there.middle good.1 there.is (there.few, there.inner) in
+          let counted = subst (λ c. Spells all p (behind_target (named x at) there.tree k) v c there.middle m' rest) y.counts there.onward in
+          let less' = y.shorter in
+          record {
+            tree = Swap (named x at) y.name;
+            total = used;
+            middle = there.middle;
+            fits = (name, y.fits);
+            shorter = omega (arith, less, less');
+            good = y.good;
+            onward = subst (λ other. Spells all p (behind_target (named x at) other k) v (count d used) there.middle m' rest) y.is counted;
+          }
     ]
 
 -- ---- statements
@@ -230,9 +280,9 @@ local_read n known {p} d used k v from m' rest h g few s =
 stm_read : (n : ℕ) → BlocksMeasured n → {p : Part} (d used : ℕ) (k : Stm → Form p) (v : Tree p) (t : Token) (r : Rule p) (from : List Token) (m' : Count) (rest : List Token) → length from ≤ n → IsGood t → AreGood from →
     statement t k ≡ Some r → Runs r (count d used) v from m' rest → IsStm k d v from m' rest
 stm_read n known {p} d used k v (Name x at) r from m' rest h is g e run =
-    let a : Rule p = record { opens = 0; counts = 0; is_whole = false; form = part Target_index (λ i. take An_update (λ u. part Whole (λ e. k (assignment (named x at) i u e)))) } in
+    let a : Rule p = record { opens = 0; counts = 0; is_whole = false; form = part Swap_partner (λ other. behind_target (named x at) other k) } in
     let here = runs_as a r (count d used) v from m' rest e run in
-    assignment_read x at d used k v from m' rest g is (recount (d + 0) d (used + 0) used (omega arith) (omega arith) here.1)
+    named_read x at d used k v from m' rest g is (recount (d + 0) d (used + 0) used (omega arith) (omega arith) here.1)
 stm_read n known {p} d used k v (Keyword_of keyword.If at) r from m' rest h is g e run =
     let a : Rule p = record { opens = 1; counts = 0; is_whole = false; form = part Whole (λ e. keyword_then keyword.Then (part Body (λ s. part Else_part (λ t. keyword_then keyword.Fi (part Whole (λ f. close (k (If e s t f)))))))) } in
     let here = runs_as a r (count d used) v from m' rest e run in

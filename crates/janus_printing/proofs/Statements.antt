@@ -9,9 +9,9 @@ use Rattle.janus_syntax.specs.declared.tree.LocalKind.TheVariants as kind
 use Rattle.janus_syntax.specs.declared.tree.Update.{Update}
 use Rattle.janus_syntax.specs.declared.tree.Update.TheVariants as update
 use Rattle.janus_syntax.specs.Tokens.{Token, Name, Sign_of, Keyword_of}
-use Rattle.janus_syntax.specs.Tree.{Name as Named, named, Exp, Stm, Skip, Assign, AssignElement, Push, Pop, If, Loop, LocalInt, LocalStack, Call, Uncall, Block, Empty, More}
-use Rattle.janus_syntax.specs.Forms.{Part, Body, Statements, Else_part, Do_part, Loop_part, Local, Target_index, Whole, Tree, The_keyword, The_sign, An_update, seen, Form, done, take, part, close}
-use Rattle.janus_syntax.specs.Table.{rule, assignment, keyword_then, sign_then, variable_and_stack_then, call_then, delocal_then, local_int, local_stack, statement}
+use Rattle.janus_syntax.specs.Tree.{Name as Named, named, Exp, Stm, Skip, Assign, AssignElement, Push, Pop, Swap, If, Loop, LocalInt, LocalStack, Call, Uncall, Block, Empty, More}
+use Rattle.janus_syntax.specs.Forms.{Part, Body, Statements, Else_part, Do_part, Loop_part, Local, Swap_partner, Target_index, Whole, Tree, The_keyword, The_sign, A_name, An_update, seen, Form, done, take, part, close}
+use Rattle.janus_syntax.specs.Table.{rule, assignment, keyword_then, sign_then, variable_and_stack_then, call_then, delocal_then, local_int, local_stack, behind_target, statement}
 use Rattle.janus_syntax.specs.Grammar.{depth_limit}
 use Rattle.janus_syntax.specs.Printing.{A_sign, A_keyword, update_sign, binding_pieces, whole_pieces, stm_pieces, block_pieces}
 use Rattle.janus_syntax.specs.View.{plain_stm, plain_block, update_of}
@@ -47,10 +47,11 @@ assign_again x place u e d ts rest h f (at, t1, e1, (on, t2, e2, s)) =
       again = Assign (named x at) u r.again;
       same = ap (λ y. plain.Set x (update_of u) y) r.same;
       starts = λ {p} k v d' end onward.
-          begins_to (λ t. statement t k) (part Target_index (λ i. take An_update (λ w. part Whole (λ y. k (assignment (named x at) i w y))))) v d d' (Name x at) ts t1 end e1 refl h
+          begins_to (λ t. statement t k) (part Swap_partner (λ other. behind_target (named x at) other k)) v d d' (Name x at) ts t1 end e1 refl h
+          (left_to (λ other. behind_target (named x at) other k) None v d d' t1 end refl
           (left_to (λ i. take An_update (λ w. part Whole (λ y. k (assignment (named x at) i w y)))) None v d d' t1 end refl
           (token_to An_update (λ w. part Whole (λ y. k (assignment (named x at) None w y))) u v d d' (Sign_of (update_sign u) on) t1 t2 end e2 (update_seen u on)
-          (r.spells (λ y. k (Assign (named x at) u y)) v d' end onward)));
+          (r.spells (λ y. k (Assign (named x at) u y)) v d' end onward))));
     }
 
 assign_element_again : (x : List ℕ) (place : Span) (i : Exp) (u : Update) (e : Exp) (d : ℕ) (ts rest : List Token) → d ≤ depth_limit → suc d ≤ depth_limit → FitsWhole i (suc d) → FitsWhole e d → Spelled (stm_pieces (AssignElement (named x place) i u e)) ts rest → StmAgain (AssignElement (named x place) i u e) d ts rest
@@ -64,14 +65,15 @@ assign_element_again x place i u e d ts rest h few fits_i fits_e (at, t1, e1, (o
       again = AssignElement (named x at) j.again u r.again;
       same = (λ n. plain.SetAt x (j.same n) (update_of u) (r.same n));
       starts = λ {p} k v d' end onward.
-          begins_to (λ t. statement t k) (part Target_index (λ z. take An_update (λ w. part Whole (λ y. k (assignment (named x at) z w y))))) v d d' (Name x at) ts t1 end e1 refl h
+          begins_to (λ t. statement t k) (part Swap_partner (λ other. behind_target (named x at) other k)) v d d' (Name x at) ts t1 end e1 refl h
+          (left_to (λ other. behind_target (named x at) other k) None v d d' t1 end refl
           (part_to (λ z. take An_update (λ w. part Whole (λ y. k (assignment (named x at) z w y)))) (Some j.again) v d d d' t1 shut.1 end
           (opens_to (rule Target_index) (part Whole (λ y. sign_then sign.CloseIndex (close (done (Some y))))) (Some j.again) d d (Sign_of sign.OpenIndex opened) t1 t2 shut.1 e2 refl few
           (j.spells {p = Target_index} (λ y. sign_then sign.CloseIndex (close (done (Some y)))) (Some j.again) d shut.1
           (token_to {p = Target_index} (The_sign sign.CloseIndex) (λ z. close (done (Some j.again))) tt (Some j.again) (suc d) d (Sign_of sign.CloseIndex shut.0) two.0 shut.1 shut.1 shut.2 refl
           (close_to {p = Target_index} (done (Some j.again)) (Some j.again) d d shut.1 shut.1 (done_to {p = Target_index} (Some j.again) d shut.1)))))
           (token_to An_update (λ w. part Whole (λ y. k (assignment (named x at) (Some j.again) w y))) u v d d' (Sign_of (update_sign u) on.0) shut.1 on.1 end on.2 (update_seen u on.0)
-          (r.spells (λ y. k (AssignElement (named x at) j.again u y)) v d' end onward)));
+          (r.spells (λ y. k (AssignElement (named x at) j.again u y)) v d' end onward))));
     }
 
 -- ---- the parts of `if` and loops
@@ -219,6 +221,19 @@ pop_again x s at place d ts rest h (on, t1, e1, (opened, t2, e2, (of_x, t3, e3, 
       (pair_to (λ a b. k (Pop a b)) x s v d d' opened of_x comma of_s shut t1 t2 t3 t4 t5 rest end e2 e3 e4 e5 (e6 ∙ ap (λ l. Sign_of sign.Close shut ∷ l) last) onward);
 }
 
+swap_again : (x y : List ℕ) (at place : Span) (d : ℕ) (ts rest : List Token) → d ≤ depth_limit → Spelled (stm_pieces (Swap (named x at) (named y place))) ts rest → StmAgain (Swap (named x at) (named y place)) d ts rest
+swap_again x y at place d ts rest h (of_x, t1, e1, (on, t2, e2, (of_y, t3, e3, last))) = record {
+  again = Swap (named x of_x) (named y of_y);
+  same = refl;
+  starts = λ {p} k v d' end onward.
+      begins_to (λ t. statement t k) (part Swap_partner (λ other. behind_target (named x of_x) other k)) v d d' (Name x of_x) ts t1 end e1 refl h
+      (part_to {q = Swap_partner} (λ other. behind_target (named x of_x) other k) (Some (named y of_y)) v d d d' t1 rest end
+      (begins_to (rule Swap_partner) (take A_name (λ z. done (Some z))) (Some (named y of_y)) d d (Sign_of sign.Swap on) t1 t2 rest e2 refl h
+      (token_to {p = Swap_partner} A_name (λ z. done (Some z)) (named y of_y) (Some (named y of_y)) d d (Name y of_y) t2 rest rest (e3 ∙ ap (λ l. Name y of_y ∷ l) last) refl
+      (done_to {p = Swap_partner} (Some (named y of_y)) d rest)))
+      onward);
+}
+
 calls_again : (f : List ℕ) (at : Span) (xs : List Named) (d : ℕ) (ts rest : List Token) → d ≤ depth_limit → Spelled (stm_pieces (Call (named f at) xs)) ts rest → StmAgain (Call (named f at) xs) d ts rest
 calls_again f at xs d ts rest h (on, t1, e1, s) =
     let r = call_again f xs d t1 rest h s in
@@ -264,6 +279,7 @@ mutual
   stm_again (AssignElement (named x place) i u e) d ts rest h (name, few, f, g) s = assign_element_again x place i u e d ts rest h few f g s
   stm_again (Push (named x at) (named y place)) d ts rest h f s = push_again x y at place d ts rest h s
   stm_again (Pop (named x at) (named y place)) d ts rest h f s = pop_again x y at place d ts rest h s
+  stm_again (Swap (named x at) (named y place)) d ts rest h f s = swap_again x y at place d ts rest h s
   stm_again (If e s t f) d ts rest h fs p = if_again e s t f (block_again s) (block_again t) d ts rest h fs p
   stm_again (Loop e s t f) d ts rest h fs p = loop_again e s t f (block_again s) (block_again t) d ts rest h fs p
   stm_again (LocalInt (named x place) e s (named y at) f) d ts rest h fs p = local_int_again x place e s y at f (block_again s) d ts rest fs p

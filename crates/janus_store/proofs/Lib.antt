@@ -27,3 +27,4 @@ pub mod Pooled
 pub mod Owned
 pub mod Apart
 pub mod NameStack
+pub mod Beside

@@ -88,16 +88,16 @@ marks_set (u ∷ vs) zero v w e p k =
 marks_set (u ∷ vs) (suc i) v w e p k = ap (λ l. mark_of u ∷ l) (marks_set vs i v w e p k)
 
 -- a value of the same shape is of the same kind
-pub same_shape : (pool after : List (List ℤ)) (u w : Value) → cleared_val (val_in after w) ≡ cleared_val (val_in pool u) → kind_of w ≡ kind_of u
-same_shape pool after (values.Number n) (values.Number m) e = refl
-same_shape pool after (values.Number n) (values.Array v) e = cc
-same_shape pool after (values.Number n) (values.Stack i) e = cc
-same_shape pool after (values.Array a) (values.Number m) e = cc
-same_shape pool after (values.Array a) (values.Array v) e = refl
-same_shape pool after (values.Array a) (values.Stack i) e = cc
-same_shape pool after (values.Stack j) (values.Number m) e = cc
-same_shape pool after (values.Stack j) (values.Array v) e = cc
-same_shape pool after (values.Stack j) (values.Stack i) e = refl
+pub same_shape : (pool : List (List ℤ)) (n : ℤ) (u w : Value) → cleared_val (val_in pool n w) ≡ cleared_val (val_in pool n u) → kind_of w ≡ kind_of u
+same_shape pool n values.Number values.Number e = refl
+same_shape pool n values.Number (values.Array v) e = cc
+same_shape pool n values.Number (values.Stack i) e = cc
+same_shape pool n (values.Array a) values.Number e = cc
+same_shape pool n (values.Array a) (values.Array v) e = refl
+same_shape pool n (values.Array a) (values.Stack i) e = cc
+same_shape pool n (values.Stack j) values.Number e = cc
+same_shape pool n (values.Stack j) (values.Array v) e = cc
+same_shape pool n (values.Stack j) (values.Stack i) e = refl
 
 pub kind_marked : (vs : List Variable) (p : ℕ) → kind_at (marks_of vs) p ≡ kind_of (slice_index_or vs p no_variable).value
 kind_marked vs p = ap (λ (m : Mark). m.kind) (get_or-map mark_of vs p no_variable)

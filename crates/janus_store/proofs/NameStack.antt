@@ -1,38 +1,38 @@
 -- The stack of a name: its number in the pool, its values, and what a write to it leaves.
 use Rattle.std.proofs.Common.{◌≡◌, nat_eq, false, ⊎_elim, ℕ, ℤ, zero, suc, ◌+◌, ◌<◌, ◌≤◌, List, [], ◌∷◌, length, set, get_or, refl, ap, ◌∙◌, sym, subst, arith}
-use Rattle.std.specs.Prelude.{slice_get, Some}
+use Rattle.std.specs.Prelude.{slice_get, slice_index_or, Some, pos}
 use Rattle.std.proofs.lemmas.Bool.{cases_lt, eqb-false}
 use Rattle.cell_pool.specs.Chains.{times}
 use Rattle.janus_meaning.specs.Fault.{Fine, TopEmpty}
 use Rattle.janus_meaning.specs.Limit.{live_stack_limit}
 use Rattle.janus_meaning.specs.Syntax.{Name}
-use Rattle.janus_meaning.specs.Store.{Stk, look, cleared_val}
+use Rattle.janus_meaning.specs.Store.{Stk, look, cleared_val, held_by}
 use Rattle.janus_meaning.specs.Value.{first}
 use Rattle.janus_meaning.specs.World.{stacks_with}
 use Rattle.janus_names.specs.Numbers.{IsNumbered}
-use Rattle.janus_store.specs.StoreState.{StoreState, IsLike, live_stacks}
-use Rattle.janus_store.specs.Inside.{stacks_of, value_at, held_in, IsPlaceOf, IsStackOf, IsHeld}
+use Rattle.janus_store.specs.StoreState.{StoreState, IsLike, live_stacks, values_held}
+use Rattle.janus_store.specs.Inside.{stacks_of, no_variable, value_at, held_in, IsPlaceOf, IsStackOf, IsHeld}
 use Rattle.janus_store.specs.Stacks.{list_of}
 use Rattle.janus_store.specs.Stores.{write}
-use Rattle.janus_store.specs.Values.{val_in, number_in, read_or, IsKnown}
+use Rattle.janus_store.specs.Values.{val_in, val_at, plain_of, number_in, read_or, IsKnown, Holdings}
 use Rattle.janus_store.specs.declared.value.Value.{Value}
 use Rattle.janus_store.specs.declared.value.Value.TheVariants as values
 use Rattle.janus_store.specs.declared.store.Call.{Call}
 use Rattle.janus_store.specs.declared.store.Variable.{Variable}
 use Rattle.janus_store.proofs.Apart.{among, others_read}
-use Rattle.janus_store.proofs.Standing.{has_place, place_fits, value_is, set_written, set_held, set_like, set_stacks}
+use Rattle.janus_store.proofs.Standing.{has_place, place_fits, value_is, set_written, set_held, set_like, set_stacks, set_values}
 
 -- ---- a stack's number
 
-number_of_stack : (pool : List (List ℤ)) (u : Value) (l : List ℤ) → val_in pool u ≡ Stk l → (i : ℕ) × (u ≡ values.Stack i)
-number_of_stack pool (values.Number n) l e = cc
-number_of_stack pool (values.Array v) l e = cc
-number_of_stack pool (values.Stack i) l e = (i, refl)
+number_of_stack : (pool : List (List ℤ)) (b : ℤ) (u : Value) (l : List ℤ) → val_in pool b u ≡ Stk l → (i : ℕ) × (u ≡ values.Stack i)
+number_of_stack pool b values.Number l e = cc
+number_of_stack pool b (values.Array v) l e = cc
+number_of_stack pool b (values.Stack i) l e = (i, refl)
 
-pub with_number : (pool : List (List ℤ)) (u : Value) (n : ℕ) → stacks_with (val_in pool u) n ≡ n + length (number_in u)
-with_number pool (values.Number m) n = omega arith
-with_number pool (values.Array v) n = omega arith
-with_number pool (values.Stack i) n = omega arith
+pub with_number : (pool : List (List ℤ)) (b : ℤ) (u : Value) (n : ℕ) → stacks_with (val_in pool b u) n ≡ n + length (number_in u)
+with_number pool b values.Number n = omega arith
+with_number pool b (values.Array v) n = omega arith
+with_number pool b (values.Stack i) n = omega arith
 
 -- all that variables have are among those of the pool
 module _ (vs : List Variable) (low : (i : ℕ) → live_stack_limit ≤ i → times i (stacks_of vs) ≡ 0) (p : ℕ) (v : Variable) (e : slice_get vs p ≡ Some v) where
@@ -47,23 +47,23 @@ module _ (vs : List Variable) (low : (i : ℕ) → live_stack_limit ≤ i → ti
   is_known = by v.value refl
     where
       by : (u : Value) → v.value ≡ u → IsKnown u
-      by (values.Number n) s = tt
+      by values.Number s = tt
       by (values.Array a) s = tt
       by (values.Stack i) s = number_low i s
 
 -- ---- variables that stand
 
-get_there : (vs : List Variable) (p : ℕ) → p < length vs → (v : Variable) × (slice_get vs p ≡ Some v)
+pub get_there : (vs : List Variable) (p : ℕ) → p < length vs → (v : Variable) × (slice_get vs p ≡ Some v)
 get_there [] p lt = absurd (omega (arith, lt))
 get_there (v ∷ vs) zero lt = (v, refl)
 get_there (v ∷ vs) (suc p) lt = get_there vs p (omega (arith, lt))
 
-read_back : (vs : List Variable) (p : ℕ) (v : Variable) → slice_get vs p ≡ Some v → v ≡ get_or vs p v
+pub read_back : (vs : List Variable) (p : ℕ) (v : Variable) → slice_get vs p ≡ Some v → v ≡ get_or vs p v
 read_back [] p v e = refl
 read_back (w ∷ vs) zero v e = cc
 read_back (w ∷ vs) (suc p) v e = read_back vs p v e
 
-set_back : (vs : List Variable) (p : ℕ) (v : Variable) → slice_get vs p ≡ Some v → set vs p v ≡ vs
+pub set_back : (vs : List Variable) (p : ℕ) (v : Variable) → slice_get vs p ≡ Some v → set vs p v ≡ vs
 set_back [] p v e = refl
 set_back (w ∷ vs) zero v e = let same : v ≡ w = cc in ap (λ v. v ∷ vs) same
 set_back (w ∷ vs) (suc p) v e = ap (λ l. w ∷ l) (set_back vs p v e)
@@ -86,20 +86,20 @@ first_is (x ∷ l) = refl
 
 -- ---- the stack of a name
 
-module _ (pool : List (List ℤ)) (xs : List Name) (ns : List ℕ) (vs : List Variable) (d : ℕ) (cs : List Call) (h : IsHeld pool xs ns vs d cs) (H : StoreState) (view : held_in pool xs d vs cs ≡ H) (k : ℕ) (x : Name) (l : List ℤ) (e : IsNumbered H.names k x) (f : look x H.sight ≡ Fine (Stk l)) where
+module _ (pool : Holdings) (xs : List Name) (ns : List ℕ) (vs : List Variable) (d : ℕ) (cs : List Call) (h : IsHeld pool xs ns vs d cs) (H : StoreState) (view : held_in pool xs d vs cs ≡ H) (k : ℕ) (x : Name) (l : List ℤ) (e : IsNumbered H.names k x) (f : look x H.sight ≡ Fine (Stk l)) where
   pub has_stack : (i : ℕ) × IsStackOf ns vs k i
   has_stack =
       let p = has_place pool xs ns vs d cs h H view k x (Stk l) e f in
       let v = get_there vs p.0 (place_fits pool xs ns vs d cs h H view k x (Stk l) p.0 e f p.1) in
       let same = value_is pool xs ns vs d cs h H view k x (Stk l) p.0 v.0 e f p.1 (read_back vs p.0 v.0 v.1) in
-      let i = number_of_stack pool v.0.value l same in
+      let i = number_of_stack pool.lists (slice_index_or pool.numbers p.0 (pos 0)) v.0.value l same in
       (i.0, (p.0, v.0, p.1, v.1, i.1))
 
   module _ (i : ℕ) (s : IsStackOf ns vs k i) where
-    pub list_is : list_of pool i ≡ l
+    pub list_is : list_of pool.lists i ≡ l
     list_is =
         let same = value_is pool xs ns vs d cs h H view k x (Stk l) s.0 s.1 e f s.2 (read_back vs s.0 s.1 s.3) in
-        let both : Stk (list_of pool i) ≡ Stk l = ap (val_in pool) (sym s.4) ∙ same in
+        let both : Stk (list_of pool.lists i) ≡ Stk l = ap (val_at pool s.0) (sym s.4) ∙ same in
         cc
 
     pub stack_low : ((j : ℕ) → live_stack_limit ≤ j → times j (stacks_of vs) ≡ 0) → i < live_stack_limit
@@ -109,31 +109,40 @@ module _ (pool : List (List ℤ)) (xs : List Name) (ns : List ℕ) (vs : List Va
     stack_there = among i vs s.0 s.1 s.3 s.4
 
     -- another list there
-    module _ (once : times i (stacks_of vs) ≤ 1) (after : List (List ℤ)) (is : after ≡ set pool i (list_of after i)) where
-      others : (q : ℕ) → nat_eq q s.0 ≡ false → value_at pool vs q ≡ value_at after vs q
-      others q ne = others_read pool i (list_of after i) vs s.0 s.1 s.3 s.4 once q (eqb-false q s.0 ne) ∙ ap (λ ls. value_at ls vs q) (sym is)
+    module _ (once : times i (stacks_of vs) ≤ 1) (after : List (List ℤ)) (is : after ≡ set pool.lists i (list_of after i)) where
+      abbrev pub other : Holdings
+      other = record { lists = after; numbers = pool.numbers }
+
+      others : (q : ℕ) → nat_eq q s.0 ≡ false → value_at pool vs q ≡ value_at other vs q
+      others q ne = others_read pool.lists i (list_of after i) (slice_index_or pool.numbers q (pos 0)) vs s.0 s.1 s.3 s.4 once q (eqb-false q s.0 ne) ∙ ap (λ ls. plain_of ls (slice_index_or pool.numbers q (pos 0)) (slice_index_or vs q no_variable).value) (sym is)
 
       stays : set vs s.0 s.1 ≡ vs
       stays = set_back vs s.0 s.1 s.3
 
-      shape : cleared_val (val_in after s.1.value) ≡ cleared_val (Stk l)
-      shape = ap (λ u. cleared_val (val_in after u)) s.4
+      shape : cleared_val (val_at other s.0 s.1.value) ≡ cleared_val (Stk l)
+      shape = ap (λ u. cleared_val (val_at other s.0 u)) s.4
 
-      pub stack_written : write x (Stk (list_of after i)) H.sight ≡ Fine (held_in after xs d vs cs).sight
+      pub stack_written : write x (Stk (list_of after i)) H.sight ≡ Fine (held_in other xs d vs cs).sight
       stack_written =
-          ap (λ u. write x (val_in after u) H.sight) (sym s.4)
-          ∙ set_written pool xs ns vs d cs h H view k x (Stk l) s.0 s.1 e f s.2 (read_back vs s.0 s.1 s.3) after others s.1.value
-          ∙ ap (λ (vs : List Variable). Fine (held_in after xs d vs cs).sight) stays
+          ap (λ u. write x (val_at other s.0 u) H.sight) (sym s.4)
+          ∙ set_written pool xs ns vs d cs h H view k x (Stk l) s.0 s.1 e f s.2 (read_back vs s.0 s.1 s.3) other others s.1.value
+          ∙ ap (λ (vs : List Variable). Fine (held_in other xs d vs cs).sight) stays
 
-      pub stack_held : IsHeld after xs ns vs d cs
-      stack_held = subst (λ (vs : List Variable). IsHeld after xs ns vs d cs) stays
-          (set_held pool xs ns vs d cs h H view k x (Stk l) s.0 s.1 e f s.2 (read_back vs s.0 s.1 s.3) after others s.1.value)
+      pub stack_held : IsHeld other xs ns vs d cs
+      stack_held = subst (λ (vs : List Variable). IsHeld other xs ns vs d cs) stays
+          (set_held pool xs ns vs d cs h H view k x (Stk l) s.0 s.1 e f s.2 (read_back vs s.0 s.1 s.3) other others s.1.value)
 
-      pub stack_like : IsLike H (held_in after xs d vs cs)
-      stack_like = subst (λ (vs : List Variable). IsLike H (held_in after xs d vs cs)) stays
-          (set_like pool xs ns vs d cs h H view k x (Stk l) s.0 s.1 e f s.2 (read_back vs s.0 s.1 s.3) after others s.1.value shape)
+      pub stack_like : IsLike H (held_in other xs d vs cs)
+      stack_like = subst (λ (vs : List Variable). IsLike H (held_in other xs d vs cs)) stays
+          (set_like pool xs ns vs d cs h H view k x (Stk l) s.0 s.1 e f s.2 (read_back vs s.0 s.1 s.3) other others s.1.value shape)
 
-      pub stack_live : live_stacks (held_in after xs d vs cs) ≡ live_stacks H
+      pub stack_live : live_stacks (held_in other xs d vs cs) ≡ live_stacks H
       stack_live =
-          sym (ap (λ (vs : List Variable). live_stacks (held_in after xs d vs cs)) stays)
-          ∙ set_stacks pool xs ns vs d cs h H view k x (Stk l) s.0 s.1 e f s.2 (read_back vs s.0 s.1 s.3) after others s.1.value shape
+          sym (ap (λ (vs : List Variable). live_stacks (held_in other xs d vs cs)) stays)
+          ∙ set_stacks pool xs ns vs d cs h H view k x (Stk l) s.0 s.1 e f s.2 (read_back vs s.0 s.1 s.3) other others s.1.value shape
+
+      pub stack_values : values_held (held_in other xs d vs cs) + length l ≡ values_held H + length (list_of after i)
+      stack_values =
+          sym (ap (λ (vs : List Variable). values_held (held_in other xs d vs cs) + length l) stays)
+          ∙ set_values pool xs ns vs d cs h H view k x (Stk l) s.0 s.1 e f s.2 (read_back vs s.0 s.1 s.3) other others s.1.value
+          ∙ ap (λ u. values_held H + held_by (val_at other s.0 u)) s.4

@@ -1,6 +1,6 @@
 -- The n-th name of a kind in sight, and where its value is.
 use Rattle.std.proofs.Common.{◌≡◌, ℕ, ℤ, zero, suc, ◌+◌, ◌<◌, ◌≤◌, Bool, true, false, List, [], ◌∷◌, ◌++◌, length, take, drop, map, length-append, refl, ap, ◌∙◌, sym, subst, arith, ⊎_elim}
-use Rattle.std.specs.Prelude.{slice_get, slice_index_or, Some, None}
+use Rattle.std.specs.Prelude.{slice_get, slice_index_or, Some, None, pos}
 use Rattle.std.proofs.lemmas.Bool.{cases_lt}
 use Rattle.std.proofs.lemmas.List.{take-append-drop, take-map}
 use Rattle.std.specs.List.{drop-map}
@@ -16,7 +16,7 @@ use Rattle.janus_store.specs.Kinds.{same_kind, kind_of, is_of, one_if, count_of,
 use Rattle.janus_store.specs.Places.{Sorted, list_of, length_in, Mark, mark_of, marks_of, kind_at, if_so, of_kind, ArePlaced, AreSorted, AreCounted, lengths_before}
 use Rattle.janus_store.specs.Plain.{val_of}
 use Rattle.janus_store.specs.StoreState.{StoreState}
-use Rattle.janus_store.specs.Values.{val_in}
+use Rattle.janus_store.specs.Values.{val_in, Holdings}
 use Rattle.janus_store.specs.declared.places.Kind.{Kind}
 use Rattle.janus_store.specs.declared.places.Kind.TheVariants as kinds
 use Rattle.janus_store.specs.declared.value.Value.{Value}
@@ -46,24 +46,24 @@ at_seam : (l r : List ℕ) (p : ℕ) → slice_get (l ++ p ∷ r) (length l) ≡
 at_seam [] r p = refl
 at_seam (q ∷ l) r p = at_seam l r p
 
-value_kind : (pool : List (List ℤ)) (k : Kind) (u : Value) → is_of k (val_in pool u) ≡ same_kind k (kind_of u)
-value_kind pool kinds.Number (values.Number n) = refl
-value_kind pool kinds.Number (values.Array v) = refl
-value_kind pool kinds.Number (values.Stack i) = refl
-value_kind pool kinds.Array (values.Number n) = refl
-value_kind pool kinds.Array (values.Array v) = refl
-value_kind pool kinds.Array (values.Stack i) = refl
-value_kind pool kinds.Stack (values.Number n) = refl
-value_kind pool kinds.Stack (values.Array v) = refl
-value_kind pool kinds.Stack (values.Stack i) = refl
+value_kind : (pool : List (List ℤ)) (n : ℤ) (k : Kind) (u : Value) → is_of k (val_in pool n u) ≡ same_kind k (kind_of u)
+value_kind pool n kinds.Number values.Number = refl
+value_kind pool n kinds.Number (values.Array v) = refl
+value_kind pool n kinds.Number (values.Stack i) = refl
+value_kind pool n kinds.Array values.Number = refl
+value_kind pool n kinds.Array (values.Array v) = refl
+value_kind pool n kinds.Array (values.Stack i) = refl
+value_kind pool n kinds.Stack values.Number = refl
+value_kind pool n kinds.Stack (values.Array v) = refl
+value_kind pool n kinds.Stack (values.Stack i) = refl
 
 so_long : (b : Bool) (p : ℕ) → length (if_so b p) ≡ one_if b
 so_long true p = refl
 so_long false p = refl
 
-module _ (pool : List (List ℤ)) (xs : List Name) (vs : List Variable) where
+module _ (pool : Holdings) (xs : List Name) (vs : List Variable) where
   kind_here : (k : Kind) (p : ℕ) → is_of k (val_of (value_at pool vs p)) ≡ same_kind k (kind_at (marks_of vs) p)
-  kind_here k p = value_kind pool k (slice_index_or vs p no_variable).value ∙ ap (same_kind k) (sym (kind_marked vs p))
+  kind_here k p = value_kind pool.lists (slice_index_or pool.numbers p (pos 0)) k (slice_index_or vs p no_variable).value ∙ ap (same_kind k) (sym (kind_marked vs p))
 
   counts : (k : Kind) (us : List Variable) → count_of k (map (pair_of xs (value_at pool vs)) us) ≡ length (of_kind k (marks_of vs) (marks_of us))
   counts k [] = refl
@@ -110,7 +110,7 @@ told_before : (k : Kind) (ms : List Mark) (cs : List Call) → ArePlaced 0 ms �
 told_before k ms [] h c = none_before k
 told_before k ms (call ∷ cs) h c = c.0 k ∙ ap length (sym (places_taken k call.start ms h))
 
-module _ (pool : List (List ℤ)) (xs : List Name) (ns : List ℕ) (vs : List Variable) (d : ℕ) (cs : List Call) (h : IsHeld pool xs ns vs d cs) (s : Sorted) (sorted : AreSorted s (marks_of vs)) (counted : AreCounted (marks_of vs) cs) (H : StoreState) (view : held_in pool xs d vs cs ≡ H) where
+module _ (pool : Holdings) (xs : List Name) (ns : List ℕ) (vs : List Variable) (d : ℕ) (cs : List Call) (h : IsHeld pool xs ns vs d cs) (s : Sorted) (sorted : AreSorted s (marks_of vs)) (counted : AreCounted (marks_of vs) cs) (H : StoreState) (view : held_in pool xs d vs cs ≡ H) where
   abbrev first : ℕ
   first = sight_start cs
 

@@ -1,5 +1,5 @@
 -- What is in sight: the variables from the innermost call's start on.
-use Rattle.std.proofs.Common.{◌≡◌, ℕ, ℤ, zero, suc, ◌+◌, ◌-◌, ◌<◌, ◌≤◌, List, [], ◌∷◌, ◌++◌, length, take, drop, map, append_assoc, refl, ap, ◌∙◌, sym, subst, arith}
+use Rattle.std.proofs.Common.{◌≡◌, ℕ, zero, suc, ◌+◌, ◌-◌, ◌<◌, ◌≤◌, List, [], ◌∷◌, ◌++◌, length, take, drop, map, append_assoc, refl, ap, ◌∙◌, sym, subst, arith}
 use Rattle.std.specs.Prelude.{slice_get, Some, None}
 use Rattle.std.proofs.lemmas.List.{append-nil, take-append-drop, length-drop}
 use Rattle.std.proofs.lemmas.Option.{slice_get_past}
@@ -11,7 +11,7 @@ use Rattle.janus_store.specs.Inside.{bound_of, bounds, name_among, value_at, her
 use Rattle.janus_store.specs.Kinds.{kind_of}
 use Rattle.janus_store.specs.Places.{Sorted, list_of, with_place, without_last, mark_of, marks_of, AreSorted, AreCounted}
 use Rattle.janus_store.specs.Plain.{val_of}
-use Rattle.janus_store.specs.Values.{val_in}
+use Rattle.janus_store.specs.Values.{val_at, Holdings}
 use Rattle.janus_store.specs.declared.places.Kind.{Kind}
 use Rattle.janus_store.specs.declared.places.Kind.TheVariants as kinds
 use Rattle.janus_store.specs.declared.store.Call.{Call}
@@ -87,7 +87,7 @@ drop_nth (suc m) i (x ∷ l) =
     let z : suc m + i ≡ suc (m + i) = omega arith in
     drop_nth m i l ∙ ap (slice_get (x ∷ l)) (sym z)
 
-module _ (pool : List (List ℤ)) (xs : List Name) (ns : List ℕ) (vs : List Variable) (d : ℕ) (cs : List Call) (h : IsHeld pool xs ns vs d cs) where
+module _ (pool : Holdings) (xs : List Name) (ns : List ℕ) (vs : List Variable) (d : ℕ) (cs : List Call) (h : IsHeld pool xs ns vs d cs) where
   abbrev level : Level
   level = here (bounds xs [] vs) (length vs) cs
 
@@ -117,7 +117,7 @@ module _ (pool : List (List ℤ)) (xs : List Name) (ns : List ℕ) (vs : List Va
   pub listed_all : listed (held_in pool xs d vs cs).sight ≡ map (pair_of xs (value_at pool vs)) (drop (sight_start cs) vs)
   listed_all = ap listed sight_is ∙ listed_bounds xs (value_at pool vs) [] (drop (sight_start cs) vs)
 
-  pub listed_in_sight : (i : ℕ) (v w : Variable) → slice_get vs (sight_start cs + i) ≡ Some v → slice_get vs v.place ≡ Some w → slice_get (listed (held_in pool xs d vs cs).sight) i ≡ Some (name_among xs v, val_in pool w.value)
+  pub listed_in_sight : (i : ℕ) (v w : Variable) → slice_get vs (sight_start cs + i) ≡ Some v → slice_get vs v.place ≡ Some w → slice_get (listed (held_in pool xs d vs cs).sight) i ≡ Some (name_among xs v, val_at pool v.place w.value)
   listed_in_sight i v w e f =
       ap (λ l. slice_get l i) listed_all
       ∙ slice_get-map (pair_of xs (value_at pool vs)) (drop (sight_start cs) vs) i v (drop_nth (sight_start cs) i vs ∙ e)

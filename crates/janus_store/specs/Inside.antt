@@ -1,15 +1,16 @@
 -- How the fields of a store are read.
-use Rattle.std.specs.Prelude.{◌≡◌, ℕ, ℤ, suc, pos, ◌+◌, ◌-◌, ◌<◌, ◌≤◌, List, [], ◌∷◌, ◌++◌, length, reverse, take, drop, slice_get, slice_set}
+use Rattle.std.specs.Prelude.{◌≡◌, ℕ, suc, ◌+◌, ◌-◌, ◌<◌, ◌≤◌, List, [], ◌∷◌, ◌++◌, length, reverse, take, drop, slice_get, slice_set}
 use Rattle.std.specs.Prelude.{slice_index_or, Some, vec_capacity}
 use Rattle.janus_meaning.specs.Limit.{live_stack_limit, parameter_limit}
 use Rattle.janus_meaning.specs.Syntax.{Name}
 use Rattle.cell_pool.specs.Chains.{times}
 use Rattle.janus_names.specs.Numbers.{HaveOneNumber}
-use Rattle.janus_store.specs.StoreState.{StoreState, Caller, local_limit, call_limit, bound_limit, params_bound, live_stacks}
+use Rattle.janus_store.specs.StoreState.{StoreState, Caller, local_limit, call_limit, bound_limit, params_bound, live_stacks, values_held}
 use Rattle.janus_store.specs.Bounds.{Bound, Level, seen, all_of, callers_of, AreNested}
 use Rattle.janus_store.specs.Places.{marks_of, lengths_before, AreSorted, AreCounted}
 use Rattle.janus_store.specs.Plain.{Plain}
-use Rattle.janus_store.specs.Values.{plain_of, number_in}
+use Rattle.janus_store.specs.Stacks.{total}
+use Rattle.janus_store.specs.Values.{plain_at, number_in, Holdings}
 use Rattle.janus_store.specs.declared.value.Value.TheVariants as values
 use Rattle.janus_store.specs.declared.store.Variable.{Variable}
 use Rattle.janus_store.specs.declared.store.Call.{Call}
@@ -28,11 +29,11 @@ bounds xs ts [] = ts
 bounds xs ts (v ∷ vs) = bounds xs (bound_of xs v ∷ ts) vs
 
 abbrev pub no_variable : Variable
-no_variable = record { name = 0; hidden = 0; place = 0; value = values.Number (pos 0) }
+no_variable = record { name = 0; hidden = 0; place = 0; value = values.Number }
 
 -- the value at a place
-abbrev pub value_at : List (List ℤ) → List Variable → ℕ → Plain
-value_at pool vs p = plain_of pool (slice_index_or vs p no_variable).value
+abbrev pub value_at : Holdings → List Variable → ℕ → Plain
+value_at held vs p = plain_at held p (slice_index_or vs p no_variable).value
 
 -- the numbers of the stacks that variables have
 abbrev pub stacks_of : List Variable → List ℕ
@@ -59,16 +60,20 @@ abbrev pub outermost : ℕ → List Call → ℕ
 outermost n [] = n
 outermost n (c ∷ cs) = outermost c.start cs
 
-abbrev pub held_in : List (List ℤ) → List Name → ℕ → List Variable → List Call → StoreState
-held_in pool xs d vs cs = record {
-  sight = seen (value_at pool vs) [] (all_of (here (bounds xs [] vs) (length vs) cs));
+abbrev pub held_in : Holdings → List Name → ℕ → List Variable → List Call → StoreState
+held_in held xs d vs cs = record {
+  sight = seen (value_at held vs) [] (all_of (here (bounds xs [] vs) (length vs) cs));
   declared = d;
   names = xs;
-  callers = callers_of (value_at pool vs) (here (bounds xs [] vs) (length vs) cs).params (around (bounds xs [] vs) (length vs) cs);
+  callers = callers_of (value_at held vs) (here (bounds xs [] vs) (length vs) cs).params (around (bounds xs [] vs) (length vs) cs);
 }
 
+-- what the values of a store rest on
+abbrev pub holdings : {L : Type 0} → Inside L → Holdings
+holdings a = record { lists = a.stacks.lists; numbers = a.numbers.items }
+
 abbrev pub held_of : {L : Type 0} → Inside L → StoreState
-held_of a = held_in a.stacks.lists a.names a.declared a.variables.items (reverse a.calls.items)
+held_of a = held_in (holdings a) a.names a.declared a.variables.items (reverse a.calls.items)
 
 -- ---- the places of numbers
 
@@ -125,23 +130,27 @@ AreShort (c ∷ cs) = (length c.args ≤ parameter_limit) × AreShort cs
 
 -- Each number has the place of its newest variable. The parameters of each call are bound to different names of its caller. The declared
 -- names are among those outside of calls, and no more locals are open and parameters bound than may be.
-pub record IsHeld (pool : List (List ℤ)) (xs : List Name) (ns : List ℕ) (vs : List Variable) (d : ℕ) (cs : List Call) : Type 0 where
+pub record IsHeld (held : Holdings) (xs : List Name) (ns : List ℕ) (vs : List Variable) (d : ℕ) (cs : List Call) : Type 0 where
   pub one_number : HaveOneNumber xs
   pub row : AreRow xs ns vs
   pub nested : AreNested (length vs) (here (bounds xs [] vs) (length vs) cs) (around (bounds xs [] vs) (length vs) cs)
   pub declared : d ≤ outermost (length vs) cs
-  pub few : length vs ≤ d + params_bound (held_in pool xs d vs cs).callers + local_limit
-  pub short : AreShort (held_in pool xs d vs cs).callers
+  pub few : length vs ≤ d + params_bound (held_in held xs d vs cs).callers + local_limit
+  pub short : AreShort (held_in held xs d vs cs).callers
   pub calls : length cs ≤ call_limit
 
--- Each stack that may live is a variable's or a spare one, and no two of these are one. There is room for all locals, calls and
--- parameters that may be. The places of the values of each kind are kept apart.
+-- Each stack that may live is a variable's or a spare one, and no two of these are one. What the pool holds are the values of the live
+-- stacks. Beside each variable stands a number. There is room for all locals, calls and parameters that may be. The places of the values
+-- of each kind are kept apart.
 pub record IsKept {L : Type 0} (a : Inside L) : Type 0 where
-  pub held : IsHeld a.stacks.lists a.names a.newest.items a.variables.items a.declared (reverse a.calls.items)
+  pub held : IsHeld (holdings a) a.names a.newest.items a.variables.items a.declared (reverse a.calls.items)
   pub stacks : length a.stacks.spare + live_stacks (held_of a) ≡ live_stack_limit
+  pub values : total a.stacks.lists ≡ values_held (held_of a)
   pub apart : (i : ℕ) → times i a.stacks.spare + times i (stacks_of a.variables.items) ≤ 1
   pub known : (i : ℕ) → live_stack_limit ≤ i → times i a.stacks.spare + times i (stacks_of a.variables.items) ≡ 0
+  pub beside : length a.numbers.items ≡ length a.variables.items
   pub room : a.declared + local_limit + bound_limit ≤ vec_capacity a.variables
+  pub numbers_room : a.declared + local_limit + bound_limit ≤ vec_capacity a.numbers
   pub call_room : call_limit ≤ vec_capacity a.calls
   pub sorted : AreSorted a.places (marks_of a.variables.items)
   pub counted : AreCounted (marks_of a.variables.items) (reverse a.calls.items)

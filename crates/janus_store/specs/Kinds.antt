@@ -23,7 +23,7 @@ same_kind kinds.Stack kinds.Stack = true
 
 -- the kind of a variable's own value
 abbrev pub kind_of : Value → Kind
-kind_of (values.Number n) = kinds.Number
+kind_of values.Number = kinds.Number
 kind_of (values.Array v) = kinds.Array
 kind_of (values.Stack i) = kinds.Stack
 

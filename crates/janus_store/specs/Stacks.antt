@@ -1,11 +1,11 @@
 -- The stacks of the pool, and which of them are ready.
-use Rattle.std.specs.Prelude.{◌≡◌, ℕ, ℤ, ◌+◌, ◌*◌, ◌≤◌, List, [], ◌∷◌, length, slice_index_or, vec_len, vec_capacity, refl}
+use Rattle.std.specs.Prelude.{◌≡◌, ℕ, ℤ, ◌+◌, ◌≤◌, List, [], ◌∷◌, length, slice_index_or, vec_len, vec_capacity, refl}
 use Rattle.std.specs.Global.{Vec}
 use Rattle.std.specs.Coded.{Coded, code_by, coded×, coded_ℕ, coded_ℤ, coded_list}
 use Rattle.cell_pool.specs.Chains.{times}
 use Rattle.cell_pool.specs.Lent.{values_of}
 use Rattle.cell_pool.specs.Stacks.{Stacks as Pool}
-use Rattle.janus_meaning.specs.Limit.{live_stack_limit, stack_limit}
+use Rattle.janus_meaning.specs.Limit.{live_stack_limit, value_limit}
 use Rattle.janus_store.specs.declared.stack_view.StackView.{StackView}
 
 -- the values that a lent stack has, the top first
@@ -31,27 +31,22 @@ abbrev pub total : List (List ℤ) → ℕ
 total [] = 0
 total (l ∷ ls) = length l + total ls
 
--- each within its limit
-abbrev pub AreLow : List (List ℤ) → Type 0
-AreLow [] = Unit {0}
-AreLow (l ∷ ls) = (length l ≤ stack_limit) × AreLow ls
-
 -- these are stacks without a value
 abbrev pub AreEmpty : List (List ℤ) → List ℕ → Type 0
 AreEmpty ls [] = Unit {0}
 AreEmpty ls (i ∷ is) = (list_of ls i ≡ []) × AreEmpty ls is
 
--- All stacks that may live are there, with cells for all that they may hold, and those that no name has are empty.
+-- All stacks that may live are there, with free cells for all values more that they may hold together, and those that no name has are empty.
 pub record AreReady (pool : Pool) (spare : Vec ℕ) : Type 0 where
   pub all : length pool.lists ≡ live_stack_limit
-  pub cells : pool.free + total pool.lists ≡ live_stack_limit * stack_limit
-  pub low : AreLow pool.lists
+  pub cells : pool.free + total pool.lists ≡ value_limit
   pub empty : AreEmpty pool.lists spare.items
   pub few : vec_len spare ≤ live_stack_limit
   pub room : live_stack_limit ≤ vec_capacity spare
 
--- no name has a stack: each number is a spare one
+-- no name has a stack: each number is a spare one, and there is no value
 pub record AreFresh (s : Pooled) : Type 0 where
   pub count : length s.spare ≡ live_stack_limit
   pub once : (i : ℕ) → times i s.spare ≤ 1
   pub known : (i : ℕ) → live_stack_limit ≤ i → times i s.spare ≡ 0
+  pub none : total s.lists ≡ 0

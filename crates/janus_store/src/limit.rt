@@ -1,6 +1,6 @@
 //! Limits of a store, whose memory is taken with it.
 
-use janus_meaning::limit::{FRAME_LIMIT, LIVE_STACK_LIMIT, PARAMETER_LIMIT, STACK_VALUE_LIMIT};
+use janus_meaning::limit::{FRAME_LIMIT, PARAMETER_LIMIT, VALUE_LIMIT};
 
 /// The most locals that may be open: each takes one of the frames that may be open.
 pub(crate) const LOCAL_LIMIT: usize = FRAME_LIMIT as usize;
@@ -12,4 +12,4 @@ pub const CALL_LIMIT: usize = FRAME_LIMIT as usize / 2;
 pub(crate) const BOUND_LIMIT: usize = CALL_LIMIT * PARAMETER_LIMIT;
 
 /// The most values on all stacks together.
-pub(crate) const CELL_LIMIT: u32 = (LIVE_STACK_LIMIT * STACK_VALUE_LIMIT) as u32;
+pub(crate) const CELL_LIMIT: u32 = VALUE_LIMIT as u32;

@@ -1,15 +1,15 @@
 //! All stacks that may live, and which of them no name has.
 
-ghost use Rattle.std.specs.Prelude.{◌≡◌, ℕ, ◌+◌, ◌<◌, ◌≤◌, [], ◌∷◌, ◌++◌, IfOk, IsTrue, ◌↔◌, length, slice_get, slice_set};
+ghost use Rattle.std.specs.Prelude.{◌≡◌, ℕ, suc, ◌+◌, ◌<◌, ◌≤◌, [], ◌∷◌, ◌++◌, IfOk, IsTrue, ◌↔◌, length, slice_get, slice_set};
 ghost use Rattle.cell_pool.specs.Chains.{times};
 ghost use Rattle.cell_pool.specs.Lent.{values_of};
-ghost use Rattle.janus_meaning.specs.Limit.{live_stack_limit, stack_limit};
+ghost use Rattle.janus_meaning.specs.Limit.{live_stack_limit, value_limit};
 ghost use Rattle.janus_meaning.specs.Store.{cleared_val};
-ghost use Rattle.janus_store.specs.Stacks.{list_of, AreFresh};
+ghost use Rattle.janus_store.specs.Stacks.{list_of, total, AreFresh};
 
 use crate::limit::CELL_LIMIT;
 use cell_pool::{Pool, Values};
-use janus_meaning::limit::{LIVE_STACK_LIMIT, STACK_VALUE_LIMIT};
+use janus_meaning::limit::LIVE_STACK_LIMIT;
 use std::alloc::{AllocError, Global};
 use std::marker::Model;
 
@@ -33,7 +33,7 @@ impl Model for Stacks {
 }
 
 impl Stacks {
-    /// All stacks that may live, with the memory of all values that they may hold. No name has one.
+    /// All stacks that may live, with the memory of all values that they may hold together. No name has one.
     pub(crate) fn new(alloc: Global) -> Result<Stacks, AllocError>
         ensures { IfOk result (λ s. AreFresh s) }
     {
@@ -91,12 +91,11 @@ impl Stacks {
         self.pool.top(stack)
     }
 
-    /// Whether a stack takes no value more.
-    pub(crate) fn is_full(&self, stack: usize) -> bool
-        requires { stack < live_stack_limit }
-        ensures { IsTrue result ↔ (stack_limit ≤ length (list_of self.now.lists stack)) }
+    /// Whether no stack takes a value more.
+    pub(crate) fn is_full(&self) -> bool
+        ensures { IsTrue result ↔ (value_limit ≤ total self.now.lists) }
     {
-        self.pool.length(stack) >= STACK_VALUE_LIMIT
+        self.pool.is_full()
     }
 
     /// The values of a stack, lent.
@@ -110,9 +109,10 @@ impl Stacks {
     /// One value more, on top of a stack that a name has.
     pub(crate) fn push(&mut self, stack: usize, number: i32)
         requires known { stack < live_stack_limit }
-        requires room { length (list_of self.old.lists stack) < stack_limit }
+        requires room { total self.old.lists < value_limit }
         requires named { times stack self.old.spare ≡ 0 }
         ensures top { list_of self.new.lists stack ≡ number ∷ list_of self.old.lists stack }
+        ensures more { total self.new.lists ≡ suc (total self.old.lists) }
         ensures rest { self.new ≡ record self.old { lists = slice_set self.old.lists stack (list_of self.new.lists stack) } }
     {
         self.pool.push(stack, number);
@@ -124,6 +124,7 @@ impl Stacks {
         requires some { 0 < length (list_of self.old.lists stack) }
         requires named { times stack self.old.spare ≡ 0 }
         ensures top { list_of self.old.lists stack ≡ result ∷ list_of self.new.lists stack }
+        ensures fewer { total self.old.lists ≡ suc (total self.new.lists) }
         ensures rest { self.new ≡ record self.old { lists = slice_set self.old.lists stack (list_of self.new.lists stack) } }
     {
         self.pool.pop(stack)

@@ -6,17 +6,18 @@ ghost use Rattle.std.specs.Prelude.{◌^◌, take, reverse, slice_index_or};
 ghost use Rattle.janus_meaning.specs.Syntax.{Name};
 ghost use Rattle.janus_meaning.specs.Fault.{Fine, Bad, Broken, IndexRange, TopEmpty, and_then};
 ghost use Rattle.janus_meaning.specs.Store.{Store as Values, Slot, Num, Arr, Stk, look, number, element, set_element, zeros, cleared_val};
-ghost use Rattle.janus_meaning.specs.Limit.{live_stack_limit, stack_limit};
+ghost use Rattle.janus_meaning.specs.Limit.{live_stack_limit, value_limit};
 ghost use Rattle.janus_meaning.specs.Value.{first, is_none};
 ghost use Rattle.janus_meaning.specs.World.{size_of, listed, stacks_in, stacks_with};
 ghost use Rattle.janus_names.specs.Numbers.{GoOn, IsMet, HaveOneNumber};
 ghost use Rattle.janus_store.specs.StoreState.{IsName, IsWhole, IsInSight, HasLocal, HasLocalRoom, shown_store, live_stacks, empty_state, Declares};
-ghost use Rattle.janus_store.specs.StoreState.{KeepsSight, IsLike, AreKnown, opened, with_sight};
+ghost use Rattle.janus_store.specs.StoreState.{values_held, KeepsSight, IsLike, AreKnown, opened, with_sight};
 ghost use Rattle.janus_store.specs.Calls.{AreNamed, CanLend, HasCallRoom, HasParametersAlone, IsEntered, IsLeft};
 ghost use Rattle.janus_store.specs.Values.{first_of, val_in, number_in, shown, found, read_or};
-ghost use Rattle.janus_store.specs.Stores.{IsFirstOnTop, IsNumber, IsArray, IsStack, IsOpenStack, IsHeldStack, HasElementAt, rest_of, write};
+ghost use Rattle.janus_store.specs.Stores.{IsFirstOnTop, IsNumber, IsArray, IsStack, IsHeldStack, HasElementAt, rest_of, write};
 ghost use Rattle.janus_store.specs.declared.store.Variable.{Variable};
-ghost use Rattle.janus_store.specs.Inside.{newest_from, none_of, AreHidden, AreRow, AreBelow, HavePlaces, IsPlaceOf, IsStackOf, bounds, lent_to, stacks_of, sight_start};
+ghost use Rattle.janus_store.specs.Inside.{newest_from, none_of, AreHidden, AreRow, AreBelow, HavePlaces, IsPlaceOf, IsStackOf, bounds, lent_to, stacks_of};
+ghost use Rattle.janus_store.specs.Inside.{sight_start};
 ghost use Rattle.janus_store.specs.Kinds.{IsNumberInSight, IsArrayInSight, IsStackInSight, count_numbers, count_arrays, count_stacks};
 ghost use Rattle.janus_store.specs.Places.{marks_of, AreSorted, lengths_before};
 
@@ -40,7 +41,7 @@ struct Variable {
     hidden: usize,
     /// Where the value is: at its own place, or for a parameter at the place of what it is bound to.
     place: usize,
-    /// The value, where it is its own.
+    /// The value, where it is its own. A number itself stands beside the variable.
     value: Value,
 }
 
@@ -61,6 +62,8 @@ pub struct Store<L: Ledger> {
     names: Names,
     /// The declared ones in the order of declaration, and behind them locals; then for each open call its parameters and its locals.
     variables: Vec<Variable>,
+    /// Beside each variable the number that it has, where it has one of its own.
+    numbers: Vec<i32>,
     /// The open calls, the innermost last.
     calls: Vec<Call>,
     /// For each number the place behind its newest variable among these, or 0 where it has none.
@@ -101,11 +104,13 @@ impl<L: Ledger> Store<L> {
     {
         let stacks = Stacks::new(alloc)?;
         let variables = Vec::with_capacity(alloc, NAME_LIMIT + LOCAL_LIMIT + BOUND_LIMIT)?;
+        let numbers = Vec::with_capacity(alloc, NAME_LIMIT + LOCAL_LIMIT + BOUND_LIMIT)?;
         let calls = Vec::with_capacity(alloc, CALL_LIMIT)?;
         let places = Places::new(alloc, NAME_LIMIT + LOCAL_LIMIT + BOUND_LIMIT)?;
         Ok(Store {
             names: Names::new(alloc),
             variables,
+            numbers,
             calls,
             newest: Vec::new(alloc),
             places,
@@ -155,7 +160,12 @@ impl<L: Ledger> Store<L> {
         if behind == 0 {
             return None;
         }
-        Some(self.variables[behind - 1].value.view(&self.stacks))
+        let at = behind - 1;
+        Some(
+            self.variables[at]
+                .value
+                .view(beside(&self.numbers, at), &self.stacks),
+        )
     }
 
     /// The i-th name in the order of declaration, the oldest being 0, with its value.
@@ -166,7 +176,7 @@ impl<L: Ledger> Store<L> {
         let variable = &self.variables[i];
         (
             self.names.name(variable.name),
-            variable.value.view(&self.stacks),
+            variable.value.view(beside(&self.numbers, i), &self.stacks),
         )
     }
 
@@ -184,9 +194,12 @@ impl<L: Ledger> Store<L> {
         ensures entry { slice_get (listed self.now.sight) i ≡ Some (slice_index_or self.now.names result.0 [], shown result.1) }
     {
         let variable = &self.variables[sight_start(&self.calls) + i];
+        let place = variable.place;
         (
             variable.name,
-            self.variables[variable.place].value.view(&self.stacks),
+            self.variables[place]
+                .value
+                .view(beside(&self.numbers, place), &self.stacks),
         )
     }
 
@@ -195,9 +208,8 @@ impl<L: Ledger> Store<L> {
         requires { IsInSight self.now name }
         ensures { (x : Name) → IsName self.now name x → read_or Broken result ≡ and_then (look x self.now.sight) number }
     {
-        self.variables[place(&self.newest, &self.variables, name)]
-            .value
-            .number()
+        let at = place(&self.newest, &self.variables, name);
+        self.variables[at].value.number(beside(&self.numbers, at))
     }
 
     /// The element at an index of the array of a number; none where the index is out of its range.
@@ -235,13 +247,12 @@ impl<L: Ledger> Store<L> {
         self.length(name) == 0
     }
 
-    /// Whether the stack of a number takes no value more.
-    pub fn is_full(&self, name: usize) -> bool
-        requires { (x : Name) × IsName self.now name x × IsStack (look x self.now.sight) }
-        ensures { (x : Name) (l : List ℤ) → IsName self.now name x → look x self.now.sight ≡ Fine (Stk l) → IsTrue result ↔ (stack_limit ≤ length l) }
+    /// Whether no stack takes a value more: all live stacks together hold 262,144.
+    #[inline(always)]
+    pub fn is_full(&self) -> bool
+        ensures { IsTrue result ↔ (value_limit ≤ values_held self.now) }
     {
-        self.stacks
-            .is_full(stack(&self.newest, &self.variables, name))
+        self.stacks.is_full()
     }
 
     /// How many stacks more may live.
@@ -327,6 +338,7 @@ impl<L: Ledger> Store<L> {
     {
         let name = self.number_of(name)?;
         self.variables.reserve(LOCAL_LIMIT + BOUND_LIMIT + 1)?;
+        self.numbers.reserve(LOCAL_LIMIT + BOUND_LIMIT + 1)?;
         self.places
             .reserve(self.variables.len() + LOCAL_LIMIT + BOUND_LIMIT + 1)?;
         let value = first_value(&mut self.stacks, declared);
@@ -337,6 +349,7 @@ impl<L: Ledger> Store<L> {
             name,
             value,
         );
+        self.numbers.push_reserved(0);
         self.declared += 1;
         Ok(())
     }
@@ -352,6 +365,7 @@ impl<L: Ledger> Store<L> {
             &mut self.variables,
             &mut self.places,
         );
+        self.numbers.truncate(self.variables.len());
         take_back(&mut self.stacks, value);
         self.declared -= 1;
     }
@@ -367,8 +381,9 @@ impl<L: Ledger> Store<L> {
             &mut self.variables,
             &mut self.places,
             name,
-            Value::Number(number),
+            Value::Number,
         );
+        self.numbers.push_reserved(number);
     }
 
     /// Closes the newest local, a number, and gives it.
@@ -378,12 +393,11 @@ impl<L: Ledger> Store<L> {
         ensures left { (x : Name) (n : ℤ) (r : Values) → self.old.sight ≡ Slot x (Num n) r → (result ≡ n) × (self.new ≡ with_sight r self.old) }
         ensures room { HasLocalRoom self.new }
     {
-        let Variable { value, .. } = remove_own(
-            &mut self.newest,
-            &mut self.variables,
-            &mut self.places,
-        );
-        value.only_number()
+        let _variable = remove_own(&mut self.newest, &mut self.variables, &mut self.places);
+        let at = self.variables.len();
+        let number = beside(&self.numbers, at);
+        self.numbers.truncate(at);
+        number
     }
 
     /// Opens a local stack of this number's name, where fewer than 64 live. While it is open it hides an older variable of its name.
@@ -401,6 +415,7 @@ impl<L: Ledger> Store<L> {
             name,
             value,
         );
+        self.numbers.push_reserved(0);
     }
 
     /// Closes the newest local, an empty stack.
@@ -414,6 +429,7 @@ impl<L: Ledger> Store<L> {
             &mut self.variables,
             &mut self.places,
         );
+        self.numbers.truncate(self.variables.len());
         take_back(&mut self.stacks, value);
     }
 
@@ -435,6 +451,7 @@ impl<L: Ledger> Store<L> {
             params,
             args,
         );
+        put_zeros(&mut self.numbers, params.len());
         let end = self.variables.len();
         self.calls.push_reserved(Call {
             start,
@@ -453,6 +470,7 @@ impl<L: Ledger> Store<L> {
         match self.calls.pop() {
             Some(call) => {
                 remove_many(&mut self.newest, &mut self.variables, call.end - call.start);
+                self.numbers.truncate(call.start);
                 self.places.cut(call.lengths);
                 self.in_front = lengths_before(&self.calls);
             }
@@ -469,7 +487,7 @@ impl<L: Ledger> Store<L> {
     {
         writes.add();
         let at = place(&self.newest, &self.variables, name);
-        self.variables[at].value.set_number(number);
+        self.numbers[at] = number;
     }
 
     /// Another number for an element of the array of a number, at an index within its range.
@@ -485,9 +503,10 @@ impl<L: Ledger> Store<L> {
         self.variables[at].value.set_element(index, number);
     }
 
-    /// One number more, on top of the stack of a number, which isn't full.
+    /// One number more, on top of the stack of a number, where all live stacks together hold fewer than 262,144 values.
     pub fn push(&mut self, name: usize, number: i32, writes: &mut Writes<L>)
-        requires { (x : Name) × IsName self.old name x × IsOpenStack (look x self.old.sight) }
+        requires stack { (x : Name) × IsName self.old name x × IsStack (look x self.old.sight) }
+        requires room { values_held self.old < value_limit }
         ensures written { (x : Name) (l : List ℤ) → IsName self.old name x → look x self.old.sight ≡ Fine (Stk l) →
             write x (Stk (number ∷ l)) self.old.sight ≡ Fine self.new.sight }
         ensures shape { IsLike self.old self.new }
@@ -540,7 +559,7 @@ impl<L: Ledger> Store<L> {
         ensures { (x : Name) → IsNumberInSight self.now k x → look x self.now.sight ≡ Fine (Num result) }
     {
         let place = nth(self.places.numbers(), self.in_front.numbers, k);
-        self.variables[place].value.only_number()
+        beside(&self.numbers, place)
     }
 
     /// The element at an index of the k-th array in sight that is not hidden; none where the index is out of its range.
@@ -573,16 +592,6 @@ impl<L: Ledger> Store<L> {
         self.stacks.length(self.variables[place].value.stack()) == 0
     }
 
-    /// Whether the k-th stack in sight that is not hidden takes no value more.
-    #[inline(always)]
-    pub fn is_full_at(&self, k: usize) -> bool
-        requires { (x : Name) × IsStackInSight self.now k x }
-        ensures { (x : Name) (l : List ℤ) → IsStackInSight self.now k x → look x self.now.sight ≡ Fine (Stk l) → IsTrue result ↔ (stack_limit ≤ length l) }
-    {
-        let place = nth(self.places.stacks(), self.in_front.stacks, k);
-        self.stacks.is_full(self.variables[place].value.stack())
-    }
-
     /// Another number for the k-th name in sight that has one and is not hidden.
     #[inline(always)]
     pub fn set_number_at(&mut self, k: usize, number: i32, writes: &mut Writes<L>)
@@ -593,7 +602,7 @@ impl<L: Ledger> Store<L> {
     {
         writes.add();
         let place = nth(self.places.numbers(), self.in_front.numbers, k);
-        self.variables[place].value.set_number(number);
+        self.numbers[place] = number;
     }
 
     /// Another number for an element of the k-th array in sight that is not hidden, at an index within its range.
@@ -610,10 +619,11 @@ impl<L: Ledger> Store<L> {
         self.variables[place].value.set_element(index, number);
     }
 
-    /// One number more, on top of the k-th stack in sight that is not hidden, which isn't full.
+    /// One number more, on top of the k-th stack in sight that is not hidden, where all live stacks together hold fewer than 262,144 values.
     #[inline(always)]
     pub fn push_at(&mut self, k: usize, number: i32, writes: &mut Writes<L>)
-        requires { (x : Name) × IsStackInSight self.old k x × IsOpenStack (look x self.old.sight) }
+        requires stack { (x : Name) × IsStackInSight self.old k x × IsStack (look x self.old.sight) }
+        requires room { values_held self.old < value_limit }
         ensures written { (x : Name) (l : List ℤ) → IsStackInSight self.old k x → look x self.old.sight ≡ Fine (Stk l) →
             write x (Stk (number ∷ l)) self.old.sight ≡ Fine self.new.sight }
         ensures shape { IsLike self.old self.new }
@@ -645,12 +655,12 @@ impl<L: Ledger> Store<L> {
 /// The value that a name is declared with; a stack is one that no name has.
 fn first_value(stacks: &mut Stacks, declared: Declared) -> Value
     requires { stacks_with (first_of declared) 0 ≤ length stacks.old.spare }
-    ensures value { val_in stacks.new.lists result ≡ first_of declared }
+    ensures value { val_in stacks.new.lists (pos 0) result ≡ first_of declared }
     ensures lists { stacks.new.lists ≡ stacks.old.lists }
     ensures spare { stacks.old.spare ≡ stacks.new.spare ++ number_in result }
 {
     match declared {
-        Declared::Number => Value::Number(0),
+        Declared::Number => Value::Number,
         Declared::Array(items) => Value::Array(items),
         Declared::Stack => Value::Stack(stacks.take()),
     }
@@ -658,7 +668,7 @@ fn first_value(stacks: &mut Stacks, declared: Declared) -> Value
 
 /// Takes a value back that is as it was declared; no name has its stack then.
 fn take_back(stacks: &mut Stacks, value: Value)
-    requires first { cleared_val (val_in stacks.old.lists value) ≡ val_in stacks.old.lists value }
+    requires first { (n : ℤ) × (cleared_val (val_in stacks.old.lists n value) ≡ val_in stacks.old.lists n value) }
     requires room { length stacks.old.spare + length (number_in value) ≤ live_stack_limit }
     ensures { stacks.new ≡ record { lists = stacks.old.lists; spare = stacks.old.spare ++ number_in value } }
 {
@@ -688,6 +698,15 @@ fn nth(places: &[usize], before: usize, k: usize) -> usize
     ensures { slice_get places.now (before + k) ≡ Some result }
 {
     places[before + k]
+}
+
+/// The number beside the variable at a place.
+#[inline(always)]
+fn beside(numbers: &[i32], place: usize) -> i32
+    requires { place < length numbers.now }
+    ensures { slice_index_or numbers.now place (pos 0) ≡ result }
+{
+    numbers[place]
 }
 
 /// How many variables stand in front of those in sight.
@@ -803,6 +822,7 @@ fn bind_all(
         bounds xs [] variables.new.items ≡ lent_to xs newest.old.items variables.old.items params.now args.now ++ bounds xs [] variables.old.items }
     ensures behind { (more : List Variable) × (variables.new.items ≡ variables.old.items ++ more) }
     ensures stacks { stacks_of variables.new.items ≡ stacks_of variables.old.items }
+    ensures long { vec_len variables.new ≡ vec_len variables.old + length params.now }
     ensures room { vec_capacity variables.new ≡ vec_capacity variables.old }
     ensures sorted { AreSorted places.new (marks_of variables.new.items) }
     ensures places_room { places.new.room ≡ places.old.room }
@@ -812,7 +832,18 @@ fn bind_all(
         let behind = place_below(newest, variables, oldest, args[i]);
         let place = variables[behind - 1].place;
         places.add(variables[place].value.kind(), place);
-        put(newest, variables, params[i], place, Value::Number(0));
+        put(newest, variables, params[i], place, Value::Number);
+    }
+}
+
+/// A 0 beside each of `count` variables more.
+fn put_zeros(numbers: &mut Vec<i32>, count: usize)
+    requires room { vec_len numbers.old + count ≤ vec_capacity numbers.old }
+    ensures more { (more : List ℤ) × (numbers.new.items ≡ numbers.old.items ++ more) × (length more ≡ count) }
+    ensures room { vec_capacity numbers.new ≡ vec_capacity numbers.old }
+{
+    for _i in 0..count {
+        numbers.push_reserved(0);
     }
 }
 

@@ -1,21 +1,22 @@
--- The parser's assignments and statements, over plain lists.
-use Rattle.std.proofs.Common.{◌≡◌, ℕ, suc, ◌+◌, ◌<◌, ◌≤◌, List, ◌∷◌, length, Option, Some, None, refl, ap, sym, subst, ◌∙◌, arith}
+-- The parser's assignments, swaps and statements, over plain lists.
+use Rattle.std.proofs.Common.{◌≡◌, ℕ, suc, ◌+◌, ◌<◌, ◌≤◌, List, ◌∷◌, length, Option, Some, None, Result, Ok, Err, refl, ap, sym, subst, ◌∙◌, arith}
 use Rattle.janus_syntax.specs.declared.token.Span.{Span}
 use Rattle.janus_syntax.specs.declared.token.Sign.TheVariants as sign
 use Rattle.janus_syntax.specs.declared.token.Keyword.TheVariants as keyword
+use Rattle.janus_syntax.specs.declared.problem.Problem.{Problem}
 use Rattle.janus_syntax.specs.declared.tree.Update.{Update}
 use Rattle.janus_syntax.specs.Tokens.{Token, Name, Sign_of, Keyword_of}
-use Rattle.janus_syntax.specs.Tree.{Name as Named, named, Exp, Stm, Skip, Assign, AssignElement, Push, Pop}
-use Rattle.janus_syntax.specs.Forms.{Part, Target_index, Whole, The_sign, An_update, Form, done, take, part, close}
-use Rattle.janus_syntax.specs.Table.{sign_then, variable_and_stack_then, assignment}
+use Rattle.janus_syntax.specs.Tree.{Name as Named, named, Exp, Stm, Skip, Assign, AssignElement, Push, Pop, Swap}
+use Rattle.janus_syntax.specs.Forms.{Part, Swap_partner, Target_index, Whole, The_sign, A_name, An_update, Form, done, take, part, close}
+use Rattle.janus_syntax.specs.Table.{sign_then, variable_and_stack_then, assignment, behind_target}
 use Rattle.janus_syntax.specs.Grammar.{all, depth_limit, Refusal, TooNested}
 use Rattle.janus_syntax.specs.Reader.{Stack, waits}
-use Rattle.janus_syntax.specs.Reading.{TokenGoes, TokenFails, IsVariableAndStack, FailsVariableAndStack, count, Moves, Stops, IsPart, FailsPart, BeginsWithSign}
-use Rattle.janus_syntax.specs.Statements.{IsStm, FailsStm, if_form, from_form, assignment_form, IsIf, FailsIf, IsLoop, FailsLoop, IsAssignment, FailsAssignment}
+use Rattle.janus_syntax.specs.Reading.{Reads, TokenGoes, TokenFails, IsVariableAndStack, FailsVariableAndStack, count, Moves, Stops, IsPart, FailsPart, BeginsWithSign}
+use Rattle.janus_syntax.specs.Statements.{IsStm, FailsStm, if_form, from_form, assignment_form, target_form, IsBehindTarget, FailsBehindTarget, IsIf, FailsIf, IsLoop, FailsLoop, IsAssignment, FailsAssignment}
 use Rattle.janus_syntax.proofs.Agrees.{run_hands, left_behind}
-use Rattle.janus_syntax.proofs.LeftOut.{no_target}
-use Rattle.janus_syntax.proofs.Steps.{no_opening}
-use Rattle.janus_syntax.proofs.Parts.{moves_on, moves_stop, token_moves, token_stops, opens_part, part_too_deep, ends_construct}
+use Rattle.janus_syntax.proofs.LeftOut.{no_partner, no_target}
+use Rattle.janus_syntax.proofs.Steps.{passes_on, no_swapping, no_opening}
+use Rattle.janus_syntax.proofs.Parts.{moves_on, moves_stop, token_moves, token_stops, begins_part, opens_part, part_too_deep, ends_construct}
 use Rattle.janus_syntax.proofs.Operands.{begun_plain, begun_opens, begun_deep}
 
 abbrev pub NoOpening : List Token → Type 0
@@ -119,18 +120,68 @@ element_too_deep d x {from} {behind} deep b p k =
     subst (λ ts. Stops d (assignment_form x k) ts (TooNested (length ts))) (sym b.is)
     (λ g S u h. part_too_deep Target_index (with_update x k) S d u (Sign_of sign.OpenIndex b.at) behind the_index refl deep)
 
+-- ---- a swap, or no swap
+
+abbrev pub NoSwapping : List Token → Type 0
+NoSwapping from = (behind : List Token) → BeginsWithSign sign.Swap from behind → ⊥
+
+to_assignment : (d : ℕ) (x : Named) (from : List Token) → NoSwapping from → (p : Part) (k : Stm → Form p) → Moves d (target_form x k) from (assignment_form x k) from
+to_assignment d x from n p k g S u h = (u, h, left_behind Swap_partner (λ other. behind_target x other k) S (count d u) None from refl (λ t e. no_partner t (no_swapping from n t e)))
+
+pub assignment_is : {d : ℕ} {x : Named} {s : Stm} {from rest : List Token} → NoSwapping from → IsAssignment d x s from rest → IsBehindTarget d x s from rest
+assignment_is {d} {x} {s} {from} {rest} n i =
+    record {
+      goes = λ p k. moves_on d (target_form x k) (assignment_form x k) (k s) from from rest (to_assignment d x from n p k) (i.goes p k);
+      shorter = i.shorter;
+    }
+
+pub assignment_stops : (d : ℕ) (x : Named) (from : List Token) (r : Refusal) → NoSwapping from → FailsAssignment d x from r → FailsBehindTarget d x from r
+assignment_stops d x from r n f p k = moves_stop d (target_form x k) (assignment_form x k) from from r (to_assignment d x from n p k) (f p k)
+
+abbrev the_partner : Form Swap_partner
+the_partner = take A_name (λ y. done (Some y))
+
+pub swap_is : {d : ℕ} {x y : Named} {from behind rest : List Token} → d ≤ depth_limit → BeginsWithSign sign.Swap from behind → TokenGoes A_name y behind rest → IsBehindTarget d x (Swap x y) from rest
+swap_is {d} {x} {y} {from} {behind} {rest} room b t =
+    record {
+      goes = λ p k.
+          subst (λ ts. Moves d (target_form x k) ts (k (Swap x y)) rest) (sym b.is)
+          (λ g S u h.
+          let T : Stack g Swap_partner = waits {q = Swap_partner} (λ other. behind_target x other k) S in (
+            u,
+            h,
+            begins_part Swap_partner (λ other. behind_target x other k) S d u (Sign_of sign.Swap b.at) behind the_partner refl room h
+                ∙ t.goes g Swap_partner (λ z. done (Some z)) T (count d u)
+                ∙ run_hands all Swap_partner (λ other. behind_target x other k) S (count d u) (Some y) rest,
+          ));
+      shorter = let s0 = ap length b.is in let s1 = t.shorter in omega (arith, s0, s1);
+    }
+
+pub swap_stops : (d : ℕ) (x : Named) {from behind : List Token} (r : Refusal) → d ≤ depth_limit → BeginsWithSign sign.Swap from behind → TokenFails A_name behind r → FailsBehindTarget d x from r
+swap_stops d x {from} {behind} r room b f p k =
+    subst (λ ts. Stops d (target_form x k) ts r) (sym b.is)
+    (λ g S u h.
+    begins_part Swap_partner (λ other. behind_target x other k) S d u (Sign_of sign.Swap b.at) behind the_partner refl room h
+    ∙ f g Swap_partner (λ z. done (Some z)) (waits {q = Swap_partner} (λ other. behind_target x other k) S) (count d u))
+
+-- what is read behind a name, where no `<=>` stands
+pub assignment_result : {X : Type 0} (d : ℕ) (x : Named) (from : List Token) (s : X → Stm) (rest : X → List Token) (result : Result X Problem) → NoSwapping from →
+    Reads (λ v. IsAssignment d x (s v) from (rest v)) (FailsAssignment d x from) result → Reads (λ v. IsBehindTarget d x (s v) from (rest v)) (FailsBehindTarget d x from) result
+assignment_result d x from s rest (Ok v) n r = assignment_is n r
+assignment_result d x from s rest (Err e) n r = passes_on (FailsAssignment d x from) (FailsBehindTarget d x from) e r (λ out f. assignment_stops d x from out n f)
+
 -- ---- statements, by their first token
 
-pub name_begins : (x : List ℕ) (place : Span) {d : ℕ} {s : Stm} {rest after : List Token} → d ≤ depth_limit → IsAssignment d (named x place) s rest after → IsStm d s (Name x place ∷ rest) after
+pub name_begins : (x : List ℕ) (place : Span) {d : ℕ} {s : Stm} {rest after : List Token} → d ≤ depth_limit → IsBehindTarget d (named x place) s rest after → IsStm d s (Name x place ∷ rest) after
 name_begins x place {d} {s} {rest} {after} room i =
     record {
       begins = refl;
-      goes = λ g p k S u h. let a = i.goes p k g S u h in (a.0, a.1, begun_plain (assignment_form (named x place) k) S d u rest room h ∙ a.2);
+      goes = λ g p k S u h. let a = i.goes p k g S u h in (a.0, a.1, begun_plain (target_form (named x place) k) S d u rest room h ∙ a.2);
       shorter = let y = i.shorter in omega (arith, y);
     }
 
-pub name_stops : (x : List ℕ) (place : Span) (d : ℕ) (rest : List Token) (r : Refusal) → d ≤ depth_limit → FailsAssignment d (named x place) rest r → FailsStm d (Name x place ∷ rest) r
-name_stops x place d rest r room f = record { begins = refl; stops = λ g p k S u h. begun_plain (assignment_form (named x place) k) S d u rest room h ∙ f p k g S u h }
+pub name_stops : (x : List ℕ) (place : Span) (d : ℕ) (rest : List Token) (r : Refusal) → d ≤ depth_limit → FailsBehindTarget d (named x place) rest r → FailsStm d (Name x place ∷ rest) r
+name_stops x place d rest r room f = record { begins = refl; stops = λ g p k S u h. begun_plain (target_form (named x place) k) S d u rest room h ∙ f p k g S u h }
 
 pub skip_is : (place : Span) (d : ℕ) (rest : List Token) → d ≤ depth_limit → IsStm d Skip (Keyword_of keyword.Skip place ∷ rest) rest
 skip_is place d rest room = record { begins = refl; goes = λ g p k S u h. (u, h, begun_plain (k Skip) S d u rest room h); shorter = omega arith }

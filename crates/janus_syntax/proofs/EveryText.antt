@@ -36,7 +36,7 @@ use Rattle.janus_syntax.proofs.Lexing.{IsLexedTo, lexed_start, lexed_gap, lexed_
 abbrev NoneOf : List ℕ → ℕ → Type 0
 NoneOf text k = (j : ℕ) (s : Sign) (rest : List ℕ) → j < k → text ≡ sign_text (get_or signs j s) ++ rest → ⊥
 
-one_sign_more : (text : List ℕ) (k : ℕ) → k < 24 → NoneOf text k → starts_with nat_eq text (sign_text (get_or signs k sign.Plus)) ≡ false → NoneOf text (suc k)
+one_sign_more : (text : List ℕ) (k : ℕ) → k < 25 → NoneOf text k → starts_with nat_eq text (sign_text (get_or signs k sign.Plus)) ≡ false → NoneOf text (suc k)
 one_sign_more text k few none not_here j s rest h e =
     elim (order j k) [
       | inl before ↦ none j s rest before e
@@ -47,7 +47,7 @@ one_sign_more text k few none not_here j s rest h e =
           let bad : true ≡ false = sym found ∙ not_here in absurd cc
     ]
 
-longest_sign : (text : List ℕ) (left k : ℕ) → left + k ≡ 24 → NoneOf text k → (o : Option Sign) × IsLongestSign text o
+longest_sign : (text : List ℕ) (left k : ℕ) → left + k ≡ 25 → NoneOf text k → (o : Option Sign) × IsLongestSign text o
 longest_sign text zero k e none = (None, no_sign text k (omega (arith, e)) none)
 longest_sign text (suc left) k e none =
     let here = sign_text (get_or signs k sign.Plus) in
@@ -103,7 +103,7 @@ other_or_comment xs u e =
         cut = line_cut xs (prefix_len in_line xs) refl;
       })
       | false ↦ λ h.
-          let o = longest_sign xs 24 0 refl (λ j s rest l _. absurd (omega (arith, l))) in
+          let o = longest_sign xs 25 0 refl (λ j s rest l _. absurd (omega (arith, l))) in
           other xs u e (no_slashes xs (47 ∷ 47 ∷ []) _ refl refl h) o.0 o.1
     ] refl
 

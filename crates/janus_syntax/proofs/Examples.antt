@@ -9,7 +9,7 @@ use Rattle.janus_syntax.specs.declared.tree.Operator.TheVariants as operator
 use Rattle.janus_syntax.specs.declared.tree.Update.TheVariants as update
 use Rattle.janus_syntax.specs.declared.fault.What.TheVariants as what
 use Rattle.janus_syntax.specs.Tokens.{Token, Name, Number, Sign_of, Keyword_of}
-use Rattle.janus_syntax.specs.Tree.{Name as Named, named, Num, Var, EmptyOf, TopOf, Neg, Bin, Skip, Assign, Push, Pop, If, LocalInt, LocalStack, Call, Empty, More, Int, StackOf, ArrayParameter, StackParameter, procedure_of, cell_of}
+use Rattle.janus_syntax.specs.Tree.{Name as Named, named, Num, Var, EmptyOf, TopOf, Neg, Bin, Skip, Assign, Push, Pop, Swap, If, LocalInt, LocalStack, Call, Empty, More, Int, StackOf, ArrayParameter, StackParameter, procedure_of, cell_of}
 use Rattle.janus_syntax.specs.Forms.{A_cell}
 use Rattle.janus_syntax.specs.Grammar.{all}
 use Rattle.janus_syntax.specs.Reader.{Outcome, Ended, Failed, Nested, Unlike, run, start}
@@ -67,6 +67,30 @@ x_element_wants = refl
 
 group_wants : answer (x ∷ s sign.PlusEquals ∷ s sign.Open ∷ n 1 ∷ []) ≡ Ended None (what.Sign sign.Close)
 group_wants = refl
+
+-- x <=> y x <=> x
+swaps : answer (x ∷ s sign.Swap ∷ y ∷ x ∷ s sign.Swap ∷ x ∷ []) ≡ Ended (Some (cell_of [] (More (Swap X Y) (More (Swap X X) Empty)) [])) what.End
+swaps = refl
+
+-- `x <=>` wants a name, and an element is none; so it is no partner of an element
+swap_wants : answer (x ∷ s sign.Swap ∷ []) ≡ Ended None what.Name
+swap_wants = refl
+
+swap_wants_name : answer (x ∷ s sign.Swap ∷ n 1 ∷ []) ≡ Failed what.Name 1
+swap_wants_name = refl
+
+no_swap_with_element : answer (x ∷ s sign.Swap ∷ y ∷ s sign.OpenIndex ∷ []) ≡ Failed what.End 1
+no_swap_with_element = refl
+
+no_swap_of_element : answer (x ∷ s sign.OpenIndex ∷ n 1 ∷ s sign.CloseIndex ∷ s sign.Swap ∷ y ∷ []) ≡ Failed what.Operator 2
+no_swap_of_element = refl
+
+-- `x <= > y` is no swap; `<=>` is no operator
+apart : answer (x ∷ s sign.AtMost ∷ s sign.Greater ∷ y ∷ []) ≡ Failed what.Operator 3
+apart = refl
+
+no_swap_in_expression : answer (x ∷ s sign.PlusEquals ∷ y ∷ s sign.Swap ∷ x ∷ []) ≡ Failed what.End 2
+no_swap_in_expression = refl
 
 -- `int a[3] 1` wants the end at the number
 declared_wants : answer (w keyword.Int ∷ x ∷ s sign.OpenIndex ∷ n 3 ∷ s sign.CloseIndex ∷ n 1 ∷ []) ≡ Failed what.End 1

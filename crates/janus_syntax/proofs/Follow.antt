@@ -9,7 +9,7 @@ use Rattle.janus_syntax.specs.declared.token.Keyword.TheVariants as keyword
 use Rattle.janus_syntax.specs.declared.operator.Infix.{Infix}
 use Rattle.janus_syntax.specs.Tokens.{Token, Name, Sign_of, Keyword_of}
 use Rattle.janus_syntax.specs.Operators.{weakest, operator_at}
-use Rattle.janus_syntax.specs.Forms.{Part, A_cell, Declarations, Bound, Procedures, A_procedure, Parameters, More_parameters, A_parameter, Brackets, Body, Statements, Else_part, Do_part, Loop_part, Local, Names, More_names, Target_index, Whole, Level, Chain, Index, Tree, Seen, seen, keyword_number, sign_number, Form, done, take, part, close, Rule}
+use Rattle.janus_syntax.specs.Forms.{Part, A_cell, Declarations, Bound, Procedures, A_procedure, Parameters, More_parameters, A_parameter, Brackets, Body, Statements, Else_part, Do_part, Loop_part, Local, Names, More_names, Swap_partner, Target_index, Whole, Level, Chain, Index, Tree, Seen, seen, keyword_number, sign_number, Form, done, take, part, close, Rule}
 use Rattle.janus_syntax.specs.Table.{rule, left_out}
 
 -- Tests of tokens.
@@ -21,6 +21,10 @@ is_keyword w _ = false
 abbrev pub is_sign : Sign → Token → Bool
 is_sign s (Sign_of r _) = nat_eq (sign_number s) (sign_number r)
 is_sign s _ = false
+
+abbrev pub no_swap : Token → Bool
+no_swap (Sign_of sign.Swap _) = false
+no_swap _ = true
 
 abbrev pub no_index : Token → Bool
 no_index (Sign_of sign.OpenIndex _) = false
@@ -84,6 +88,7 @@ may_follow Loop_part t = is_keyword keyword.Until t
 may_follow Local t = after_statement t
 may_follow Names t = is_sign sign.Close t
 may_follow More_names t = is_sign sign.Close t
+may_follow Swap_partner t = no_swap t
 may_follow Target_index t = no_index t
 may_follow Whole t = ends_at weakest t
 may_follow (Level n) t = ends_at n t

@@ -88,6 +88,7 @@ sign_head : (s : Sign) (more : List ℕ) → class_of (head (sign_text s ++ more
 sign_head sign.PlusEquals more = refl
 sign_head sign.MinusEquals more = refl
 sign_head sign.XorEquals more = refl
+sign_head sign.Swap more = refl
 sign_head sign.And more = refl
 sign_head sign.Or more = refl
 sign_head sign.Differs more = refl
@@ -116,6 +117,7 @@ no_comment sign.Divide e f = cc
 no_comment sign.PlusEquals e f = cc
 no_comment sign.MinusEquals e f = cc
 no_comment sign.XorEquals e f = cc
+no_comment sign.Swap e f = cc
 no_comment sign.And e f = cc
 no_comment sign.Or e f = cc
 no_comment sign.Differs e f = cc
@@ -141,6 +143,7 @@ sign_last : (s : Sign) (rest : List ℕ) → nat_lt (get_or (sign_text s ++ rest
 sign_last sign.PlusEquals rest = refl
 sign_last sign.MinusEquals rest = refl
 sign_last sign.XorEquals rest = refl
+sign_last sign.Swap rest = refl
 sign_last sign.And rest = refl
 sign_last sign.Or rest = refl
 sign_last sign.Differs rest = refl
@@ -167,6 +170,7 @@ sign_some : (s : Sign) → nat_lt 0 (length (sign_text s)) ≡ true
 sign_some sign.PlusEquals = refl
 sign_some sign.MinusEquals = refl
 sign_some sign.XorEquals = refl
+sign_some sign.Swap = refl
 sign_some sign.And = refl
 sign_some sign.Or = refl
 sign_some sign.Differs = refl

@@ -1,14 +1,14 @@
 -- Each line of the grammar's table keeps to the table of what may follow: one line here for each line there.
-use Rattle.std.proofs.Common.{◌≡◌, true, inl, inr}
+use Rattle.std.proofs.Common.{◌≡◌, Option, Some, None, true, inl, inr}
 use Rattle.janus_syntax.specs.declared.token.Sign.TheVariants as sign
 use Rattle.janus_syntax.specs.declared.token.Keyword.TheVariants as keyword
 use Rattle.janus_syntax.specs.Tokens.{Token, Name, Number, Sign_of, Keyword_of}
 use Rattle.janus_syntax.specs.Tree.{Name as Named, Exp, Stm, Declaration, Parameter, Procedure}
 use Rattle.janus_syntax.specs.Forms.{Part, Form}
-use Rattle.janus_syntax.specs.Table.{operand, statement, declaration, a_parameter, behind_name}
-use Rattle.janus_syntax.proofs.Follow.{ends_at, after_statement, after_body, after_parameter, May, Proper, AllProper}
+use Rattle.janus_syntax.specs.Table.{operand, behind_target, statement, declaration, a_parameter, behind_name}
+use Rattle.janus_syntax.proofs.Follow.{no_swap, ends_at, after_statement, after_body, after_parameter, May, Proper, AllProper}
 use Rattle.janus_syntax.proofs.Keeps.{seen_keyword, seen_sign, ends_statement, ends_close}
-use Rattle.janus_syntax.proofs.KeepsTokens.{ends_keyword, fi_body, else_body, update_no_index, no_index_of, loop_follows, do_follows}
+use Rattle.janus_syntax.proofs.KeepsTokens.{ends_keyword, fi_body, else_body, update_no_index, update_no_swap, index_no_swap, statement_no_swap, no_index_of, loop_follows, do_follows}
 
 -- Operands and statements, in front of any form.
 
@@ -22,10 +22,18 @@ proper_operand (Sign_of sign.Open at) k h ends = λ e. ((λ z. h e), λ t m. end
 proper_operand (Sign_of sign.Minus at) k h ends = λ e. (h _, λ t m. ends _ t m)
 proper_operand (Sign_of _ at) k h ends = tt
 
+proper_target : {p : Part} (x : Named) (other : Option Named) (k : Stm → Form p) → ((s : Stm) → Proper (k s)) → ((s : Stm) (t' : Token) → May (k s) t' → after_statement t' ≡ true) → Proper (behind_target x other k)
+proper_target x (Some y) k h ends = h _
+proper_target x None k h ends = λ i. ((λ u e. (h _, λ t m. ends_statement t (ends _ t m))), λ t m. update_no_index t m.0 m.1)
+
+may_target : {p : Part} (x : Named) (other : Option Named) (k : Stm → Form p) → ((s : Stm) (t' : Token) → May (k s) t' → after_statement t' ≡ true) → (t : Token) → May (behind_target x other k) t → no_swap t ≡ true
+may_target x (Some y) k ends t m = statement_no_swap t (ends _ t m)
+may_target x None k ends t m = elim m [ inl (r, is) ↦ index_no_swap t r is | inr (u, is, m) ↦ update_no_swap t m.0 m.1 ]
+
 pub proper_statement : {p : Part} (t : Token) (k : Stm → Form p) → ((s : Stm) → Proper (k s)) → ((s : Stm) (t' : Token) → May (k s) t' → after_statement t' ≡ true) → AllProper (statement t k)
 proper_statement (Number v at) k h ends = tt
 proper_statement (Sign_of s at) k h ends = tt
-proper_statement (Name x at) k h ends = λ i. ((λ u e. (h _, λ t m. ends_statement t (ends _ t m))), λ t m. update_no_index t m.0 m.1)
+proper_statement (Name x at) k h ends = λ other. (proper_target _ other k h ends, λ t m. may_target _ other k ends t m)
 proper_statement (Keyword_of keyword.If at) k h ends = λ e. ((λ z s. ((λ b. ((λ z f. (h _, λ t m. ends_statement t (ends _ t m))), λ t m. seen_keyword keyword.Fi t m.0 m.1)), λ t m. elim m [ inl (r, is) ↦ else_body t r is | inr (u, is, m) ↦ fi_body t (seen_keyword keyword.Fi t m.0 m.1) ])), λ t m. ends_keyword keyword.Then t m)
 proper_statement (Keyword_of keyword.From at) k h ends =
     λ e. ((λ s. ((λ b. ((λ z f. (h _, λ t m. ends_statement t (ends _ t m))), λ t m. seen_keyword keyword.Until t m.0 m.1)), λ t m. loop_follows t m)), λ t m. do_follows t m)

@@ -8,7 +8,7 @@ use Rattle.janus_syntax.specs.declared.operator.Infix.{Infix}
 use Rattle.janus_syntax.specs.Tokens.{Token, Name, Number, Sign_of, Keyword_of}
 use Rattle.janus_syntax.specs.Tree.{named, Exp, Block, Cell, cell_of}
 use Rattle.janus_syntax.specs.Operators.{weakest, joined, operator_at}
-use Rattle.janus_syntax.specs.Forms.{Part, A_cell, Declarations, Bound, Procedures, A_procedure, Parameters, More_parameters, A_parameter, Brackets, Body, Statements, Else_part, Do_part, Loop_part, Local, Names, More_names, Target_index, Whole, Level, Chain, Index, Tree, done, part, Rule}
+use Rattle.janus_syntax.specs.Forms.{Part, A_cell, Declarations, Bound, Procedures, A_procedure, Parameters, More_parameters, A_parameter, Brackets, Body, Statements, Else_part, Do_part, Loop_part, Local, Names, More_names, Swap_partner, Target_index, Whole, Level, Chain, Index, Tree, done, part, Rule}
 use Rattle.janus_syntax.specs.Grammar.{text_form}
 use Rattle.janus_syntax.specs.Table.{rule, whole, operand, counts, chain_rule, with_procedure, with_main, is_bare}
 use Rattle.janus_syntax.proofs.Follow.{ends_at, after_body, after_declarations, may_follow, May, Proper, AllProper}
@@ -125,6 +125,11 @@ proper_rule More_names (Sign_of _ at) = tt
 proper_rule More_names (Name x at) = tt
 proper_rule More_names (Number n at) = tt
 proper_rule More_names (Keyword_of w at) = tt
+proper_rule Swap_partner (Sign_of sign.Swap at) = λ y. tt
+proper_rule Swap_partner (Sign_of _ at) = tt
+proper_rule Swap_partner (Name x at) = tt
+proper_rule Swap_partner (Number n at) = tt
+proper_rule Swap_partner (Keyword_of w at) = tt
 proper_rule Target_index (Sign_of sign.OpenIndex at) = λ e. ((λ z. tt), λ t m. ends_close_index t (seen_sign sign.CloseIndex t m.0 m.1))
 proper_rule Target_index (Sign_of _ at) = tt
 proper_rule Target_index (Name x at) = tt

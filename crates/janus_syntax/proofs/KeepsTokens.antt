@@ -9,9 +9,9 @@ use Rattle.janus_syntax.specs.declared.tree.Update.{Update}
 use Rattle.janus_syntax.specs.Tokens.{Token, Name, Number, Sign_of, Keyword_of}
 use Rattle.janus_syntax.specs.Tree.{Stm, Declaration, Cell}
 use Rattle.janus_syntax.specs.Operators.{weakest, operator_at, update_at}
-use Rattle.janus_syntax.specs.Forms.{Part, Procedures, More_parameters, Else_part, Do_part, Loop_part, Tree, The_keyword, seen, Form, Rule}
+use Rattle.janus_syntax.specs.Forms.{Part, Procedures, More_parameters, Else_part, Do_part, Loop_part, Target_index, Tree, The_keyword, seen, Form, Rule}
 use Rattle.janus_syntax.specs.Table.{rule, left_out, statement, declaration}
-use Rattle.janus_syntax.proofs.Follow.{is_keyword, is_sign, no_index, weaker_than, ends_at, after_statement, after_body, after_declarations, after_parameter, may_follow}
+use Rattle.janus_syntax.proofs.Follow.{is_keyword, is_sign, no_swap, no_index, weaker_than, ends_at, after_statement, after_body, after_declarations, after_parameter, may_follow}
 use Rattle.janus_syntax.proofs.Keeps.{seen_keyword, ends_statement, keyword_after}
 
 -- Tokens that follow.
@@ -146,6 +146,26 @@ update_no_index (Sign_of _ at) u e = refl
 update_no_index (Name x at) u e = refl
 update_no_index (Number n at) u e = refl
 update_no_index (Keyword_of w at) u e = refl
+
+pub update_no_swap : (t : Token) (u : Update) → update_at t ≡ Some u → no_swap t ≡ true
+update_no_swap (Sign_of sign.Swap at) u e = absurd cc
+update_no_swap (Sign_of _ at) u e = refl
+update_no_swap (Name x at) u e = refl
+update_no_swap (Number n at) u e = refl
+update_no_swap (Keyword_of w at) u e = refl
+
+pub index_no_swap : (t : Token) (r : Rule Target_index) → rule Target_index t ≡ Some r → no_swap t ≡ true
+index_no_swap (Sign_of sign.Swap at) r e = absurd cc
+index_no_swap (Sign_of _ at) r e = refl
+index_no_swap (Name x at) r e = refl
+index_no_swap (Number n at) r e = refl
+index_no_swap (Keyword_of w at) r e = refl
+
+pub statement_no_swap : (t : Token) → after_statement t ≡ true → no_swap t ≡ true
+statement_no_swap (Keyword_of w at) e = refl
+statement_no_swap (Name x at) e = refl
+statement_no_swap (Number n at) e = absurd cc
+statement_no_swap (Sign_of s at) e = absurd cc
 
 pub no_index_of : (n : ℕ) (t : Token) → ends_at n t ≡ true → no_index t ≡ true
 no_index_of n t e = (and_parts (no_index t) (weaker_than n (operator_at t)) e).0

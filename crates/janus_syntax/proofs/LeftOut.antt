@@ -8,9 +8,9 @@ use Rattle.janus_syntax.specs.declared.operator.Infix.{Infix}
 use Rattle.janus_syntax.specs.Tokens.{Token, Name, Number, Sign_of, Keyword_of}
 use Rattle.janus_syntax.specs.Tree.{Exp, Stm, Declaration, Parameter}
 use Rattle.janus_syntax.specs.Operators.{joined, operator_at}
-use Rattle.janus_syntax.specs.Forms.{Part, A_cell, Declarations, Bound, Procedures, A_procedure, Parameters, More_parameters, A_parameter, Brackets, Body, Statements, Else_part, Do_part, Loop_part, Local, Names, More_names, Target_index, Whole, Level, Chain, Index, Tree, Form, done, part}
+use Rattle.janus_syntax.specs.Forms.{Part, A_cell, Declarations, Bound, Procedures, A_procedure, Parameters, More_parameters, A_parameter, Brackets, Body, Statements, Else_part, Do_part, Loop_part, Local, Names, More_names, Swap_partner, Target_index, Whole, Level, Chain, Index, Tree, Form, done, part}
 use Rattle.janus_syntax.specs.Table.{rule, left_out, counts, chain_rule, statement, declaration, a_parameter}
-use Rattle.janus_syntax.proofs.Follow.{is_keyword, is_sign, no_index, weaker_than, after_statement, after_body, after_declarations, after_parameter, may_follow}
+use Rattle.janus_syntax.proofs.Follow.{is_keyword, is_sign, no_swap, no_index, weaker_than, after_statement, after_body, after_declarations, after_parameter, may_follow}
 
 no_statement : {p : Part} → (t : Token) (k : Stm → Form p) → after_body t ≡ true → statement t k ≡ None
 no_statement (Keyword_of keyword.If at) k e = absurd cc
@@ -100,6 +100,13 @@ no_more_names (Number n at) e = refl
 no_more_names (Sign_of sign.Comma at) e = absurd cc
 no_more_names (Sign_of _ at) e = refl
 
+pub no_partner : (t : Token) → no_swap t ≡ true → rule Swap_partner t ≡ None
+no_partner (Sign_of sign.Swap at) e = absurd cc
+no_partner (Sign_of _ at) e = refl
+no_partner (Keyword_of w at) e = refl
+no_partner (Name x at) e = refl
+no_partner (Number n at) e = refl
+
 pub no_target : (t : Token) → no_index t ≡ true → rule Target_index t ≡ None
 no_target (Sign_of sign.OpenIndex at) e = absurd cc
 no_target (Sign_of _ at) e = refl
@@ -146,6 +153,7 @@ no_rule Loop_part t u e h = no_loop t h
 no_rule Local t u e h = absurd cc
 no_rule Names t u e h = no_names t h
 no_rule More_names t u e h = no_more_names t h
+no_rule Swap_partner t u e h = no_partner t h
 no_rule Target_index t u e h = no_target t h
 no_rule Whole t u e h = absurd cc
 no_rule (Level n) t u e h = absurd cc

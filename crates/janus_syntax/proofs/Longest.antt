@@ -38,40 +38,41 @@ one_space rest = space_longest 32 rest refl
 
 -- ---- signs
 
--- the octets that two-octet signs end with, and the slash, with which a comment begins
+-- the octets with which longer signs go on, and the slash, with which a comment does
 abbrev pub extends : ℕ → Bool
-extends c = c == 47 || c == 61 || c == 38 || c == 124
+extends c = c == 47 || c == 61 || c == 62 || c == 38 || c == 124
 
--- the octets that two-octet signs and comments begin with
+-- the octets that longer signs and comments begin with
 abbrev pub extended : ℕ → Bool
 extended c = c == 47 || c == 43 || c == 45 || c == 94 || c == 38 || c == 124 || c == 33 || c == 60 || c == 62
 
--- a sign of two octets
-record IsTwo (a b : ℕ) (cs : List ℕ) : Type 0 where
+-- a sign of two octets or three
+record IsLonger (a b : ℕ) (cs : List ℕ) : Type 0 where
   ends : extends b ≡ true
   begins : extended a ≡ true
   minus : (a == 45) ≡ true → (b == 61) ≡ true
-  last : cs ≡ []
+  last : (cs ≡ []) ⊎ (cs ≡ 62 ∷ [])
 
-two_octets : (t : Sign) (a b : ℕ) (cs : List ℕ) → a ∷ b ∷ cs ≡ sign_text t → IsTwo a b cs
-two_octets sign.PlusEquals a b cs e = record { ends = ap (λ l. extends (second l)) e; begins = ap (λ l. extended (head l)) e; minus = λ m. ap (λ l. second l == 61) e; last = cc }
-two_octets sign.MinusEquals a b cs e = record { ends = ap (λ l. extends (second l)) e; begins = ap (λ l. extended (head l)) e; minus = λ m. ap (λ l. second l == 61) e; last = cc }
-two_octets sign.XorEquals a b cs e = record { ends = ap (λ l. extends (second l)) e; begins = ap (λ l. extended (head l)) e; minus = λ m. ap (λ l. second l == 61) e; last = cc }
-two_octets sign.And a b cs e = record { ends = ap (λ l. extends (second l)) e; begins = ap (λ l. extended (head l)) e; minus = λ m. let n = ap (λ l. head l == 45) e in absurd cc; last = cc }
-two_octets sign.Or a b cs e = record { ends = ap (λ l. extends (second l)) e; begins = ap (λ l. extended (head l)) e; minus = λ m. let n = ap (λ l. head l == 45) e in absurd cc; last = cc }
-two_octets sign.Differs a b cs e = record { ends = ap (λ l. extends (second l)) e; begins = ap (λ l. extended (head l)) e; minus = λ m. ap (λ l. second l == 61) e; last = cc }
-two_octets sign.AtMost a b cs e = record { ends = ap (λ l. extends (second l)) e; begins = ap (λ l. extended (head l)) e; minus = λ m. ap (λ l. second l == 61) e; last = cc }
-two_octets sign.AtLeast a b cs e = record { ends = ap (λ l. extends (second l)) e; begins = ap (λ l. extended (head l)) e; minus = λ m. ap (λ l. second l == 61) e; last = cc }
-two_octets _ a b cs e = absurd cc
+longer_sign : (t : Sign) (a b : ℕ) (cs : List ℕ) → a ∷ b ∷ cs ≡ sign_text t → IsLonger a b cs
+longer_sign sign.PlusEquals a b cs e = record { ends = ap (λ l. extends (second l)) e; begins = ap (λ l. extended (head l)) e; minus = λ m. ap (λ l. second l == 61) e; last = inl cc }
+longer_sign sign.MinusEquals a b cs e = record { ends = ap (λ l. extends (second l)) e; begins = ap (λ l. extended (head l)) e; minus = λ m. ap (λ l. second l == 61) e; last = inl cc }
+longer_sign sign.XorEquals a b cs e = record { ends = ap (λ l. extends (second l)) e; begins = ap (λ l. extended (head l)) e; minus = λ m. ap (λ l. second l == 61) e; last = inl cc }
+longer_sign sign.Swap a b cs e = record { ends = ap (λ l. extends (second l)) e; begins = ap (λ l. extended (head l)) e; minus = λ m. ap (λ l. second l == 61) e; last = inr cc }
+longer_sign sign.And a b cs e = record { ends = ap (λ l. extends (second l)) e; begins = ap (λ l. extended (head l)) e; minus = λ m. let n = ap (λ l. head l == 45) e in absurd cc; last = inl cc }
+longer_sign sign.Or a b cs e = record { ends = ap (λ l. extends (second l)) e; begins = ap (λ l. extended (head l)) e; minus = λ m. let n = ap (λ l. head l == 45) e in absurd cc; last = inl cc }
+longer_sign sign.Differs a b cs e = record { ends = ap (λ l. extends (second l)) e; begins = ap (λ l. extended (head l)) e; minus = λ m. ap (λ l. second l == 61) e; last = inl cc }
+longer_sign sign.AtMost a b cs e = record { ends = ap (λ l. extends (second l)) e; begins = ap (λ l. extended (head l)) e; minus = λ m. ap (λ l. second l == 61) e; last = inl cc }
+longer_sign sign.AtLeast a b cs e = record { ends = ap (λ l. extends (second l)) e; begins = ap (λ l. extended (head l)) e; minus = λ m. ap (λ l. second l == 61) e; last = inl cc }
+longer_sign _ a b cs e = absurd cc
 
--- an item of two octets or more that begins as a sign is a sign of two, or a comment
-sign_goes_on : (i : Item) (a b : ℕ) (cs : List ℕ) → class_of a ≡ class.Other → IsSpelled i (a ∷ b ∷ cs) → IsTwo a b cs ⊎ ((a == 47) ≡ true) × ((b == 47) ≡ true)
+-- an item of two octets or more that begins as a sign is such a sign, or a comment
+sign_goes_on : (i : Item) (a b : ℕ) (cs : List ℕ) → class_of a ≡ class.Other → IsSpelled i (a ∷ b ∷ cs) → IsLonger a b cs ⊎ ((a == 47) ≡ true) × ((b == 47) ≡ true)
 sign_goes_on Gap a b cs k (inl (d, e, q)) = absurd cc
 sign_goes_on Gap a b cs k (inr (ds, e, q)) = inr (ap (λ l. head l == 47) e, ap (λ l. second l == 47) e)
 sign_goes_on (A_name x) a b cs k s = let h = head_is (A_name x) a (b ∷ cs) s in absurd cc
 sign_goes_on (A_number n) a b cs k s = let h = head_is (A_number n) a (b ∷ cs) s in absurd cc
 sign_goes_on (A_keyword w) a b cs k s = let h = head_is (A_keyword w) a (b ∷ cs) s in absurd cc
-sign_goes_on (A_sign t) a b cs k e = inl (two_octets t a b cs e)
+sign_goes_on (A_sign t) a b cs k e = inl (longer_sign t a b cs e)
 
 slash_extends : (c : ℕ) → (c == 47) ≡ true → extends c ≡ true
 slash_extends c e = rw e refl
@@ -89,23 +90,33 @@ one_octet a rest k stops i (c ∷ cs) others e s =
       | inr slashes ↦ let yes = slash_extends c slashes.1 in absurd cc
     ]
 
-two_octet : (a b : ℕ) (rest : List ℕ) → class_of a ≡ class.Other → (b == 47) ≡ false → NoLonger (a ∷ b ∷ []) rest
-two_octet a b rest k apart i [] others e s = refl
-two_octet a b rest k apart i (c ∷ cs) others e s =
+two_octet : (a b : ℕ) (rest : List ℕ) → class_of a ≡ class.Other → (b == 47) ≡ false → StopsSign rest → NoLonger (a ∷ b ∷ []) rest
+two_octet a b rest k apart stops i [] others e s = refl
+two_octet a b rest k apart stops i (c ∷ cs) others e s =
+    let stop : extends c ≡ false = subst (λ l. StopsSign l) e stops in
     elim (sign_goes_on i a b (c ∷ cs) k s) [
-      | inl two ↦ let none = two.last in absurd cc
+      | inl two ↦ elim (two.last) [ inl none ↦ absurd cc | inr third ↦ let yes : extends c ≡ true = ap (λ l. extends (head l)) third in absurd cc ]
       | inr slashes ↦ let yes = slashes.1 in absurd cc
     ]
 
+swap_longest : (rest : List ℕ) → NoLonger (sign_text sign.Swap) rest
+swap_longest rest i [] others e s = refl
+swap_longest rest i (c ∷ cs) others e s =
+    elim (sign_goes_on i 60 61 (62 ∷ c ∷ cs) refl s) [
+      | inl longer ↦ elim (longer.last) [ inl none ↦ absurd cc | inr third ↦ absurd cc ]
+      | inr slashes ↦ let no = slashes.0 in absurd cc
+    ]
+
 pub sign_longest : (t : Sign) (rest : List ℕ) → StopsSign rest → NoLonger (sign_text t) rest
-sign_longest sign.PlusEquals rest stops = two_octet 43 61 rest refl refl
-sign_longest sign.MinusEquals rest stops = two_octet 45 61 rest refl refl
-sign_longest sign.XorEquals rest stops = two_octet 94 61 rest refl refl
-sign_longest sign.And rest stops = two_octet 38 38 rest refl refl
-sign_longest sign.Or rest stops = two_octet 124 124 rest refl refl
-sign_longest sign.Differs rest stops = two_octet 33 61 rest refl refl
-sign_longest sign.AtMost rest stops = two_octet 60 61 rest refl refl
-sign_longest sign.AtLeast rest stops = two_octet 62 61 rest refl refl
+sign_longest sign.PlusEquals rest stops = two_octet 43 61 rest refl refl stops
+sign_longest sign.MinusEquals rest stops = two_octet 45 61 rest refl refl stops
+sign_longest sign.XorEquals rest stops = two_octet 94 61 rest refl refl stops
+sign_longest sign.Swap rest stops = swap_longest rest
+sign_longest sign.And rest stops = two_octet 38 38 rest refl refl stops
+sign_longest sign.Or rest stops = two_octet 124 124 rest refl refl stops
+sign_longest sign.Differs rest stops = two_octet 33 61 rest refl refl stops
+sign_longest sign.AtMost rest stops = two_octet 60 61 rest refl refl stops
+sign_longest sign.AtLeast rest stops = two_octet 62 61 rest refl refl stops
 sign_longest sign.Plus rest stops = one_octet 43 rest refl stops
 sign_longest sign.Minus rest stops = one_octet 45 rest refl stops
 sign_longest sign.Times rest stops = one_octet 42 rest refl stops

@@ -71,6 +71,7 @@ sign_from l =
     cond (bytes_eq l (sign_text sign.PlusEquals)) sign.PlusEquals (
     cond (bytes_eq l (sign_text sign.MinusEquals)) sign.MinusEquals (
     cond (bytes_eq l (sign_text sign.XorEquals)) sign.XorEquals (
+    cond (bytes_eq l (sign_text sign.Swap)) sign.Swap (
     cond (bytes_eq l (sign_text sign.Plus)) sign.Plus (
     cond (bytes_eq l (sign_text sign.Minus)) sign.Minus (
     cond (bytes_eq l (sign_text sign.Times)) sign.Times (
@@ -91,12 +92,13 @@ sign_from l =
     cond (bytes_eq l (sign_text sign.Close)) sign.Close (
     cond (bytes_eq l (sign_text sign.OpenIndex)) sign.OpenIndex (
     cond (bytes_eq l (sign_text sign.CloseIndex)) sign.CloseIndex (
-    sign.Comma)))))))))))))))))))))))
+    sign.Comma))))))))))))))))))))))))
 
 sign_decodes : (s : Sign) → sign_from (sign_text s) ≡ s
 sign_decodes sign.PlusEquals = refl
 sign_decodes sign.MinusEquals = refl
 sign_decodes sign.XorEquals = refl
+sign_decodes sign.Swap = refl
 sign_decodes sign.Plus = refl
 sign_decodes sign.Minus = refl
 sign_decodes sign.Times = refl

@@ -1,11 +1,11 @@
 -- Keywords, signs and numbers as the lexer finds them.
-use Rattle.std.proofs.Common.{◌≡◌, ℕ, ◌+◌, ◌*◌, ◌-◌, ◌<◌, ◌≤◌, ◌⊎◌, inl, inr, List, [], ◌∷◌, ◌++◌, length, get_or, drop, drop-cons, suc, Bool, true, refl, ap, sym, ◌∙◌, arith}
+use Rattle.std.proofs.Common.{◌≡◌, ℕ, ◌+◌, ◌*◌, ◌-◌, ◌<◌, ◌≤◌, ◌⊎◌, inl, inr, List, [], ◌∷◌, ◌++◌, length, get_or, drop, drop-cons, suc, Bool, true, cond, refl, ap, sym, ◌∙◌, arith}
 use Rattle.std.specs.Prelude.{nat_lt, nat_eq}
 use Rattle.std.proofs.lemmas.Bool.{ltb-true, eqb-true, agree_below_at}
 use Rattle.std.proofs.str.Laws.{order}
 use Rattle.std.specs.List.{starts_with, Contains}
 use Rattle.std.proofs.lemmas.Slice.Eq.{starts_is}
-use Rattle.std.proofs.lemmas.Bool.Decides.{Decides-eqb}
+use Rattle.std.proofs.lemmas.Bool.Decides.{Decides-eqb, nat_tests}
 use Rattle.std.proofs.lemmas.List.{get_or_default}
 use Rattle.janus_syntax.specs.declared.token.Sign.{Sign}
 use Rattle.janus_syntax.specs.declared.token.Sign.TheVariants as sign
@@ -104,35 +104,37 @@ is_no_keyword text n h none w e =
     none (keyword_index w) w (omega (arith, b, h)) (e ∙ ap keyword_text (sym (keyword_listed w)))
 
 abbrev pub signs : List Sign
-signs = sign.PlusEquals ∷ sign.MinusEquals ∷ sign.XorEquals ∷ sign.And ∷ sign.Or ∷ sign.Differs ∷ sign.AtMost ∷ sign.AtLeast ∷ sign.Plus ∷ sign.Minus ∷ sign.Times ∷ sign.Divide ∷ sign.Remainder ∷ sign.Xor ∷ sign.BitAnd ∷ sign.BitOr ∷ sign.Equals ∷ sign.Less ∷ sign.Greater ∷ sign.Open ∷ sign.Close ∷ sign.OpenIndex ∷ sign.CloseIndex ∷ sign.Comma ∷ []
+signs = sign.Swap ∷ sign.PlusEquals ∷ sign.MinusEquals ∷ sign.XorEquals ∷ sign.And ∷ sign.Or ∷ sign.Differs ∷ sign.AtMost ∷ sign.AtLeast ∷ sign.Plus ∷ sign.Minus ∷ sign.Times ∷ sign.Divide ∷ sign.Remainder ∷ sign.Xor ∷ sign.BitAnd ∷ sign.BitOr ∷ sign.Equals ∷ sign.Less ∷ sign.Greater ∷ sign.Open ∷ sign.Close ∷ sign.OpenIndex ∷ sign.CloseIndex ∷ sign.Comma ∷ []
 
 abbrev sign_index : Sign → ℕ
-sign_index sign.PlusEquals = 0
-sign_index sign.MinusEquals = 1
-sign_index sign.XorEquals = 2
-sign_index sign.And = 3
-sign_index sign.Or = 4
-sign_index sign.Differs = 5
-sign_index sign.AtMost = 6
-sign_index sign.AtLeast = 7
-sign_index sign.Plus = 8
-sign_index sign.Minus = 9
-sign_index sign.Times = 10
-sign_index sign.Divide = 11
-sign_index sign.Remainder = 12
-sign_index sign.Xor = 13
-sign_index sign.BitAnd = 14
-sign_index sign.BitOr = 15
-sign_index sign.Equals = 16
-sign_index sign.Less = 17
-sign_index sign.Greater = 18
-sign_index sign.Open = 19
-sign_index sign.Close = 20
-sign_index sign.OpenIndex = 21
-sign_index sign.CloseIndex = 22
-sign_index sign.Comma = 23
+sign_index sign.Swap = 0
+sign_index sign.PlusEquals = 1
+sign_index sign.MinusEquals = 2
+sign_index sign.XorEquals = 3
+sign_index sign.And = 4
+sign_index sign.Or = 5
+sign_index sign.Differs = 6
+sign_index sign.AtMost = 7
+sign_index sign.AtLeast = 8
+sign_index sign.Plus = 9
+sign_index sign.Minus = 10
+sign_index sign.Times = 11
+sign_index sign.Divide = 12
+sign_index sign.Remainder = 13
+sign_index sign.Xor = 14
+sign_index sign.BitAnd = 15
+sign_index sign.BitOr = 16
+sign_index sign.Equals = 17
+sign_index sign.Less = 18
+sign_index sign.Greater = 19
+sign_index sign.Open = 20
+sign_index sign.Close = 21
+sign_index sign.OpenIndex = 22
+sign_index sign.CloseIndex = 23
+sign_index sign.Comma = 24
 
 sign_listed : (s : Sign) → get_or signs (sign_index s) s ≡ s
+sign_listed sign.Swap = refl
 sign_listed sign.PlusEquals = refl
 sign_listed sign.MinusEquals = refl
 sign_listed sign.XorEquals = refl
@@ -158,7 +160,8 @@ sign_listed sign.OpenIndex = refl
 sign_listed sign.CloseIndex = refl
 sign_listed sign.Comma = refl
 
-sign_in_range : (s : Sign) → nat_lt (sign_index s) 24 ≡ true
+sign_in_range : (s : Sign) → nat_lt (sign_index s) 25 ≡ true
+sign_in_range sign.Swap = refl
 sign_in_range sign.PlusEquals = refl
 sign_in_range sign.MinusEquals = refl
 sign_in_range sign.XorEquals = refl
@@ -184,88 +187,63 @@ sign_in_range sign.OpenIndex = refl
 sign_in_range sign.CloseIndex = refl
 sign_in_range sign.Comma = refl
 
--- the signs of two octets come first
-two_first : (s : Sign) → (nat_lt (sign_index s) 8 ≡ true) ⊎ (length (sign_text s) ≡ 1)
-two_first sign.PlusEquals = inl refl
-two_first sign.MinusEquals = inl refl
-two_first sign.XorEquals = inl refl
-two_first sign.And = inl refl
-two_first sign.Or = inl refl
-two_first sign.Differs = inl refl
-two_first sign.AtMost = inl refl
-two_first sign.AtLeast = inl refl
-two_first sign.Plus = inr refl
-two_first sign.Minus = inr refl
-two_first sign.Times = inr refl
-two_first sign.Divide = inr refl
-two_first sign.Remainder = inr refl
-two_first sign.Xor = inr refl
-two_first sign.BitAnd = inr refl
-two_first sign.BitOr = inr refl
-two_first sign.Equals = inr refl
-two_first sign.Less = inr refl
-two_first sign.Greater = inr refl
-two_first sign.Open = inr refl
-two_first sign.Close = inr refl
-two_first sign.OpenIndex = inr refl
-two_first sign.CloseIndex = inr refl
-two_first sign.Comma = inr refl
+-- how many octets the listed signs have: three, then two, then one
+abbrev length_at : ℕ → ℕ
+length_at n = cond (nat_lt n 1) 3 (cond (nat_lt n 9) 2 1)
 
-pub sign_length : (s : Sign) → (length (sign_text s) ≡ 1) ⊎ (length (sign_text s) ≡ 2)
-sign_length sign.PlusEquals = inr refl
-sign_length sign.MinusEquals = inr refl
-sign_length sign.XorEquals = inr refl
-sign_length sign.And = inr refl
-sign_length sign.Or = inr refl
-sign_length sign.Differs = inr refl
-sign_length sign.AtMost = inr refl
-sign_length sign.AtLeast = inr refl
-sign_length sign.Plus = inl refl
-sign_length sign.Minus = inl refl
-sign_length sign.Times = inl refl
-sign_length sign.Divide = inl refl
-sign_length sign.Remainder = inl refl
-sign_length sign.Xor = inl refl
-sign_length sign.BitAnd = inl refl
-sign_length sign.BitOr = inl refl
-sign_length sign.Equals = inl refl
-sign_length sign.Less = inl refl
-sign_length sign.Greater = inl refl
-sign_length sign.Open = inl refl
-sign_length sign.Close = inl refl
-sign_length sign.OpenIndex = inl refl
-sign_length sign.CloseIndex = inl refl
-sign_length sign.Comma = inl refl
+sign_length : (s : Sign) → length (sign_text s) ≡ length_at (sign_index s)
+sign_length sign.Swap = refl
+sign_length sign.PlusEquals = refl
+sign_length sign.MinusEquals = refl
+sign_length sign.XorEquals = refl
+sign_length sign.And = refl
+sign_length sign.Or = refl
+sign_length sign.Differs = refl
+sign_length sign.AtMost = refl
+sign_length sign.AtLeast = refl
+sign_length sign.Plus = refl
+sign_length sign.Minus = refl
+sign_length sign.Times = refl
+sign_length sign.Divide = refl
+sign_length sign.Remainder = refl
+sign_length sign.Xor = refl
+sign_length sign.BitAnd = refl
+sign_length sign.BitOr = refl
+sign_length sign.Equals = refl
+sign_length sign.Less = refl
+sign_length sign.Greater = refl
+sign_length sign.Open = refl
+sign_length sign.Close = refl
+sign_length sign.OpenIndex = refl
+sign_length sign.CloseIndex = refl
+sign_length sign.Comma = refl
 
-sign_nonempty : (s : Sign) → 1 ≤ length (sign_text s)
-sign_nonempty s = elim (sign_length s) [ inl e ↦ omega (arith, e) | inr e ↦ omega (arith, e) ]
+-- no listed sign is longer than one before it
+shorter_behind : (j k : ℕ) → j ≤ k → length_at k ≤ length_at j
+shorter_behind j k h = grind (arith, nat_tests)
 
--- each sign among the first eight has two octets
-long_before : (k : ℕ) (d : Sign) → k < 8 → length (sign_text (get_or signs k d)) ≡ 2
-long_before k d h =
+listed_length : (k : ℕ) (d : Sign) → k < 25 → length (sign_text (get_or signs k d)) ≡ length_at k
+listed_length k d h =
     let same : get_or signs k d ≡ get_or signs k sign.Plus = get_or_default signs k d sign.Plus (omega (arith, h)) in
     ap (λ s. length (sign_text s)) same
-    ∙ eqb-true (length (sign_text (get_or signs k sign.Plus))) 2 (agree_below_at (λ i. nat_eq (length (sign_text (get_or signs i sign.Plus))) 2) (λ i. true) 8 k refl h)
+    ∙ eqb-true (length (sign_text (get_or signs k sign.Plus))) (length_at k) (agree_below_at (λ i. nat_eq (length (sign_text (get_or signs i sign.Plus))) (length_at i)) (λ i. true) 25 k refl h)
 
 -- the first sign in the list with which the text begins is the longest
 pub first_is_longest : (text : List ℕ) (n k : ℕ) (d : Sign) → n ≡ k → ((j : ℕ) (s : Sign) (rest : List ℕ) → j < k → text ≡ sign_text (get_or signs j s) ++ rest → ⊥) →
     (t : Sign) (rest : List ℕ) → text ≡ sign_text t ++ rest → length (sign_text t) ≤ length (sign_text (get_or signs n d))
 first_is_longest text n k d same none t rest e =
-    let here = sign_nonempty (get_or signs n d) in
-    elim (two_first t) [
-      | inr short ↦ omega (arith, here, short)
-      | inl long ↦
-          let i = ltb-true (sign_index t) 8 long in
-          elim (order (sign_index t) k) [
-            | inl before ↦ absurd (none (sign_index t) t rest before (e ∙ ap (λ s. sign_text s ++ rest) (sym (sign_listed t))))
-            | inr behind ↦ elim (sign_length t) [ inl a ↦ omega (arith, here, a) | inr a ↦ omega (arith, a, long_before n d (omega (arith, behind, i, same))) ]
-          ]
+    let i = ltb-true (sign_index t) 25 (sign_in_range t) in
+    elim (order (sign_index t) k) [
+      | inl before ↦ absurd (none (sign_index t) t rest before (e ∙ ap (λ s. sign_text s ++ rest) (sym (sign_listed t))))
+      | inr behind ↦
+          let here = listed_length n d (omega (arith, behind, i, same)) in
+          omega (arith, here, sign_length t, shorter_behind n (sign_index t) (omega (arith, behind, same)))
     ]
 
 -- a text that begins with none of the listed signs begins with no sign
-pub no_sign : (text : List ℕ) (n : ℕ) → 24 ≤ n → ((j : ℕ) (s : Sign) (rest : List ℕ) → j < n → text ≡ sign_text (get_or signs j s) ++ rest → ⊥) → (s : Sign) (rest : List ℕ) → text ≡ sign_text s ++ rest → ⊥
+pub no_sign : (text : List ℕ) (n : ℕ) → 25 ≤ n → ((j : ℕ) (s : Sign) (rest : List ℕ) → j < n → text ≡ sign_text (get_or signs j s) ++ rest → ⊥) → (s : Sign) (rest : List ℕ) → text ≡ sign_text s ++ rest → ⊥
 no_sign text n h none s rest e =
-    let b = ltb-true (sign_index s) 24 (sign_in_range s) in
+    let b = ltb-true (sign_index s) 25 (sign_in_range s) in
     none (sign_index s) s rest (omega (arith, b, h)) (e ∙ ap (λ t. sign_text t ++ rest) (sym (sign_listed s)))
 
 -- the digits that are left only make a number larger

@@ -18,7 +18,7 @@ use Rattle.janus_syntax.specs.Grammar.{all, Refusal, Expected, TooNested, Deloca
 use Rattle.janus_syntax.specs.Reader.{at, follow, run, next, taken}
 use Rattle.janus_syntax.specs.Reading.{FailsAs, TokenGoes, TokenFails, BeginsWith, BeginsWithSign}
 use Rattle.janus_syntax.proofs.Agrees.{run_goes, steps_token}
-use Rattle.janus_syntax.proofs.Follow.{no_index}
+use Rattle.janus_syntax.proofs.Follow.{no_swap, no_index}
 use Rattle.janus_syntax.proofs.Keeps.{cond_some}
 
 -- The premise on the lengths is std's, in the fact that 'split_first' gives.
@@ -47,7 +47,7 @@ end_fails c g p k S m = refl
 
 abbrev signs : List Sign
 signs =
-    sign.PlusEquals ∷ sign.MinusEquals ∷ sign.XorEquals ∷ sign.Plus ∷ sign.Minus ∷ sign.Times ∷ sign.Divide ∷ sign.Remainder ∷ sign.Xor ∷ sign.BitAnd ∷ sign.And ∷ sign.BitOr ∷ sign.Or ∷ sign.Equals ∷ sign.Differs ∷ sign.Less ∷ sign.Greater ∷ sign.AtMost ∷ sign.AtLeast ∷ sign.Open ∷ sign.Close ∷ sign.OpenIndex ∷ sign.CloseIndex ∷ sign.Comma ∷ []
+    sign.PlusEquals ∷ sign.MinusEquals ∷ sign.XorEquals ∷ sign.Plus ∷ sign.Minus ∷ sign.Times ∷ sign.Divide ∷ sign.Remainder ∷ sign.Xor ∷ sign.BitAnd ∷ sign.And ∷ sign.BitOr ∷ sign.Or ∷ sign.Equals ∷ sign.Differs ∷ sign.Less ∷ sign.Greater ∷ sign.AtMost ∷ sign.AtLeast ∷ sign.Open ∷ sign.Close ∷ sign.OpenIndex ∷ sign.CloseIndex ∷ sign.Comma ∷ sign.Swap ∷ []
 
 abbrev keywords : List Keyword
 keywords =
@@ -109,6 +109,15 @@ pub keyword_fails : (w : Keyword) (from : List Token) (left : ℕ) → left ≡ 
 keyword_fails w [] left e h = subst (λ n. TokenFails (The_keyword w) [] (Expected (what.Keyword w) n)) (sym e) (end_fails (The_keyword w))
 keyword_fails w (t ∷ rest) left e h =
     subst (λ n. TokenFails (The_keyword w) (t ∷ rest) (Expected (what.Keyword w) n)) (let k : suc (length rest) ≡ left = sym e in k) (token_fails (The_keyword w) t rest (other_keyword w t rest h))
+
+-- no `<=>` at the front
+pub no_swapping : (from : List Token) → ((behind : List Token) → BeginsWithSign sign.Swap from behind → ⊥) → (t : Token) → next from ≡ Some t → no_swap t ≡ true
+no_swapping [] h t e = absurd cc
+no_swapping (Sign_of sign.Swap place ∷ rest) h t e = absurd (h rest (record { at = place; is = refl }))
+no_swapping (Sign_of r place ∷ rest) h t e = let same : Sign_of r place ≡ t = cc in subst (λ x. no_swap x ≡ true) same refl
+no_swapping (Name x place ∷ rest) h t e = let same : Name x place ≡ t = cc in subst (λ x. no_swap x ≡ true) same refl
+no_swapping (Number n place ∷ rest) h t e = let same : Number n place ≡ t = cc in subst (λ x. no_swap x ≡ true) same refl
+no_swapping (Keyword_of w place ∷ rest) h t e = let same : Keyword_of w place ≡ t = cc in subst (λ x. no_swap x ≡ true) same refl
 
 -- no `[` at the front
 pub no_opening : (from : List Token) → ((behind : List Token) → BeginsWithSign sign.OpenIndex from behind → ⊥) → (t : Token) → next from ≡ Some t → no_index t ≡ true

@@ -35,6 +35,7 @@ pub data Part : Type 0 where
   Local : Part  -- behind `local`
   Names : Part  -- names parted by commas, or none
   More_names : Part  -- behind a name: a comma and a name, or several
+  Swap_partner : Part  -- behind the name that a statement begins with: `<=>` and a name, or nothing
   Target_index : Part  -- behind the name that an assignment begins with
   Whole : Part  -- a whole expression
   Level : ℕ → Part  -- an expression with no operator of a weaker level outside parentheses; 0: an operand
@@ -60,6 +61,7 @@ Tree Loop_part = Block
 Tree Local = Stm
 Tree Names = List Named
 Tree More_names = List Named
+Tree Swap_partner = Option Named
 Tree Target_index = Option Exp
 Tree Whole = Exp
 Tree (Level n) = Exp
@@ -135,6 +137,7 @@ sign_number sign.Close = 20
 sign_number sign.OpenIndex = 21
 sign_number sign.CloseIndex = 22
 sign_number sign.Comma = 23
+sign_number sign.Swap = 24
 
 -- the same name, wherever it stands
 abbrev pub same_named : Named → Named → Bool

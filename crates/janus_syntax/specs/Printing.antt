@@ -11,9 +11,9 @@ use Rattle.janus_syntax.specs.declared.token.Keyword.TheVariants as keyword
 use Rattle.janus_syntax.specs.declared.tree.Update.{Update}
 use Rattle.janus_syntax.specs.declared.tree.Update.TheVariants as update
 use Rattle.janus_syntax.specs.Spelling.{sign_text, keyword_text}
-use Rattle.janus_syntax.specs.Tree.{Name, named, Exp, Num, Var, Element, EmptyOf, TopOf, Neg, Bin, And, Or, Stm, Skip, Assign, AssignElement, Push, Pop, If}
-use Rattle.janus_syntax.specs.Tree.{Loop, LocalInt, LocalStack, Call, Uncall, Block, Empty, More, Declaration, Int, Array, StackOf, Parameter, IntParameter}
-use Rattle.janus_syntax.specs.Tree.{ArrayParameter, StackParameter, Procedure, procedure_of, Cell, cell_of}
+use Rattle.janus_syntax.specs.Tree.{Name, named, Exp, Num, Var, Element, EmptyOf, TopOf, Neg, Bin, And, Or, Stm, Skip, Assign, AssignElement, Push, Pop, Swap}
+use Rattle.janus_syntax.specs.Tree.{If, Loop, LocalInt, LocalStack, Call, Uncall, Block, Empty, More, Declaration, Int, Array, StackOf, Parameter}
+use Rattle.janus_syntax.specs.Tree.{IntParameter, ArrayParameter, StackParameter, Procedure, procedure_of, Cell, cell_of}
 use Rattle.janus_syntax.specs.Operators.{sign_infix, weakest}
 
 -- a token as it is printed, with no place
@@ -155,6 +155,7 @@ abbrev mutual
       ∷ (whole_pieces i ++ A_sign sign.CloseIndex ∷ A_sign (update_sign u) ∷ whole_pieces e)
   stm_pieces (Push (named x place) (named y at)) = transfer_pieces keyword.Push x y
   stm_pieces (Pop (named x place) (named y at)) = transfer_pieces keyword.Pop x y
+  stm_pieces (Swap (named x place) (named y at)) = A_name x ∷ A_sign sign.Swap ∷ A_name y ∷ []
   stm_pieces (If e s t f) = A_keyword keyword.If
       ∷ (whole_pieces e ++ A_keyword keyword.Then ∷ (block_pieces s ++ A_keyword keyword.Else ∷ (block_pieces t ++ A_keyword keyword.Fi ∷ whole_pieces f)))
   stm_pieces (Loop e s t f) = A_keyword keyword.From

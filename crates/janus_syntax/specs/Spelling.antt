@@ -9,6 +9,7 @@ abbrev pub sign_text : Sign → List ℕ
 sign_text sign.PlusEquals = codes "+="
 sign_text sign.MinusEquals = codes "-="
 sign_text sign.XorEquals = codes "^="
+sign_text sign.Swap = codes "<=>"
 sign_text sign.Plus = codes "+"
 sign_text sign.Minus = codes "-"
 sign_text sign.Times = codes "*"

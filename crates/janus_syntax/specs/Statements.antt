@@ -12,10 +12,10 @@ use Rattle.janus_syntax.specs.declared.tree.Stm as code_stm
 use Rattle.janus_syntax.specs.declared.tree.Declaration as code_declaration
 use Rattle.janus_syntax.specs.Tokens.{Token, Name, Keyword_of, views}
 use Rattle.janus_syntax.specs.Tree.{Name as Named, Exp, Stm, If, Loop, Block, Empty, More, Declaration, Cell, cell_of, stm_view, declaration_view}
-use Rattle.janus_syntax.specs.Forms.{Part, Body, Statements, Names, Declarations, Bound, Whole, Else_part, Do_part, Loop_part, Target_index}
+use Rattle.janus_syntax.specs.Forms.{Part, Body, Statements, Names, Declarations, Bound, Whole, Else_part, Do_part, Loop_part, Swap_partner, Target_index}
 use Rattle.janus_syntax.specs.Forms.{A_name, The_keyword, The_sign, An_update, Form, take, part, close}
 use Rattle.janus_syntax.specs.Table.{keyword_then, call_then, delocal_then, local_int, local_stack, statement, declaration, declared, assignment, skip_block}
-use Rattle.janus_syntax.specs.Table.{is_bare}
+use Rattle.janus_syntax.specs.Table.{is_bare, behind_target}
 use Rattle.janus_syntax.specs.Grammar.{Count, all, depth_limit, operator_limit, Refusal, Expected}
 use Rattle.janus_syntax.specs.Reader.{Stack, at, run, start, Outcome, Ended, outcome_of, next}
 use Rattle.janus_syntax.specs.Reading.{begun, count, BeginsWith, TokenGoes, Stands, Moves, Stops, IsPart, FailsPart}
@@ -74,6 +74,10 @@ from_form k = part Whole (λ e. part Do_part (λ s. part Loop_part (λ t. keywor
 abbrev pub assignment_form : {p : Part} → Named → (Stm → Form p) → Form p
 assignment_form x k = part Target_index (λ i. take An_update (λ u. part Whole (λ e. k (assignment x i u e))))
 
+-- the same of a statement that begins with a name, behind it
+abbrev pub target_form : {p : Part} → Named → (Stm → Form p) → Form p
+target_form x k = part Swap_partner (λ other. behind_target x other k)
+
 pub record IsIf (depth : ℕ) (s : Stm) (from rest : List Token) : Type 0 where
   pub goes : (p : Part) (k : Stm → Form p) → Moves depth (if_form k) from (close (k s)) rest
   pub shorter : length rest ≤ length from
@@ -94,6 +98,13 @@ pub record IsAssignment (depth : ℕ) (x : Named) (s : Stm) (from rest : List To
 
 abbrev pub FailsAssignment : ℕ → Named → List Token → Refusal → Type 0
 FailsAssignment depth x from e = (p : Part) (k : Stm → Form p) → Stops depth (assignment_form x k) from e
+
+pub record IsBehindTarget (depth : ℕ) (x : Named) (s : Stm) (from rest : List Token) : Type 0 where
+  pub goes : (p : Part) (k : Stm → Form p) → Moves depth (target_form x k) from (k s) rest
+  pub shorter : length rest ≤ length from
+
+abbrev pub FailsBehindTarget : ℕ → Named → List Token → Refusal → Type 0
+FailsBehindTarget depth x from e = (p : Part) (k : Stm → Form p) → Stops depth (target_form x k) from e
 
 -- ---- calls
 

@@ -14,12 +14,13 @@ use Rattle.janus_syntax.specs.declared.tree.LocalKind.TheVariants as kind
 use Rattle.janus_syntax.specs.declared.fault.What.{What}
 use Rattle.janus_syntax.specs.declared.fault.What.TheVariants as what
 use Rattle.janus_syntax.specs.Tokens.{Token, Name, Number, Sign_of, Keyword_of}
-use Rattle.janus_syntax.specs.Tree.{Name as Named, named, Exp, Num, Var, Element, EmptyOf, TopOf, Neg, Stm, Skip, Assign, AssignElement, Push, Pop, If}
+use Rattle.janus_syntax.specs.Tree.{Name as Named, named, Exp, Num, Var, Element, EmptyOf, TopOf, Neg, Stm, Skip, Assign, AssignElement, Push, Pop, Swap, If}
 use Rattle.janus_syntax.specs.Tree.{Loop, LocalInt, LocalStack, Call, Uncall, Block, Empty, More, Declaration, Int, Array, StackOf, Parameter, IntParameter}
 use Rattle.janus_syntax.specs.Tree.{ArrayParameter, StackParameter, Procedure, procedure_of, Cell, cell_of}
 use Rattle.janus_syntax.specs.Operators.{weakest, joined, operator_at}
 use Rattle.janus_syntax.specs.Forms.{Part, A_cell, Declarations, Bound, Procedures, A_procedure, Parameters, More_parameters, A_parameter, Brackets, Body}
-use Rattle.janus_syntax.specs.Forms.{Statements, Else_part, Do_part, Loop_part, Local, Names, More_names, Target_index, Whole, Level, Chain, Index, Tree}
+use Rattle.janus_syntax.specs.Forms.{Statements, Else_part, Do_part, Loop_part, Local, Names, More_names, Swap_partner, Target_index, Whole, Level, Chain}
+use Rattle.janus_syntax.specs.Forms.{Index, Tree}
 use Rattle.janus_syntax.specs.Forms.{The_keyword, The_sign, A_name, A_number, An_update, Same_kind, Same_name, Form, done, take, part, close, Rule}
 
 -- rules with and without marks
@@ -129,9 +130,14 @@ abbrev pub chain_rule : Option Infix → (n : ℕ) (e : Exp) → Option (Rule (C
 chain_rule None n e = None
 chain_rule (Some op) n e = cond (nat_eq op.level n) (counts (part (Level (n - 1)) (λ r. part (Chain n (joined op.joint e r)) done))) None
 
+-- Behind the name that a statement begins with: a swap with another name, or an assignment.
+abbrev pub behind_target : {p : Part} → Named → Option Named → (Stm → Form p) → Form p
+behind_target x (Some y) k = k (Swap x y)
+behind_target x None k = part Target_index (λ i. take An_update (λ u. part Whole (λ e. k (assignment x i u e))))
+
 -- A statement, by its first token.
 abbrev pub statement : {p : Part} → Token → (Stm → Form p) → Option (Rule p)
-statement (Name x at) k = begins (part Target_index (λ i. take An_update (λ u. part Whole (λ e. k (assignment (named x at) i u e)))))
+statement (Name x at) k = begins (part Swap_partner (λ other. behind_target (named x at) other k))
 statement (Keyword_of keyword.If _) k = opens
     (part Whole (λ e. keyword_then keyword.Then (part Body (λ s. part Else_part (λ t. keyword_then keyword.Fi (part Whole (λ f. close (k (If e s t f)))))))))
 statement (Keyword_of keyword.From _) k = opens
@@ -194,6 +200,8 @@ rule Names (Name x at) = begins (part More_names (λ xs. done (named x at ∷ xs
 rule Names _ = None
 rule More_names (Sign_of sign.Comma _) = begins (take A_name (λ x. part More_names (λ xs. done (x ∷ xs))))
 rule More_names _ = None
+rule Swap_partner (Sign_of sign.Swap _) = begins (take A_name (λ y. done (Some y)))
+rule Swap_partner _ = None
 rule Target_index (Sign_of sign.OpenIndex _) = opens (part Whole (λ e. sign_then sign.CloseIndex (close (done (Some e)))))
 rule Target_index _ = None
 rule Whole t = whole (operand t (λ e. chains 0 weakest e done))
@@ -221,6 +229,7 @@ left_out Loop_part = Some skip_block
 left_out Local = None
 left_out Names = Some []
 left_out More_names = Some []
+left_out Swap_partner = Some None
 left_out Target_index = Some None
 left_out Whole = None
 left_out (Level n) = None

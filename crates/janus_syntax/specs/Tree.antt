@@ -39,6 +39,7 @@ mutual
     AssignElement : Name → Exp → Update → Exp → Stm
     Push : Name → Name → Stm
     Pop : Name → Name → Stm
+    Swap : Name → Name → Stm
     If : Exp → Block → Block → Exp → Stm
     Loop : Exp → Block → Block → Exp → Stm
     LocalInt : Name → Exp → Block → Name → Exp → Stm
@@ -94,6 +95,7 @@ abbrev mutual
   stm_view (stms.AssignElement x i u e) = AssignElement (name_view x) (exp_view i) u (exp_view e)
   stm_view (stms.Push x y) = Push (name_view x) (name_view y)
   stm_view (stms.Pop x y) = Pop (name_view x) (name_view y)
+  stm_view (stms.Swap x y) = Swap (name_view x) (name_view y)
   stm_view (stms.If' e s ss t ts f) = If (exp_view e) (row_view ss) (row_view ts) (exp_view f)
   stm_view (stms.Loop' e s ss t ts f) = Loop (exp_view e) (row_view ss) (row_view ts) (exp_view f)
   stm_view (stms.LocalInt' x e s ss y f) = LocalInt (name_view x) (exp_view e) (row_view ss) (name_view y) (exp_view f)

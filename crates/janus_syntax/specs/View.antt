@@ -3,9 +3,9 @@ use Rattle.std.specs.Prelude.{List, map, pos, string_bytes}
 use Rattle.janus_meaning.specs.Syntax as tree
 use Rattle.janus_meaning.specs.Word as word
 use Rattle.janus_meaning.specs.World as world
-use Rattle.janus_syntax.specs.Tree.{Name, named, Exp, Num, Var, Element, EmptyOf, TopOf, Neg, Bin, And, Or, Stm, Skip, Assign, AssignElement, Push, Pop, If}
-use Rattle.janus_syntax.specs.Tree.{Loop, LocalInt, LocalStack, Call, Uncall, Block, Empty, More, Declaration, Int, Array, StackOf, Parameter, IntParameter}
-use Rattle.janus_syntax.specs.Tree.{ArrayParameter, StackParameter, Procedure, procedure_of, Cell, cell_of, exp_view, stm_view, block_view}
+use Rattle.janus_syntax.specs.Tree.{Name, named, Exp, Num, Var, Element, EmptyOf, TopOf, Neg, Bin, And, Or, Stm, Skip, Assign, AssignElement, Push, Pop, Swap}
+use Rattle.janus_syntax.specs.Tree.{If, Loop, LocalInt, LocalStack, Call, Uncall, Block, Empty, More, Declaration, Int, Array, StackOf, Parameter}
+use Rattle.janus_syntax.specs.Tree.{IntParameter, ArrayParameter, StackParameter, Procedure, procedure_of, Cell, cell_of, exp_view, stm_view, block_view}
 use Rattle.janus_syntax.specs.declared.tree.Name as code_name
 use Rattle.janus_syntax.specs.declared.tree.Operator.{Operator}
 use Rattle.janus_syntax.specs.declared.tree.Operator.TheVariants as operators
@@ -58,6 +58,7 @@ abbrev mutual
   plain_stm (AssignElement a i u e) = tree.SetAt (text_of a) (plain_exp i) (update_of u) (plain_exp e)
   plain_stm (Push x y) = tree.Push (text_of x) (text_of y)
   plain_stm (Pop x y) = tree.Pop (text_of x) (text_of y)
+  plain_stm (Swap x y) = tree.Swap (text_of x) (text_of y)
   plain_stm (If a s t b) = tree.If (plain_exp a) (plain_block s) (plain_block t) (plain_exp b)
   plain_stm (Loop a s t b) = tree.From (plain_exp a) (plain_block s) (plain_block t) (plain_exp b)
   plain_stm (LocalInt x a s y b) = tree.LocalInt (text_of x) (plain_exp a) (plain_block s) (plain_exp b)

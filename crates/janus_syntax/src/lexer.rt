@@ -32,8 +32,9 @@ enum Front {
     Sign(Sign),
 }
 
-/// All signs, those of two octets first.
-const SIGNS: [Sign; 24] = [
+/// All signs, the longer ones first.
+const SIGNS: [Sign; 25] = [
+    Sign::Swap,
     Sign::PlusEquals,
     Sign::MinusEquals,
     Sign::XorEquals,

@@ -33,7 +33,7 @@
 //! - `Printing`: the text of a tree. `View`: the trees as trees of the meaning.
 //! - `Scan`, `Reader`, `Reading`, `Statements`, `Procedures`, `Printed` serve the proofs: no contract of a public function names them.
 //!
-//! A cell here has declarations of numbers, arrays and stacks, then assignments, `push`, `pop`, `if`, loops, locals, `call`,
+//! A cell here has declarations of numbers, arrays and stacks, then assignments, swaps, `push`, `pop`, `if`, loops, locals, `call`,
 //! `uncall` and `skip`, and then procedures; or it is a program of procedures, one of which is `main`.
 #![tactic(auto)]
 

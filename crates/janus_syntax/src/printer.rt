@@ -294,6 +294,11 @@ fn put_stm(alloc: Global, line: &mut Line, statement: &Stm)
         }
         Stm::Push(variable, stack) => put_transfer(line, Keyword::Push, variable, stack),
         Stm::Pop(variable, stack) => put_transfer(line, Keyword::Pop, variable, stack),
+        Stm::Swap(first, second) => {
+            put_name(line, first);
+            put_sign(line, Sign::Swap);
+            put_name(line, second);
+        }
         Stm::If(test, then_part, else_part, assertion) => {
             put_test(alloc, line, Keyword::If, test);
             put_part(alloc, line, Keyword::Then, then_part);

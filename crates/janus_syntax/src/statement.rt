@@ -9,7 +9,7 @@ ghost use Rattle.janus_syntax.specs.Grammar.{depth_limit};
 ghost use Rattle.janus_syntax.specs.Reading.{Reads, IsPart, FailsPart};
 ghost use Rattle.janus_syntax.specs.Statements.{IsStmOrOther, FailsStm, IsAssignment, FailsAssignment, IsIf, FailsIf, IsLoop, FailsLoop, IsLocalInt};
 ghost use Rattle.janus_syntax.specs.Statements.{FailsLocalInt, IsLocalStack, FailsLocalStack, opens_construct, IsStm, IsIfBegun, IsLoopBegun, IsIntHead};
-ghost use Rattle.janus_syntax.specs.Statements.{IsStackHead, AreStatements, IsOptional, FailsOptional};
+ghost use Rattle.janus_syntax.specs.Statements.{IsStackHead, AreStatements, IsOptional, FailsOptional, IsBehindTarget, FailsBehindTarget};
 
 use crate::call::call;
 use crate::expression::{DEPTH_LIMIT, whole_expression};
@@ -43,7 +43,7 @@ fn statement(
                 text: text.clone()?,
                 span: first.span,
             };
-            let (stm, rest) = assignment(alloc, name, rest, depth)?;
+            let (stm, rest) = swap_or_assignment(alloc, name, rest, depth)?;
             Ok(Some((stm, rest)))
         }
         TokenKind::Keyword(keyword) => {
@@ -122,6 +122,24 @@ fn plain_statement(
         }
         _ => Ok(None),
     }
+}
+
+/// A swap of `target` with another name, or an assignment to it, behind that name, and the tokens behind it.
+fn swap_or_assignment(
+    alloc: Global,
+    target: Name,
+    tokens: &[Token],
+    depth: usize,
+) -> Result<(Stm, &[Token]), Problem>
+    requires { depth ≤ depth_limit }
+    ensures { Reads (λ x. IsBehindTarget depth (name_view target) (stm_view x.0) (views tokens.now) (views x.1.now))
+        (FailsBehindTarget depth (name_view target) (views tokens.now)) result }
+{
+    let Some(rest) = sign_at(Sign::Swap, tokens) else {
+        return assignment(alloc, target, tokens, depth);
+    };
+    let (partner, rest) = name(rest)?;
+    Ok((Stm::Swap(target, partner), rest))
 }
 
 /// An assignment to `name`, behind that name, and the tokens behind it.

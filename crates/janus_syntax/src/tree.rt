@@ -132,6 +132,8 @@ pub enum Stm {
     Push(Name, Name),
     /// A variable, which takes the newest value of the stack.
     Pop(Name, Name),
+    /// Two variables, whose numbers are exchanged.
+    Swap(Name, Name),
     /// The first test, the parts after `then` and `else`, and the test after `fi`.
     If(Exp, Vec<Stm>, Vec<Stm>, Exp),
     /// The test after `from`, the parts after `do` and `loop`, and the test after `until`.

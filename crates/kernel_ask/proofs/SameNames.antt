@@ -4,7 +4,7 @@ use Rattle.std.specs.List.{list_any}
 use Rattle.janus_meaning.specs.Syntax as meaning
 use Rattle.janus_meaning.specs.Store.{same_name}
 use Rattle.janus_meaning.specs.World as world
-use Rattle.janus_syntax.specs.Tree.{Name, named, Exp, Num, Var, Element, EmptyOf, TopOf, Neg, Bin, And, Or, Stm, Skip, Assign, AssignElement, Push, Pop, If}
+use Rattle.janus_syntax.specs.Tree.{Name, named, Exp, Num, Var, Element, EmptyOf, TopOf, Neg, Bin, And, Or, Stm, Skip, Assign, AssignElement, Push, Pop, Swap, If}
 use Rattle.janus_syntax.specs.Tree.{Loop, LocalInt, LocalStack, Call, Uncall, Block, Empty, More, Declaration, Int, Array, StackOf, Cell, cell_of}
 use Rattle.janus_syntax.specs.View.{text_of, plain_exp, plain_stm, plain_block, plain_declaration, plain_cell}
 use Rattle.janus_check.specs.Naming.{is_it, in_exp, in_stm, in_block, in_declaration, in_cell}
@@ -32,6 +32,7 @@ module _ (x : meaning.Name) where
     names_stm (meaning.SetAt a i u e) = is_name a || names_exp i || names_exp e
     names_stm (meaning.Push y z) = is_name y || is_name z
     names_stm (meaning.Pop y z) = is_name y || is_name z
+    names_stm (meaning.Swap y z) = is_name y || is_name z
     names_stm (meaning.If a s t b) = names_exp a || names_block s || names_block t || names_exp b
     names_stm (meaning.From a s t b) = names_exp a || names_block s || names_block t || names_exp b
     names_stm (meaning.LocalInt y a s b) = names_exp a || (not (is_name y) && names_block s) || names_exp b
@@ -78,6 +79,7 @@ module _ (x : meaning.Name) where
     stm (AssignElement a i u e) = λ k. it a k || exp i k || exp e k
     stm (Push y z) = λ k. it y k || it z k
     stm (Pop y z) = λ k. it y k || it z k
+    stm (Swap y z) = λ k. it y k || it z k
     stm (If a s t b) = λ k. exp a k || block s k || block t k || exp b k
     stm (Loop a s t b) = λ k. exp a k || block s k || block t k || exp b k
     stm (LocalInt y a s z b) = λ k. exp a k || (not (it y k) && block s k) || exp b k

@@ -76,7 +76,7 @@ Assertion-send : IsSend (Assertion.the_field).row
 Assertion-send = search (crosses, sendable) depth 60 fits 20000
 
 Primitive-each : EachSend (E.shape Primitive.the_type).variants
-Primitive-each = (search (crosses, Assertion-send, sendable) depth 20, (search (crosses, Assertion-send, sendable) depth 20, (search (crosses, Assertion-send, sendable) depth 20, (search (crosses, Assertion-send, sendable) depth 20, (search (crosses, Assertion-send, sendable) depth 20, (search (crosses, Assertion-send, sendable) depth 20, (search (crosses, Assertion-send, sendable) depth 20, (search (crosses, Assertion-send, sendable) depth 20, (search (crosses, Assertion-send, sendable) depth 20, (search (crosses, Assertion-send, sendable) depth 20, (search (crosses, Assertion-send, sendable) depth 20, (search (crosses, Assertion-send, sendable) depth 20, (search (crosses, Assertion-send, sendable) depth 20, (search (crosses, Assertion-send, sendable) depth 20, (search (crosses, Assertion-send, sendable) depth 20, (search (crosses, Assertion-send, sendable) depth 20, (search (crosses, Assertion-send, sendable) depth 20, (search (crosses, Assertion-send, sendable) depth 20, (search (crosses, Assertion-send, sendable) depth 20, (search (crosses, Assertion-send, sendable) depth 20, (search (crosses, Assertion-send, sendable) depth 20, (search (crosses, Assertion-send, sendable) depth 20, (search (crosses, Assertion-send, sendable) depth 20, (search (crosses, Assertion-send, sendable) depth 20, (search (crosses, Assertion-send, sendable) depth 20, (search (crosses, Assertion-send, sendable) depth 20, (search (crosses, Assertion-send, sendable) depth 20, (search (crosses, Assertion-send, sendable) depth 20, (search (crosses, Assertion-send, sendable) depth 20, (search (crosses, Assertion-send, sendable) depth 20, (search (crosses, Assertion-send, sendable) depth 20, (search (crosses, Assertion-send, sendable) depth 20, (search (crosses, Assertion-send, sendable) depth 20, (search (crosses, Assertion-send, sendable) depth 20, (search (crosses, Assertion-send, sendable) depth 20, (search (crosses, Assertion-send, sendable) depth 20, (search (crosses, Assertion-send, sendable) depth 20, (search (crosses, Assertion-send, sendable) depth 20, (search (crosses, Assertion-send, sendable) depth 20, (search (crosses, Assertion-send, sendable) depth 20, (search (crosses, Assertion-send, sendable) depth 20, (search (crosses, Assertion-send, sendable) depth 20, (search (crosses, Assertion-send, sendable) depth 20, (search (crosses, Assertion-send, sendable) depth 20, (search (crosses, Assertion-send, sendable) depth 20, (search (crosses, Assertion-send, sendable) depth 20, (search (crosses, Assertion-send, sendable) depth 20, (search (crosses, Assertion-send, sendable) depth 20, (search (crosses, Assertion-send, sendable) depth 20, (search (crosses, Assertion-send, sendable) depth 20, (search (crosses, Assertion-send, sendable) depth 20, (search (crosses, Assertion-send, sendable) depth 20, tt))))))))))))))))))))))))))))))))))))))))))))))))))))
+Primitive-each = (search (crosses, Assertion-send, sendable) depth 20, (search (crosses, Assertion-send, sendable) depth 20, (search (crosses, Assertion-send, sendable) depth 20, (search (crosses, Assertion-send, sendable) depth 20, (search (crosses, Assertion-send, sendable) depth 20, (search (crosses, Assertion-send, sendable) depth 20, (search (crosses, Assertion-send, sendable) depth 20, (search (crosses, Assertion-send, sendable) depth 20, (search (crosses, Assertion-send, sendable) depth 20, (search (crosses, Assertion-send, sendable) depth 20, (search (crosses, Assertion-send, sendable) depth 20, (search (crosses, Assertion-send, sendable) depth 20, (search (crosses, Assertion-send, sendable) depth 20, (search (crosses, Assertion-send, sendable) depth 20, (search (crosses, Assertion-send, sendable) depth 20, (search (crosses, Assertion-send, sendable) depth 20, (search (crosses, Assertion-send, sendable) depth 20, (search (crosses, Assertion-send, sendable) depth 20, (search (crosses, Assertion-send, sendable) depth 20, (search (crosses, Assertion-send, sendable) depth 20, (search (crosses, Assertion-send, sendable) depth 20, (search (crosses, Assertion-send, sendable) depth 20, (search (crosses, Assertion-send, sendable) depth 20, (search (crosses, Assertion-send, sendable) depth 20, (search (crosses, Assertion-send, sendable) depth 20, (search (crosses, Assertion-send, sendable) depth 20, (search (crosses, Assertion-send, sendable) depth 20, (search (crosses, Assertion-send, sendable) depth 20, (search (crosses, Assertion-send, sendable) depth 20, (search (crosses, Assertion-send, sendable) depth 20, (search (crosses, Assertion-send, sendable) depth 20, (search (crosses, Assertion-send, sendable) depth 20, (search (crosses, Assertion-send, sendable) depth 20, (search (crosses, Assertion-send, sendable) depth 20, (search (crosses, Assertion-send, sendable) depth 20, (search (crosses, Assertion-send, sendable) depth 20, (search (crosses, Assertion-send, sendable) depth 20, (search (crosses, Assertion-send, sendable) depth 20, (search (crosses, Assertion-send, sendable) depth 20, (search (crosses, Assertion-send, sendable) depth 20, (search (crosses, Assertion-send, sendable) depth 20, (search (crosses, Assertion-send, sendable) depth 20, (search (crosses, Assertion-send, sendable) depth 20, (search (crosses, Assertion-send, sendable) depth 20, (search (crosses, Assertion-send, sendable) depth 20, (search (crosses, Assertion-send, sendable) depth 20, (search (crosses, Assertion-send, sendable) depth 20, (search (crosses, Assertion-send, sendable) depth 20, (search (crosses, Assertion-send, sendable) depth 20, (search (crosses, Assertion-send, sendable) depth 20, (search (crosses, Assertion-send, sendable) depth 20, (search (crosses, Assertion-send, sendable) depth 20, (search (crosses, Assertion-send, sendable) depth 20, tt)))))))))))))))))))))))))))))))))))))))))))))))))))))
 
 Primitive-enum : IsSend (enum.Enum (E.shape Primitive.the_type))
 Primitive-enum = enum_send (E.shape Primitive.the_type) Primitive-each

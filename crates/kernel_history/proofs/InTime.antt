@@ -9,6 +9,7 @@ use Rattle.kernel_history.specs.declared.tree.HistoryTree.{HistoryTree}
 use Rattle.kernel_runner.specs.declared.runner.Runner.{Runner}
 use Rattle.kernel_history.specs.declared.job.Open.{Open}
 use Rattle.kernel_machine.specs.declared.outcome.Sliced.{Sliced}
+use Rattle.kernel_history.proofs.Indexed.{kept_in_time}
 use Rattle.kernel_history.proofs.Standing.{shown_by}
 use Rattle.kernel_machine.proofs.Stays.{slice_fit}
 
@@ -18,4 +19,4 @@ slice_kept tree moved-to runner at old new m asked told k n s =
     let kept = k.kept in
     let shown = shown_by tree old runner k.kept.stands in
     let fit = slice_fit (past_of tree) (job_of old) m asked told (state_of moved-to new) kept.legal kept.possible (world_of (procedures_at (past_of tree) (job_of old)) runner, shown) s in
-    record { kept = n; in_time = fit.in_time }
+    kept_in_time moved-to at new n fit.in_time

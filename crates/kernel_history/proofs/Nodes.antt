@@ -1,4 +1,4 @@
--- The tree of cells read as that of the machine: its nodes and parents, the ways in it, and one more node.
+-- The tree of cells read as that of the machine: its nodes and parents, the program of a work, the ways in it, and one more node.
 use Rattle.std.proofs.Common.{◌≡◌, ℕ, ◌+◌, ◌-◌, ◌<◌, ◌≤◌, List, [], ◌∷◌, ◌++◌, Some, Result, Ok, Err, length, length-append, map, get_or, set, zero, suc, refl, sym, ap, ◌∙◌, subst, arith}
 use Rattle.std.specs.Prelude.{slice_get, IfOk}
 use Rattle.std.proofs.lemmas.List.{length-map, map-append, get_or_at, get_or-map}
@@ -14,14 +14,21 @@ use Rattle.cell_tree.proofs.Trees.{count_of_parents, parents_more}
 use Rattle.cell_tree.proofs.Ways.{length-upward, upward_are_ancestors}
 use Rattle.kernel_machine.specs.State as state
 use Rattle.kernel_machine.specs.State.{root, ancestor, node_at}
+use Rattle.kernel_machine.specs.Travel.{next_way}
+use Rattle.kernel_machine.specs.declared.travel.Travel.{Travel}
 use Rattle.kernel_machine.specs.declared.travel.Aim.TheVariants.{Goto}
+use Rattle.kernel_machine.specs.declared.travel.Way.{Way}
+use Rattle.kernel_machine.specs.declared.travel.Way.TheVariants.{Up, Down}
 use Rattle.kernel_runner.specs.Program.{cell_of_program}
+use Rattle.kernel_runner.specs.declared.program.Program.{Program}
 use Rattle.kernel_history.specs.Fields.{node_of, nodes_of, past_of}
 use Rattle.kernel_machine.specs.Legal.{IsLegal, IsMeeting}
-use Rattle.kernel_history.specs.Bodies.{IsCellAt}
+use Rattle.kernel_history.specs.Bodies.{IsCellAt, IsProgramOf}
 use Rattle.kernel_history.specs.Kept.{HasPath}
 use Rattle.kernel_history.specs.declared.tree.EndedCell.{EndedCell}
 use Rattle.kernel_history.specs.declared.tree.HistoryTree.{HistoryTree}
+use Rattle.kernel_history.specs.declared.job.Work.{Work}
+use Rattle.kernel_history.specs.declared.job.Work.TheVariants.{Cell as RunCell, Move}
 use Rattle.kernel_machine.proofs.Trees.{IsNext}
 
 pub count_of_nodes : (tree : HistoryTree) → length (nodes_of tree) ≡ length tree.cells.nodes + 1
@@ -63,6 +70,21 @@ pub one_cell : (tree : HistoryTree) (n : ℕ) (a b : EndedCell) → IsCellAt tre
 one_cell tree n a b p q =
     let e = sym p.1 ∙ q.1 in
     cc
+
+-- the work has one program
+same_up : (tree : HistoryTree) (travel : Travel) (way : Way) (p q : Program) → next_way travel ≡ way → IsProgramOf tree (Move travel) p → IsProgramOf tree (Move travel) q → p ≡ q
+same_up tree travel Up p q way a b =
+    let c = rw (way, IsProgramOf) at a in
+    let d = rw (way, IsProgramOf) at b in
+    c.2 ∙ ap (λ (x : EndedCell). x.program) (one_cell tree tree.position c.0 d.0 c.1 d.1) ∙ sym d.2
+same_up tree travel Down p q way a b =
+    let c = rw (way, IsProgramOf) at a in
+    let d = rw (way, IsProgramOf) at b in
+    c.2 ∙ ap (λ (x : EndedCell). x.program) (one_cell tree _ c.0 d.0 c.1 d.1) ∙ sym d.2
+
+pub same_program : (tree : HistoryTree) (work : Work) (p q : Program) → IsProgramOf tree work p → IsProgramOf tree work q → p ≡ q
+same_program tree (RunCell program) p q a b = a ∙ sym b
+same_program tree (Move travel) p q a b = same_up tree travel (next_way travel) p q refl a b
 
 -- ---- the way to a node
 

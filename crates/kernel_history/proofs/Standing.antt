@@ -11,7 +11,6 @@ use Rattle.kernel_machine.specs.Travel.{next_way}
 use Rattle.kernel_machine.specs.declared.travel.Travel.{Travel}
 use Rattle.kernel_machine.specs.declared.travel.Aim.{Aim}
 use Rattle.kernel_machine.specs.declared.travel.Aim.TheVariants.{Undo, Redo, Goto}
-use Rattle.kernel_machine.specs.declared.travel.Way.{Way}
 use Rattle.kernel_machine.specs.declared.travel.Way.TheVariants.{Up, Down}
 use Rattle.kernel_machine.specs.Language.{IsFormed, IsSound, Code, Forward, Backward, CodePart, CodeExec, start_of, end_of}
 use Rattle.kernel_machine.specs.State as state
@@ -50,7 +49,8 @@ use Rattle.kernel_runner.proofs.Growing.{ready_grows, defined_grow}
 use Rattle.kernel_runner.proofs.Borders.{all_shown}
 use Rattle.kernel_runner.proofs.Running.{stands_part}
 use Rattle.kernel_history.proofs.BodiesAt.{bodies_same, bodies_of_cell, bodies_new, bodies_below, cell_behind, ready_same, ready_less, ready_more}
-use Rattle.kernel_history.proofs.Nodes.{count_of_nodes, cell_there, one_cell, cell_kept, cell_added}
+use Rattle.kernel_history.proofs.Nodes.{count_of_nodes, cell_there, same_program, cell_kept, cell_added}
+use Rattle.kernel_history.proofs.Indexed.{kept_in_time}
 use Rattle.kernel_machine.proofs.Trees.{worlds-more, legal_up, legal_down, legal_grown, undone_world, redone_world, run_here, parent_sound, IsNext, formed_below, next_below, up_possible, down_possible, way_up, way_down, new_legal, new_worlds}
 
 -- the shown world is the runner's
@@ -292,21 +292,6 @@ ended_down s travel n v way legal possible e = redone_world s (below s travel) n
 
 -- ---- the program of the open job
 
--- the work has one program
-same_up : (tree : HistoryTree) (travel : Travel) (way : Way) (p q : Program) → next_way travel ≡ way → IsProgramOf tree (Move travel) p → IsProgramOf tree (Move travel) q → p ≡ q
-same_up tree travel Up p q way a b =
-    let c = rw (way, IsProgramOf) at a in
-    let d = rw (way, IsProgramOf) at b in
-    c.2 ∙ ap (λ (x : EndedCell). x.program) (one_cell tree tree.position c.0 d.0 c.1 d.1) ∙ sym d.2
-same_up tree travel Down p q way a b =
-    let c = rw (way, IsProgramOf) at a in
-    let d = rw (way, IsProgramOf) at b in
-    c.2 ∙ ap (λ (x : EndedCell). x.program) (one_cell tree _ c.0 d.0 c.1 d.1) ∙ sym d.2
-
-pub same_program : (tree : HistoryTree) (work : Work) (p q : Program) → IsProgramOf tree work p → IsProgramOf tree work q → p ≡ q
-same_program tree (RunCell program) p q a b = a ∙ sym b
-same_program tree (Move travel) p q a b = same_up tree travel (next_way travel) p q refl a b
-
 -- where a runner stands, for the program that was found
 pub stands_with : {L : Type 0} (tree : HistoryTree) (work : Work) (count : ℕ) (back : Bool) (runner : Runner L) (p : Program) → IsProgramOf tree work p → StandsIn tree work count back runner →
     Stands runner p (place_in tree work p count) back
@@ -344,24 +329,24 @@ module _ {L : Type 0} (tree larger : HistoryTree) (program : Program) (n : ℕ) 
 
 pub kept_entered : {L : Type 0} (tree : HistoryTree) (runner at : Runner L) (travel : Travel) → Kept tree runner (Border travel) → GoOn runner.store.names at.store.names → kept_in at.procedures ≡ kept_in runner.procedures → StandsIn tree (Move travel) 0 false at →
     IsKept tree at (Inside (record { work = Move travel; count = 0; heading = GoesOn }))
-kept_entered tree runner at travel k more same stands = record {
-  kept = record {
-    legal = k.legal;
-    possible = k.possible;
-    counted = k.counted;
-    stands = stands;
-    room = tt;
-    path = k.path;
-    ready = nodes_ready tree runner at more same k.ready;
-    order = k.order;
-    behind = tt;
-  };
-  in_time = exec_some (code_of (past_of tree) (state.Move travel)) (here (past_of tree));
-}
+kept_entered tree runner at travel k more same stands =
+    kept_in_time tree at (Inside (record { work = Move travel; count = 0; heading = GoesOn }))
+    (record {
+      legal = k.legal;
+      possible = k.possible;
+      counted = k.counted;
+      stands = stands;
+      room = tt;
+      path = k.path;
+      ready = nodes_ready tree runner at more same k.ready;
+      order = k.order;
+      behind = tt;
+    })
+    (exec_some (code_of (past_of tree) (state.Move travel)) (here (past_of tree)))
 
 -- with no open job nothing is due
 pub idle_in_time : {L : Type 0} (tree : HistoryTree) (runner : Runner L) → Kept tree runner Idle → IsKept tree runner Idle
-idle_in_time tree runner k = record { kept = k; in_time = tt }
+idle_in_time tree runner k = kept_in_time tree runner Idle k tt
 
 behind_nodes : (tree other : HistoryTree) (program : Program) → other.cells.nodes ≡ tree.cells.nodes → IsBehindNodes tree (RunCell program) → IsBehindNodes other (RunCell program)
 behind_nodes tree other program e h = subst (λ (nodes : List (Node EndedCell)). IsBehindNodes (record other { cells = record other.cells { nodes = nodes } }) (RunCell program)) (sym e) h
@@ -370,25 +355,24 @@ pub kept_begun : {L : Type 0} (tree made : HistoryTree) (runner at : Runner L) (
     Stands at program (entry program (shown_here tree)) false → IsKept made at (Inside (record { work = RunCell program; count = 0; heading = GoesOn }))
 kept_begun tree made runner at program k ready behind same nodes position room formed stands =
     let stack : bodies_at made made.position ≡ bodies_at tree tree.position = bodies_same tree made made.position nodes ∙ ap (bodies_at tree) position in
-    record {
-      kept = record {
-        legal = subst (λ (s : Past). IsLegal s) (sym same) k.legal;
-        possible = subst (λ (s : Past). IsFormed (cell_of_program program) (here s)) (sym same) formed;
-        counted = tt;
-        stands = record {
-          program = program;
-          of_work = refl;
-          stands = subst (λ (s : Past). Stands at program (entry program (over (bodies_at made made.position) (here s))) false) (sym same)
-              (subst (λ (l : List ℕ). Stands at program (entry program (over l (here (past_of tree)))) false) (sym stack) stands);
-        };
-        room = room;
-        path = tt;
-        ready = placed_nodes tree made at nodes ready;
-        order = ordered_nodes tree made nodes k.order;
-        behind = behind_nodes tree made program nodes behind;
+    kept_in_time made at (Inside (record { work = RunCell program; count = 0; heading = GoesOn }))
+    (record {
+      legal = subst (λ (s : Past). IsLegal s) (sym same) k.legal;
+      possible = subst (λ (s : Past). IsFormed (cell_of_program program) (here s)) (sym same) formed;
+      counted = tt;
+      stands = record {
+        program = program;
+        of_work = refl;
+        stands = subst (λ (s : Past). Stands at program (entry program (over (bodies_at made made.position) (here s))) false) (sym same)
+            (subst (λ (l : List ℕ). Stands at program (entry program (over l (here (past_of tree)))) false) (sym stack) stands);
       };
-      in_time = exec_some (code_of (past_of made) (state.Posted (cell_of_program program))) (here (past_of made));
-    }
+      room = room;
+      path = tt;
+      ready = placed_nodes tree made at nodes ready;
+      order = ordered_nodes tree made nodes k.order;
+      behind = behind_nodes tree made program nodes behind;
+    })
+    (exec_some (code_of (past_of made) (state.Posted (cell_of_program program))) (here (past_of made)))
 
 -- a tree with room for a node more is the same tree
 pub kept_with_room : {L : Type 0} (tree made : HistoryTree) (runner : Runner L) → Kept tree runner Idle → past_of made ≡ past_of tree → made.cells.nodes ≡ tree.cells.nodes → made.position ≡ tree.position → Kept made runner Idle

@@ -9,7 +9,11 @@
 --                         `HasPathAt`: the way of a goto is kept
 -- of all three            `StandsAt` (Standing): the runner shows the world of the position, or has taken the job's steps from there
 --
--- All of this is `Kept`, which holds in the middle of a slice too. Between two calls the open job also has steps to take: `IsKept`.
+-- All of this is `Kept`, which holds in the middle of a slice too. Between two calls `IsKept` holds, which has beside this:
+--
+-- of tree and open job    `IsInTimeAt` (`kernel_machine`, specs/Legal): it has steps to take
+-- of all three            `HasIndex` (Index): each entry of the index is the body that the entered cell defines, where it was posted or a move goes
+--                         down to it, else the one of the nearest node that defines its name from the position up to the root, or none
 use Rattle.std.specs.Prelude.{◌≡◌, ℕ, ◌<◌, ◌≤◌, length, slice_index}
 use Rattle.janus_store.specs.StoreState.{IsWhole}
 use Rattle.janus_meaning.specs.World.{World}
@@ -29,6 +33,7 @@ use Rattle.kernel_history.specs.declared.job.Work.TheVariants.{Cell as RunCell, 
 use Rattle.kernel_history.specs.declared.job.Open.{Open}
 use Rattle.kernel_history.specs.declared.job.Open.TheVariants.{Idle, Border, Inside}
 use Rattle.kernel_history.specs.Bodies.{procedures_in, NodesAreReady, AreInOrder, IsBehindAt}
+use Rattle.kernel_history.specs.Index.{HasIndex}
 use Rattle.kernel_history.specs.Standing.{StandsAt}
 
 -- room for one more node, made when a cell is begun
@@ -72,10 +77,11 @@ pub record Kept {L : Type 0} (tree : HistoryTree) (runner : Runner L) (job : Ope
   pub order : AreInOrder tree
   pub behind : IsBehindAt tree job
 
--- what a history keeps: beside this, its open job has steps to take
+-- what a history keeps: beside this, its open job has steps to take, and the index is that of the tree
 pub record IsKept {L : Type 0} (tree : HistoryTree) (runner : Runner L) (job : Open) : Type 0 where
   pub kept : Kept tree runner job
   pub in_time : IsInTimeAt (past_of tree) (job_of job)
+  pub index : HasIndex tree job runner
 
 -- ---- where a cell has come to its end
 

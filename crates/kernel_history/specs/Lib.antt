@@ -3,5 +3,6 @@
 pub mod Fields
 pub mod NodeTrees
 pub mod Bodies
+pub mod Index
 pub mod Standing
 pub mod Kept

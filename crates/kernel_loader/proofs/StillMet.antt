@@ -1,6 +1,6 @@
 -- What was met stays met as names go on.
 use Rattle.std.proofs.Common.{List, [], ◌∷◌}
-use Rattle.janus_meaning.specs.Syntax.{Name, Proc, names_of, Stm, Blk, Skip, Set, SetAt, Push, Pop, If, From, LocalInt, LocalStack, Call, Uncall, Nil, Cons}
+use Rattle.janus_meaning.specs.Syntax.{Name, Proc, names_of, Stm, Blk, Skip, Set, SetAt, Push, Pop, Swap, If, From, LocalInt, LocalStack, Call, Uncall, Nil, Cons}
 use Rattle.janus_meaning.specs.World.{Declaration, declared_name}
 use Rattle.janus_names.specs.Numbers.{IsMet, GoOn}
 use Rattle.janus_code.specs.Met.{AreAllMet, MeetsLocals, MeetsLocalsOf}
@@ -18,6 +18,7 @@ module _ (xs ys : List Name) (g : GoOn xs ys) where
     locals_grow (SetAt a i o e) h = tt
     locals_grow (Push x y) h = tt
     locals_grow (Pop x y) h = tt
+    locals_grow (Swap x y) h = tt
     locals_grow (If a s t b) h = (block_locals_grow s h.0, block_locals_grow t h.1)
     locals_grow (From a s t b) h = (block_locals_grow s h.0, block_locals_grow t h.1)
     locals_grow (LocalInt x a s b) h = (still_met xs ys x g h.0, block_locals_grow s h.1)

@@ -116,6 +116,7 @@ fn meet_locals_in<L: Ledger>(store: &mut Store<L>, statement: &Stm) -> Result<()
         | Stm::AssignElement(_, _, _, _)
         | Stm::Push(_, _)
         | Stm::Pop(_, _)
+        | Stm::Swap(_, _)
         | Stm::Call(_, _)
         | Stm::Uncall(_, _) => Ok(()),
         Stm::If(_, first, second, _) => {

@@ -8,7 +8,7 @@ use Rattle.janus_meaning.specs.Meaning.{Whole, Block, Done, block_run, Run as Ru
 use Rattle.janus_meaning.specs.World.{World, empty_world, Cell, entered, define}
 use Rattle.janus_meaning.specs.Cells.{IsGoodWorld, world_after, store_after}
 use Rattle.janus_meaning.proofs.Worlds.{worlds_are_determined, world_trichotomy, worlds_start_and_end, worlds_reverse, entered_is_good}
-use Rattle.janus_meaning.proofs.FormedWorlds.{values_good, formed_worlds_last}
+use Rattle.janus_meaning.proofs.FormedWorlds.{formed_good, formed_worlds_last}
 use Rattle.kernel_machine.specs.Language.{IsFormed, IsSound, empty_cell, Code, Forward, Backward, start_of, run_block, CodePart, CodeExec, CodeStop, end_of}
 
 -- before the first step of a cell, and of its inverse
@@ -88,7 +88,7 @@ part_inverted cell w n j u v good e p = (worlds_reverse (entered cell w) cell.bl
 -- ---- sound worlds
 
 pub sound_good : (w : World) → IsSound w → IsGoodWorld w
-sound_good w sound = values_good w.store sound.formed.values
+sound_good w sound = formed_good w sound.formed
 
 pub empty_sound : IsSound empty_world
 empty_sound = record { formed = formed_worlds_last.first }

@@ -66,6 +66,7 @@ module _ (xs ys : List Name) (g : GoOn xs ys) where
   statement_grows (statement.AssignElement a i u e) h = (symbol_grows a h.0, exp_grows i h.1, exp_grows e h.2)
   statement_grows (statement.Push x y) h = (symbol_grows x h.0, symbol_grows y h.1)
   statement_grows (statement.Pop x y) h = (symbol_grows x h.0, symbol_grows y h.1)
+  statement_grows (statement.Swap x y) h = (symbol_grows x h.0, symbol_grows y h.1)
   statement_grows (statement.If a p q b) h = (exp_grows a h.0, exp_grows b h.1)
   statement_grows (statement.Loop a p q b) h = (exp_grows a h.0, exp_grows b h.1)
   statement_grows (statement.LocalInt x a p b) h = (symbol_grows x h.0, exp_grows a h.1, exp_grows b h.2)

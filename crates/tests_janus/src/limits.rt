@@ -4,7 +4,7 @@ use cells_program::INPUT_LIMIT;
 use janus_laying::RESULT_LIMIT;
 use janus_meaning::limit::{
     ARRAY_LIMIT, FRAME_LIMIT, LIVE_STACK_LIMIT, NAME_LIMIT, PARAMETER_LIMIT, PROCEDURE_LIMIT,
-    STACK_VALUE_LIMIT, STEP_LIMIT,
+    STEP_LIMIT, VALUE_LIMIT,
 };
 use janus_store::CALL_LIMIT;
 use kernel_ask::{COMM_LIMIT, SHOWN_VALUES};
@@ -35,7 +35,7 @@ fn count_of(name: &str) -> usize {
         "procedures" => PROCEDURE_LIMIT,
         "parameters" => PARAMETER_LIMIT,
         "stacks" => LIVE_STACK_LIMIT,
-        "values" => STACK_VALUE_LIMIT,
+        "values" => VALUE_LIMIT,
         "calls" => CALL_LIMIT,
         "nodes" => NODE_LIMIT,
         "queue" => QUEUE_LIMIT,

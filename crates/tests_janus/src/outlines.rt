@@ -70,7 +70,12 @@ fn write_update(name: &Name, mark: &str, update: &Update, sheet: &mut Sheet) {
 fn write_statement(statement: &Stm, sheet: &mut Sheet) {
     write_statement_head(statement, sheet);
     match statement {
-        Stm::Skip | Stm::Push(_, _) | Stm::Pop(_, _) | Stm::Call(_, _) | Stm::Uncall(_, _) => {}
+        Stm::Skip
+        | Stm::Push(_, _)
+        | Stm::Pop(_, _)
+        | Stm::Swap(_, _)
+        | Stm::Call(_, _)
+        | Stm::Uncall(_, _) => {}
         Stm::Assign(_, _, exp) => write_exp(exp, sheet),
         Stm::AssignElement(_, index, _, exp) => {
             write_exp(index, sheet);
@@ -114,6 +119,7 @@ fn write_statement_head(statement: &Stm, sheet: &mut Sheet) {
         Stm::AssignElement(name, _, update, _) => write_update(name, "[] ", update, sheet),
         Stm::Push(variable, stack) => write_two_names("push ", variable, stack, sheet),
         Stm::Pop(variable, stack) => write_two_names("pop ", variable, stack, sheet),
+        Stm::Swap(name, partner) => write_two_names("swap ", name, partner, sheet),
         Stm::If(_, _, _, _) => sheet.write("if"),
         Stm::Loop(_, _, _, _) => sheet.write("from"),
         Stm::LocalInt(name, _, _, _, _) => write_name("local int ", name, sheet),

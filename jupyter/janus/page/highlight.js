@@ -6,7 +6,7 @@ const WORDS = ('call delocal do else empty fi from if int local loop main nil po
     'uncall until').split(' ');
 const IS_WORD = new Set(WORDS);
 const LARGEST = 2147483647;
-const OPERATOR = /^(\+=|-=|\^=|&&|\|\||!=|<=|>=|[-+*\/%^&|=<>])/;
+const OPERATOR = /^(\+=|-=|\^=|&&|\|\||!=|<=>|<=|>=|[-+*\/%^&|=<>])/;
 
 // Keeps which constructs are open, which says how far the next line is indented.
 function follow(state, word) {

@@ -36,7 +36,7 @@ return {
     },
     42: {
         name: "WrongKind",
-        advice: "a number, an array or a stack is wanted here: an array may want its index, and an argument is of the kind of its parameter",
+        advice: "a number, an array or a stack is wanted here: an array may want its index, an argument is of the kind of its parameter, and '<=>' stands between two variables that are numbers",
     },
     43: {
         name: "SelfUse",
@@ -104,7 +104,7 @@ return {
     },
     59: {
         name: "StackFull",
-        advice: "a stack holds 4,096 numbers",
+        advice: "the stacks hold 262,144 numbers together, local ones and those outside an open call among them: pop some first",
     },
     60: {
         name: "TooDeep",

@@ -33,7 +33,7 @@ class JanusLexer(RegexLexer):
             (words(WORDS, prefix=r'\b', suffix=r'\b'), Keyword),
             (NAME, Name.Variable),
             (r'[0-9]+', number),
-            (r'\+=|-=|\^=|&&|\|\||!=|<=|>=|[-+*/%^&|=<>]', Operator),
+            (r'\+=|-=|\^=|&&|\|\||!=|<=>|<=|>=|[-+*/%^&|=<>]', Operator),
             (r'[()\[\],]', Punctuation),
             (r'.', Error),
         ],

@@ -1,9 +1,11 @@
-use Rattle.std.proofs.Common.{string_bytes, ◌≡◌, ◌∷◌, ℤ, List, ap, ◌∙◌, sym, refl, arith, to_z, of_z, w32}
+use Rattle.std.proofs.Common.{string_bytes, ◌≡◌, ◌<◌, ◌≤◌, ◌∷◌, ℤ, List, ap, ◌∙◌, sym, refl, arith, to_z, of_z, w32}
 use Rattle.std.specs.Prelude.{slice_get}
 use Rattle.std.proofs.lemmas.Int.{to_z-of_z}
 use Rattle.janus_meaning.specs.Fault.{Fine, Bad, Broken, and_then}
 use Rattle.janus_meaning.specs.Syntax.{Name}
 use Rattle.janus_meaning.specs.Store.{number, Num, Stk}
+use Rattle.janus_meaning.specs.Limit.{value_limit}
+use Rattle.janus_store.specs.StoreState.{values_lent, values_held}
 use Rattle.janus_store.specs.Stores.{write}
 use Rattle.janus_evaluation.proofs.Transfers.{pushed_pair, number_there, values_there, number_still, push_full, push_fine, below_limit}
 use Rattle.janus_evaluation.proofs.transfer.push.Goals as goal
@@ -13,7 +15,8 @@ get-requires g c =
     let x = string_bytes c.args.variable.now.text in
     let y = string_bytes c.args.stack.now.text in
     let s = c.args.store.now.sight in
-    let b = pushed_pair x y s c.requires.safe in
+    let others = values_lent c.args.store.now.callers in
+    let b = pushed_pair others x y s c.requires.safe in
     (x, Num b.number, c.requires.variable, number_there x y s b)
 
 pub unreachable-requires : goal.unreachable-requires
@@ -21,34 +24,32 @@ unreachable-requires g c =
     let x = string_bytes c.args.variable.now.text in
     let y = string_bytes c.args.stack.now.text in
     let s = c.args.store.now.sight in
-    let b = pushed_pair x y s c.requires.safe in
+    let others = values_lent c.args.store.now.callers in
+    let b = pushed_pair others x y s c.requires.safe in
     let z : Bad Broken ≡ Fine b.number = c.in_default.ensures x c.requires.variable ∙ ap (λ r. and_then r number) (number_there x y s b) in
     cc
-
-pub is_full-requires : goal.is_full-requires
-is_full-requires g c =
-    let x = string_bytes c.args.variable.now.text in
-    let y = string_bytes c.args.stack.now.text in
-    let s = c.args.store.now.sight in
-    let b = pushed_pair x y s c.requires.safe in
-    (y, c.requires.stack, (b.values, values_there x y s b))
 
 pub returns-then-is_full-clause-done : goal.returns-then-is_full-clause-done
 returns-then-is_full-clause-done g c =
     let x = string_bytes c.args.variable.now.text in
     let y = string_bytes c.args.stack.now.text in
     let s = c.args.store.now.sight in
-    let b = pushed_pair x y s c.requires.safe in
-    (push_full x y s b ((c.is_full.ensures y b.values c.requires.stack (values_there x y s b)).0 c.if-is_full.true), refl)
+    let others = values_lent c.args.store.now.callers in
+    let b = pushed_pair others x y s c.requires.safe in
+    let full : value_limit ≤ values_held c.args.store.now = c.is_full.ensures.0 c.if-is_full.true in
+    (push_full others x y s b (omega (arith, full)), refl)
 
-pub push-requires : goal.push-requires
-push-requires g c =
+pub push-requires-clause-stack : goal.push-requires-clause-stack
+push-requires-clause-stack g c =
     let x = string_bytes c.args.variable.now.text in
     let y = string_bytes c.args.stack.now.text in
     let s = c.args.store.now.sight in
-    let b = pushed_pair x y s c.requires.safe in
-    let l = values_there x y s b in
-    (y, c.requires.stack, (b.values, l, below_limit b.values c.is_full.result c.if-is_full.false (c.is_full.ensures y b.values c.requires.stack l).1))
+    let others = values_lent c.args.store.now.callers in
+    let b = pushed_pair others x y s c.requires.safe in
+    (y, c.requires.stack, (b.values, values_there x y s b))
+
+pub push-requires-clause-room : goal.push-requires-clause-room
+push-requires-clause-room g c = below_limit (values_held c.args.store.now) c.is_full.result c.if-is_full.false c.is_full.ensures.1
 
 pub set-requires : goal.set-requires
 set-requires g c =
@@ -56,7 +57,8 @@ set-requires g c =
     let y = string_bytes c.args.stack.now.text in
     let s = c.args.store.now.sight in
     let r = c.push.new.self.sight in
-    let b = pushed_pair x y s c.requires.safe in
+    let others = values_lent c.args.store.now.callers in
+    let b = pushed_pair others x y s c.requires.safe in
     let l = values_there x y s b in
     (x, ap (λ (xs : List Name). slice_get xs c.args.variable.now.number) c.push.ensures.shape.names ∙ c.requires.variable, (b.number, number_still x y s b _ r (c.push.ensures.written y b.values c.requires.stack l)))
 
@@ -66,7 +68,8 @@ returns-clause-done g c =
     let y = string_bytes c.args.stack.now.text in
     let s = c.args.store.now.sight in
     let r = c.push.new.self.sight in
-    let b = pushed_pair x y s c.requires.safe in
+    let others = values_lent c.args.store.now.callers in
+    let b = pushed_pair others x y s c.requires.safe in
     let l = values_there x y s b in
     let at = ap (λ (xs : List Name). slice_get xs c.args.variable.now.number) c.push.ensures.shape.names ∙ c.requires.variable in
     let n : ℤ = c.in-Some.number in
@@ -74,4 +77,5 @@ returns-clause-done g c =
     let same : n ≡ b.number = cc in
     let z : to_z w32 (of_z w32 n) ≡ n = grind (arith, to_z-of_z) in
     let written : write y (Stk (b.number ∷ b.values)) s ≡ Fine r = ap (λ m. write y (Stk (m ∷ b.values)) s) (sym (z ∙ same)) ∙ c.push.ensures.written y b.values c.requires.stack l in
-    push_fine x y s b r c.set.new.self.sight (below_limit b.values c.is_full.result c.if-is_full.false (c.is_full.ensures y b.values c.requires.stack l).1) written (c.set.ensures.written x at)
+    let room : values_held c.args.store.now < value_limit = below_limit (values_held c.args.store.now) c.is_full.result c.if-is_full.false c.is_full.ensures.1 in
+    push_fine others x y s b r c.set.new.self.sight (omega (arith, room)) written (c.set.ensures.written x at)

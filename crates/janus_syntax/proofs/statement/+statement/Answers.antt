@@ -8,7 +8,7 @@ use Rattle.janus_syntax.specs.declared.fault.What.TheVariants as what
 use Rattle.janus_syntax.specs.Forms.{Local}
 use Rattle.janus_syntax.specs.Grammar.{Expected}
 use Rattle.janus_syntax.specs.Reading.{FailsPart}
-use Rattle.janus_syntax.specs.Statements.{IsStmOrOther, FailsStm, IsAssignment, FailsAssignment, left}
+use Rattle.janus_syntax.specs.Statements.{IsStmOrOther, FailsStm, IsBehindTarget, FailsBehindTarget, left}
 use Rattle.janus_syntax.proofs.Steps.{first_token, passes_on}
 use Rattle.janus_syntax.proofs.StatementSteps.{if_stops_then, if_stops_body, if_stops_else, from_stops_do, from_stops_loop}
 use Rattle.janus_syntax.proofs.Assignments.{name_begins, name_stops}
@@ -125,12 +125,12 @@ statement-returns-in_err-stm-in-Name t c =
     let p = err_from_is_err_and c.from_residual-in_err-stm-in-Name.result c.from_residual-in_err-stm-in-Name.ensures.1 in
     let e = first_token c.args.tokens.now c.in-Some.rest.now c.in-Some.first.now (kinds.Name c.in-Name.text) c.in-Some.ensures.cases c.in-Name.is in
     rw (p.1, p.2) (passes_on _ _ c.in_err-stm-in-Name.field-0.0 c.in_err-stm-in-Name.ensures
-    (λ out f. subst (λ ts. FailsStm c.args.depth ts out) (sym e) (name_stops _ c.in-Some.first.now.span c.args.depth (views c.in-Some.rest.now) out c.requires (subst (λ y. FailsAssignment c.args.depth (named y c.in-Some.first.now.span) (views c.in-Some.rest.now) out) c.in_ok-clone-in-Name.ensures.cases f))))
+    (λ out f. subst (λ ts. FailsStm c.args.depth ts out) (sym e) (name_stops _ c.in-Some.first.now.span c.args.depth (views c.in-Some.rest.now) out c.requires (subst (λ y. FailsBehindTarget c.args.depth (named y c.in-Some.first.now.span) (views c.in-Some.rest.now) out) c.in_ok-clone-in-Name.ensures.cases f))))
 
 pub statement-returns-in_ok-stm-in-Name : goal.statement-returns-in_ok-stm-in-Name
 statement-returns-in_ok-stm-in-Name t c =
     let e = first_token c.args.tokens.now c.in-Some.rest.now c.in-Some.first.now (kinds.Name c.in-Name.text) c.in-Some.ensures.cases c.in-Name.is in
-    rw e (name_begins _ _ c.requires (subst (λ y. IsAssignment c.args.depth (named y c.in-Some.first.now.span) (stm_view c.in_ok-stm-in-Name.stm) (views c.in-Some.rest.now) (views c.in_ok-stm-in-Name.rest.now)) c.in_ok-clone-in-Name.ensures.cases c.in_ok-stm-in-Name.ensures))
+    rw e (name_begins _ _ c.requires (subst (λ y. IsBehindTarget c.args.depth (named y c.in-Some.first.now.span) (stm_view c.in_ok-stm-in-Name.stm) (views c.in-Some.rest.now) (views c.in_ok-stm-in-Name.rest.now)) c.in_ok-clone-in-Name.ensures.cases c.in_ok-stm-in-Name.ensures))
 
 pub statement-returns-in_err-stm-in-Keyword : goal.statement-returns-in_err-stm-in-Keyword
 statement-returns-in_err-stm-in-Keyword t c =

@@ -1,22 +1,24 @@
-use Rattle.std.proofs.Common.{◌≡◌, ◌+◌, ◌<◌, suc, List, [], ◌∷◌, ◌++◌, length, length-append, refl, ap, ◌∙◌, sym, subst, arith}
-use Rattle.std.specs.Prelude.{slice_get, slice_set, slice_index_or, reverse}
-use Rattle.janus_meaning.specs.Store.{Slot}
+use Rattle.std.proofs.Common.{◌≡◌, ◌+◌, ◌<◌, suc, List, [], ◌∷◌, ◌++◌, length, length-append, refl, ap, ◌∙◌, sym, subst, arith, ◌≤◌, ℤ}
+use Rattle.std.specs.Prelude.{slice_get, slice_set, slice_index_or, reverse, pos}
+use Rattle.janus_meaning.specs.Store.{Slot, held_by}
 use Rattle.janus_meaning.specs.Limit.{live_stack_limit}
 use Rattle.janus_meaning.specs.World.{size_of, stacks_in}
 use Rattle.cell_pool.specs.Chains.{times}
 use Rattle.janus_names.specs.Numbers.{IsNumbered}
-use Rattle.janus_store.specs.StoreState.{StoreState, IsWhole, live_stacks, stacks_lent}
-use Rattle.janus_store.specs.Inside.{held_in, stacks_of, IsHeld}
-use Rattle.janus_store.specs.Values.{val_in, number_in, first_of}
+use Rattle.janus_store.specs.StoreState.{StoreState, IsWhole, live_stacks, stacks_lent, values_held}
+use Rattle.janus_store.specs.Inside.{held_in, stacks_of, IsHeld, holdings}
+use Rattle.janus_store.specs.Values.{val_at, val_in, number_in, first_of, Holdings}
 use Rattle.janus_store.specs.declared.store.Variable.{Variable}
 use Rattle.janus_store.proofs.Rows.{read_at}
 use Rattle.janus_store.proofs.Numbers.{name_of_number, within_names}
-use Rattle.janus_store.proofs.Counted.{is_ready}
+use Rattle.janus_store.proofs.Counted.{is_ready, none_first}
 use Rattle.janus_store.proofs.NameStack.{with_number}
 use Rattle.janus_store.proofs.Owned.{times_append, times_put}
 use Rattle.janus_store.proofs.Laid.{laid_of, as_many}
-use Rattle.janus_store.proofs.Opening.{put_over, put_declared, put_stacks, no_calls, all_declared}
+use Rattle.janus_store.proofs.Opening.{put_over, put_declared, put_stacks, no_calls, all_declared, put_values}
 use Rattle.janus_store.proofs.Sight.{start_low, counted_over}
+use Rattle.janus_store.specs.Stacks.{total}
+use Rattle.janus_store.proofs.Beside.{same_beside, held_longer, last_number}
 use Rattle.janus_store.proofs.store.Store.add.Goals as goal
 
 pub first_value-value-requires : goal.first_value-value-requires
@@ -27,13 +29,13 @@ first_value-value-requires g c =
     let vs = a.variables.items in
     let cs = reverse a.calls.items in
     let h = c.self.invariant.held in
-    let now = held_in a.stacks.lists xs a.declared vs cs in
+    let now = held_in (holdings a) xs a.declared vs cs in
     let sight : now.sight ≡ c.args.self.now.sight = ap (λ (h : StoreState). h.sight) c.self.view_is ∙ ap (λ (h : StoreState). h.sight) c.in_ok-name.ensures.same in
     let declared : a.declared ≡ c.args.self.now.declared = ap (λ (h : StoreState). h.declared) c.self.view_is ∙ ap (λ (h : StoreState). h.declared) c.in_ok-name.ensures.same in
     let callers : now.callers ≡ c.args.self.now.callers = ap (λ (h : StoreState). h.callers) c.self.view_is ∙ ap (λ (h : StoreState). h.callers) c.in_ok-name.ensures.same in
     let names = ap (λ (h : StoreState). h.names) c.self.view_is in
     let whole : IsWhole now = record { declared = declared ∙ c.requires.whole.declared ∙ sym (ap size_of sight); callers = callers ∙ c.requires.whole.callers } in
-    let all : a.declared ≡ length vs = all_declared a.stacks.lists xs ns vs a.declared cs h now refl whole in
+    let all : a.declared ≡ length vs = all_declared (holdings a) xs ns vs a.declared cs h now refl whole in
     let k = c.in_ok-name.name in
     let x = c.args.name.now in
     let named : IsNumbered xs k x = ap (λ l. slice_get l k) names ∙ c.in_ok-name.ensures.number in
@@ -47,13 +49,13 @@ put_own-requires-clause-room g c =
     let vs = a.variables.items in
     let cs = reverse a.calls.items in
     let h = c.self.invariant.held in
-    let now = held_in a.stacks.lists xs a.declared vs cs in
+    let now = held_in (holdings a) xs a.declared vs cs in
     let sight : now.sight ≡ c.args.self.now.sight = ap (λ (h : StoreState). h.sight) c.self.view_is ∙ ap (λ (h : StoreState). h.sight) c.in_ok-name.ensures.same in
     let declared : a.declared ≡ c.args.self.now.declared = ap (λ (h : StoreState). h.declared) c.self.view_is ∙ ap (λ (h : StoreState). h.declared) c.in_ok-name.ensures.same in
     let callers : now.callers ≡ c.args.self.now.callers = ap (λ (h : StoreState). h.callers) c.self.view_is ∙ ap (λ (h : StoreState). h.callers) c.in_ok-name.ensures.same in
     let names = ap (λ (h : StoreState). h.names) c.self.view_is in
     let whole : IsWhole now = record { declared = declared ∙ c.requires.whole.declared ∙ sym (ap size_of sight); callers = callers ∙ c.requires.whole.callers } in
-    let all : a.declared ≡ length vs = all_declared a.stacks.lists xs ns vs a.declared cs h now refl whole in
+    let all : a.declared ≡ length vs = all_declared (holdings a) xs ns vs a.declared cs h now refl whole in
     let k = c.in_ok-name.name in
     let x = c.args.name.now in
     let named : IsNumbered xs k x = ap (λ l. slice_get l k) names ∙ c.in_ok-name.ensures.number in
@@ -67,17 +69,17 @@ put_own-requires-clause-met g c =
     let vs = a.variables.items in
     let cs = reverse a.calls.items in
     let h = c.self.invariant.held in
-    let now = held_in a.stacks.lists xs a.declared vs cs in
+    let now = held_in (holdings a) xs a.declared vs cs in
     let sight : now.sight ≡ c.args.self.now.sight = ap (λ (h : StoreState). h.sight) c.self.view_is ∙ ap (λ (h : StoreState). h.sight) c.in_ok-name.ensures.same in
     let declared : a.declared ≡ c.args.self.now.declared = ap (λ (h : StoreState). h.declared) c.self.view_is ∙ ap (λ (h : StoreState). h.declared) c.in_ok-name.ensures.same in
     let callers : now.callers ≡ c.args.self.now.callers = ap (λ (h : StoreState). h.callers) c.self.view_is ∙ ap (λ (h : StoreState). h.callers) c.in_ok-name.ensures.same in
     let names = ap (λ (h : StoreState). h.names) c.self.view_is in
     let whole : IsWhole now = record { declared = declared ∙ c.requires.whole.declared ∙ sym (ap size_of sight); callers = callers ∙ c.requires.whole.callers } in
-    let all : a.declared ≡ length vs = all_declared a.stacks.lists xs ns vs a.declared cs h now refl whole in
+    let all : a.declared ≡ length vs = all_declared (holdings a) xs ns vs a.declared cs h now refl whole in
     let k = c.in_ok-name.name in
     let x = c.args.name.now in
     let named : IsNumbered xs k x = ap (λ l. slice_get l k) names ∙ c.in_ok-name.ensures.number in
-    omega (arith, within_names xs k x named, as_many xs ns vs (laid_of a.stacks.lists xs ns vs a.declared cs h), a.newest.ok.0)
+    omega (arith, within_names xs k x named, as_many xs ns vs (laid_of (holdings a) xs ns vs a.declared cs h), a.newest.ok.0)
 
 pub invariant_of-self-2 : goal.invariant_of-self-2
 invariant_of-self-2 g c =
@@ -87,18 +89,28 @@ invariant_of-self-2 g c =
     let vs = a.variables.items in
     let cs = reverse a.calls.items in
     let h = c.self.invariant.held in
-    let now = held_in a.stacks.lists xs a.declared vs cs in
+    let now = held_in (holdings a) xs a.declared vs cs in
     let sight : now.sight ≡ c.args.self.now.sight = ap (λ (h : StoreState). h.sight) c.self.view_is ∙ ap (λ (h : StoreState). h.sight) c.in_ok-name.ensures.same in
     let declared : a.declared ≡ c.args.self.now.declared = ap (λ (h : StoreState). h.declared) c.self.view_is ∙ ap (λ (h : StoreState). h.declared) c.in_ok-name.ensures.same in
     let callers : now.callers ≡ c.args.self.now.callers = ap (λ (h : StoreState). h.callers) c.self.view_is ∙ ap (λ (h : StoreState). h.callers) c.in_ok-name.ensures.same in
     let names = ap (λ (h : StoreState). h.names) c.self.view_is in
     let whole : IsWhole now = record { declared = declared ∙ c.requires.whole.declared ∙ sym (ap size_of sight); callers = callers ∙ c.requires.whole.callers } in
-    let all : a.declared ≡ length vs = all_declared a.stacks.lists xs ns vs a.declared cs h now refl whole in
+    let all : a.declared ≡ length vs = all_declared (holdings a) xs ns vs a.declared cs h now refl whole in
     let k = c.in_ok-name.name in
     let x = c.args.name.now in
     let named : IsNumbered xs k x = ap (λ l. slice_get l k) names ∙ c.in_ok-name.ensures.number in
+    let more = pos 0 ∷ [] in
+    let longer = c.push_reserved.new.self.items in
+    let is : longer ≡ a.numbers.items ++ more = c.push_reserved.ensures.items ∙ ap (λ l. l ++ more) c.reserve-2.ensures.items in
+    let fits : length vs ≤ length a.numbers.items = omega (arith, c.self.invariant.beside) in
+    let over_lists : List (List ℤ) → Holdings = λ ls. record { lists = ls; numbers = longer } in
+    let wide = over_lists a.stacks.lists in
+    let wider : held_in (holdings a) xs a.declared vs cs ≡ held_in wide xs a.declared vs cs = same_beside a.stacks.lists a.numbers.items more longer is xs a.declared vs cs h.nested fits in
+    let held : IsHeld wide xs ns vs a.declared cs = held_longer a.stacks.lists a.numbers.items more longer is xs ns vs a.declared cs fits h in
+    let view : held_in wide xs a.declared vs cs ≡ now = sym wider in
+    let last : slice_index_or longer (length vs) (pos 0) ≡ pos 0 = last_number a.numbers.items longer (pos 0) (length vs) is c.self.invariant.beside in
     let y : Variable = record { name = k; hidden = slice_index_or ns k 0; place = length vs; value = c.first_value-value.result } in
-    let at = read_at ns k (omega (arith, within_names xs k x named, as_many xs ns vs (laid_of a.stacks.lists xs ns vs a.declared cs h))) in
+    let at = read_at ns k (omega (arith, within_names xs k x named, as_many xs ns vs (laid_of (holdings a) xs ns vs a.declared cs h))) in
     let ms = c.put_own.new.newest.items in
     let ws = c.put_own.new.variables.items in
     let place : length c.reserve.new.self.items ≡ length vs = ap length c.reserve.ensures.items in
@@ -108,24 +120,37 @@ invariant_of-self-2 g c =
     let lists = c.first_value-value.ensures.lists in
     let spare = c.first_value-value.ensures.spare in
     record {
-      held = subst (λ ls. IsHeld ls xs ms ws (a.declared + 1) cs) (sym lists)
-          (put_declared a.stacks.lists xs ns vs a.declared cs h y refl at ms ws newest vars (no_calls a.stacks.lists xs ns vs a.declared cs h now refl whole) all (a.declared + 1) (omega arith));
+      held = subst (λ ls. IsHeld (over_lists ls) xs ms ws (a.declared + 1) cs) (sym lists)
+          (put_declared wide xs ns vs a.declared cs held y refl at ms ws newest vars (no_calls (holdings a) xs ns vs a.declared cs h now refl whole) all (a.declared + 1) (omega arith));
       stacks = omega (
         arith,
-        ap (λ ls. live_stacks (held_in ls xs a.declared ws cs)) lists,
-        put_stacks a.stacks.lists xs ns vs a.declared cs h y refl at ms ws newest vars now refl,
-        with_number a.stacks.lists y.value (live_stacks now),
+        ap (λ ls. live_stacks (held_in (over_lists ls) xs a.declared ws cs)) lists,
+        put_stacks wide xs ns vs a.declared cs held y refl at ms ws newest vars now view,
+        with_number a.stacks.lists (slice_index_or longer (length vs) (pos 0)) y.value (live_stacks now),
         ap length spare,
         length-append left (number_in y.value),
         c.self.invariant.stacks,
       );
+      values = omega (
+        arith,
+        ap (λ ls. values_held (held_in (over_lists ls) xs a.declared ws cs)) lists,
+        put_values wide xs ns vs a.declared cs held y refl at ms ws newest vars now view,
+        ap (λ ls. held_by (val_in ls (slice_index_or longer (length vs) (pos 0)) y.value)) lists,
+        ap (λ n. held_by (val_in c.first_value-value.new.stacks.lists n y.value)) last,
+        ap held_by c.first_value-value.ensures.value,
+        none_first c.args.declared,
+        ap total lists,
+        c.self.invariant.values,
+      );
       apart = λ i. let z = times_put i vs y in let w = ap (λ (l : List Variable). times i (stacks_of l)) vars in let b = ap (times i) spare in let t = times_append i left (number_in y.value) in let o = c.self.invariant.apart i in omega (arith, z, w, b, t, o);
       known = λ i le. let z = times_put i vs y in let w = ap (λ (l : List Variable). times i (stacks_of l)) vars in let b = ap (times i) spare in let t = times_append i left (number_in y.value) in let o = c.self.invariant.known i le in omega (arith, z, w, b, t, o);
+      beside = omega (arith, ap length is, length-append a.numbers.items more, ap length vars, length-append vs (y ∷ []), c.self.invariant.beside);
       room = omega (arith, all, c.in_ok-reserve.ensures.ok, c.reserve.new.self.ok.0, place, c.put_own.ensures.room);
+      numbers_room = omega (arith, all, c.in_ok-reserve-2.ensures.ok, c.reserve-2.new.self.ok.0, ap length c.reserve-2.ensures.items, c.self.invariant.beside, c.push_reserved.ensures.capacity);
       call_room = c.self.invariant.call_room;
       sorted = c.put_own.ensures.sorted;
-      counted = counted_over vs ws y cs (start_low a.stacks.lists xs ns vs a.declared cs h) vars c.self.invariant.counted;
-      places_room = omega (arith, all, c.in_ok-reserve-2.ensures.ok, c.len.ensures, c.reserve.new.self.ok.0, place, c.put_own.ensures.places_room);
+      counted = counted_over vs ws y cs (start_low (holdings a) xs ns vs a.declared cs h) vars c.self.invariant.counted;
+      places_room = omega (arith, all, c.in_ok-reserve-3.ensures.ok, c.len.ensures, c.reserve.new.self.ok.0, place, c.put_own.ensures.places_room);
       in_front = c.self.invariant.in_front;
     }
 
@@ -137,30 +162,41 @@ returns-clause-ok g c =
     let vs = a.variables.items in
     let cs = reverse a.calls.items in
     let h = c.self.invariant.held in
-    let now = held_in a.stacks.lists xs a.declared vs cs in
+    let now = held_in (holdings a) xs a.declared vs cs in
     let sight : now.sight ≡ c.args.self.now.sight = ap (λ (h : StoreState). h.sight) c.self.view_is ∙ ap (λ (h : StoreState). h.sight) c.in_ok-name.ensures.same in
     let declared : a.declared ≡ c.args.self.now.declared = ap (λ (h : StoreState). h.declared) c.self.view_is ∙ ap (λ (h : StoreState). h.declared) c.in_ok-name.ensures.same in
     let callers : now.callers ≡ c.args.self.now.callers = ap (λ (h : StoreState). h.callers) c.self.view_is ∙ ap (λ (h : StoreState). h.callers) c.in_ok-name.ensures.same in
     let names = ap (λ (h : StoreState). h.names) c.self.view_is in
     let whole : IsWhole now = record { declared = declared ∙ c.requires.whole.declared ∙ sym (ap size_of sight); callers = callers ∙ c.requires.whole.callers } in
-    let all : a.declared ≡ length vs = all_declared a.stacks.lists xs ns vs a.declared cs h now refl whole in
+    let all : a.declared ≡ length vs = all_declared (holdings a) xs ns vs a.declared cs h now refl whole in
     let k = c.in_ok-name.name in
     let x = c.args.name.now in
     let named : IsNumbered xs k x = ap (λ l. slice_get l k) names ∙ c.in_ok-name.ensures.number in
+    let more = pos 0 ∷ [] in
+    let longer = c.push_reserved.new.self.items in
+    let is : longer ≡ a.numbers.items ++ more = c.push_reserved.ensures.items ∙ ap (λ l. l ++ more) c.reserve-2.ensures.items in
+    let fits : length vs ≤ length a.numbers.items = omega (arith, c.self.invariant.beside) in
+    let over_lists : List (List ℤ) → Holdings = λ ls. record { lists = ls; numbers = longer } in
+    let wide = over_lists a.stacks.lists in
+    let wider : held_in (holdings a) xs a.declared vs cs ≡ held_in wide xs a.declared vs cs = same_beside a.stacks.lists a.numbers.items more longer is xs a.declared vs cs h.nested fits in
+    let held : IsHeld wide xs ns vs a.declared cs = held_longer a.stacks.lists a.numbers.items more longer is xs ns vs a.declared cs fits h in
+    let view : held_in wide xs a.declared vs cs ≡ now = sym wider in
+    let last : slice_index_or longer (length vs) (pos 0) ≡ pos 0 = last_number a.numbers.items longer (pos 0) (length vs) is c.self.invariant.beside in
     let y : Variable = record { name = k; hidden = slice_index_or ns k 0; place = length vs; value = c.first_value-value.result } in
-    let at = read_at ns k (omega (arith, within_names xs k x named, as_many xs ns vs (laid_of a.stacks.lists xs ns vs a.declared cs h))) in
+    let at = read_at ns k (omega (arith, within_names xs k x named, as_many xs ns vs (laid_of (holdings a) xs ns vs a.declared cs h))) in
     let ms = c.put_own.new.newest.items in
     let ws = c.put_own.new.variables.items in
     let place : length c.reserve.new.self.items ≡ length vs = ap length c.reserve.ensures.items in
     let vars : ws ≡ vs ++ y ∷ [] = c.put_own.ensures.variables ∙ ap (λ (l : List Variable). l ++ record { name = k; hidden = slice_index_or ns k 0; place = length l; value = c.first_value-value.result } ∷ []) c.reserve.ensures.items in
     let newest = c.put_own.ensures.newest ∙ ap (λ (l : List Variable). slice_set ns k (suc (length l))) c.reserve.ensures.items in
     let on = c.in_ok-name.ensures.goes_on in
-    let over = put_over a.stacks.lists xs ns vs a.declared cs h y refl at ms ws newest vars now refl in
+    let over = put_over wide xs ns vs a.declared cs held y refl at ms ws newest vars now view in
     let lists = c.first_value-value.ensures.lists in
     record {
-      sight = ap (λ ls. (held_in ls xs a.declared ws cs).sight) lists ∙ ap (λ (h : StoreState). h.sight) over ∙ ap (λ x. Slot x (val_in a.stacks.lists y.value) now.sight) (name_of_number xs k x y named refl)
-          ∙ ap (λ ls. Slot x (val_in ls y.value) now.sight) (sym lists) ∙ ap (λ v. Slot x v now.sight) c.first_value-value.ensures.value ∙ ap (Slot x (first_of c.args.declared)) sight;
+      sight = ap (λ ls. (held_in (over_lists ls) xs a.declared ws cs).sight) lists ∙ ap (λ (h : StoreState). h.sight) over ∙ ap (λ x. Slot x (val_at wide (length vs) y.value) now.sight) (name_of_number xs k x y named refl)
+          ∙ ap (λ ls. Slot x (val_in ls (slice_index_or longer (length vs) (pos 0)) y.value) now.sight) (sym lists)
+          ∙ ap (λ n. Slot x (val_in c.first_value-value.new.stacks.lists n y.value) now.sight) last ∙ ap (λ v. Slot x v now.sight) c.first_value-value.ensures.value ∙ ap (Slot x (first_of c.args.declared)) sight;
       declared = omega (arith, declared);
       names = (on.0, names ∙ on.1);
-      callers = ap (λ ls. (held_in ls xs a.declared ws cs).callers) lists ∙ ap (λ (h : StoreState). h.callers) over ∙ callers;
+      callers = ap (λ ls. (held_in (over_lists ls) xs a.declared ws cs).callers) lists ∙ ap (λ (h : StoreState). h.callers) over ∙ callers;
     }

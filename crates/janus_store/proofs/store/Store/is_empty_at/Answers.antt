@@ -1,10 +1,10 @@
 use Rattle.std.proofs.Common.{◌≡◌, ◌+◌, ℤ, List, [], ◌∷◌, length, nat_eq, refl, ap, ◌∙◌, sym, arith}
-use Rattle.std.specs.Prelude.{slice_get, Some, reverse}
+use Rattle.std.specs.Prelude.{slice_get, Some, reverse, slice_index_or, pos}
 use Rattle.std.proofs.lemmas.Option.{slice_get_read}
 use Rattle.std.proofs.Math.Dec.{eqb-suc-zero}
 use Rattle.janus_meaning.specs.Fault.{Fine}
 use Rattle.janus_meaning.specs.Value.{is_none}
-use Rattle.janus_store.specs.Inside.{IsStackOf}
+use Rattle.janus_store.specs.Inside.{IsStackOf, holdings}
 use Rattle.janus_store.specs.Places.{lengths_before}
 use Rattle.janus_store.specs.declared.places.Kind.TheVariants as kinds
 use Rattle.janus_store.specs.declared.places.Lengths.{Lengths}
@@ -27,7 +27,7 @@ nth-place-requires g c =
     let h = c.self.invariant.held in
     let H = c.args.self.now in
     let told = c.self.invariant.in_front in
-    let t = nth_there a.stacks.lists xs ns vs a.declared cs h a.places c.self.invariant.sorted c.self.invariant.counted H c.self.view_is kinds.Stack c.args.k c.requires.0 c.requires.1 in
+    let t = nth_there (holdings a) xs ns vs a.declared cs h a.places c.self.invariant.sorted c.self.invariant.counted H c.self.view_is kinds.Stack c.args.k c.requires.0 c.requires.1 in
     (t.0, ap (λ l. slice_get l (a.in_front.stacks + c.args.k)) c.stacks.ensures ∙ ap (λ (ls : Lengths). slice_get a.places.stacks (ls.stacks + c.args.k)) told ∙ t.1)
 
 pub index-requires : goal.index-requires
@@ -42,8 +42,8 @@ index-requires g c =
     let told = c.self.invariant.in_front in
     let p = c.nth-place.result in
     let e : slice_get a.places.stacks ((lengths_before cs).stacks + c.args.k) ≡ Some p = ap (λ (ls : Lengths). slice_get a.places.stacks (ls.stacks + c.args.k)) (sym told) ∙ ap (λ l. slice_get l (a.in_front.stacks + c.args.k)) (sym c.stacks.ensures) ∙ c.nth-place.ensures in
-    let r = nth_found a.stacks.lists xs ns vs a.declared cs h a.places c.self.invariant.sorted c.self.invariant.counted H c.self.view_is kinds.Stack c.args.k c.requires.0 c.requires.1 p e in
-    omega (arith, place_fits a.stacks.lists xs ns vs a.declared cs h H c.self.view_is r.number c.requires.0 r.value p r.named r.seen r.place, a.variables.ok.0)
+    let r = nth_found (holdings a) xs ns vs a.declared cs h a.places c.self.invariant.sorted c.self.invariant.counted H c.self.view_is kinds.Stack c.args.k c.requires.0 c.requires.1 p e in
+    omega (arith, place_fits (holdings a) xs ns vs a.declared cs h H c.self.view_is r.number c.requires.0 r.value p r.named r.seen r.place, a.variables.ok.0)
 
 pub stack-requires : goal.stack-requires
 stack-requires g c =
@@ -57,11 +57,11 @@ stack-requires g c =
     let told = c.self.invariant.in_front in
     let p = c.nth-place.result in
     let e : slice_get a.places.stacks ((lengths_before cs).stacks + c.args.k) ≡ Some p = ap (λ (ls : Lengths). slice_get a.places.stacks (ls.stacks + c.args.k)) (sym told) ∙ ap (λ l. slice_get l (a.in_front.stacks + c.args.k)) (sym c.stacks.ensures) ∙ c.nth-place.ensures in
-    let r = nth_found a.stacks.lists xs ns vs a.declared cs h a.places c.self.invariant.sorted c.self.invariant.counted H c.self.view_is kinds.Stack c.args.k c.requires.0 c.requires.1 p e in
+    let r = nth_found (holdings a) xs ns vs a.declared cs h a.places c.self.invariant.sorted c.self.invariant.counted H c.self.view_is kinds.Stack c.args.k c.requires.0 c.requires.1 p e in
     let v = c.index.result.now in
-    let same = value_is a.stacks.lists xs ns vs a.declared cs h H c.self.view_is r.number c.requires.0 r.value p v r.named r.seen r.place c.index.ensures in
+    let same = value_is (holdings a) xs ns vs a.declared cs h H c.self.view_is r.number c.requires.0 r.value p v r.named r.seen r.place c.index.ensures in
     let l = stack_value r.value r.kind in
-    (a.stacks.lists, l.0, same ∙ l.1)
+    (a.stacks.lists, slice_index_or a.numbers.items p (pos 0), l.0, same ∙ l.1)
 
 pub length-requires : goal.length-requires
 length-requires g c =
@@ -75,14 +75,14 @@ length-requires g c =
     let told = c.self.invariant.in_front in
     let p = c.nth-place.result in
     let e : slice_get a.places.stacks ((lengths_before cs).stacks + c.args.k) ≡ Some p = ap (λ (ls : Lengths). slice_get a.places.stacks (ls.stacks + c.args.k)) (sym told) ∙ ap (λ l. slice_get l (a.in_front.stacks + c.args.k)) (sym c.stacks.ensures) ∙ c.nth-place.ensures in
-    let r = nth_found a.stacks.lists xs ns vs a.declared cs h a.places c.self.invariant.sorted c.self.invariant.counted H c.self.view_is kinds.Stack c.args.k c.requires.0 c.requires.1 p e in
+    let r = nth_found (holdings a) xs ns vs a.declared cs h a.places c.self.invariant.sorted c.self.invariant.counted H c.self.view_is kinds.Stack c.args.k c.requires.0 c.requires.1 p e in
     let w = c.index.result.now in
-    let there : slice_get vs p ≡ Some w = slice_get_read vs (length vs) p w refl (place_fits a.stacks.lists xs ns vs a.declared cs h H c.self.view_is r.number c.requires.0 r.value p r.named r.seen r.place) c.index.ensures in
+    let there : slice_get vs p ≡ Some w = slice_get_read vs (length vs) p w refl (place_fits (holdings a) xs ns vs a.declared cs h H c.self.view_is r.number c.requires.0 r.value p r.named r.seen r.place) c.index.ensures in
     let i = c.stack.result in
     let s : IsStackOf ns vs r.number i = (p, w, r.place, there, c.stack.ensures) in
     let l = stack_value r.value r.kind in
     let seen = r.seen ∙ ap Fine l.1 in
-    stack_low a.stacks.lists xs ns vs a.declared cs h H c.self.view_is r.number c.requires.0 l.0 r.named seen i s (λ j le. let o = c.self.invariant.known j le in omega (arith, o))
+    stack_low (holdings a) xs ns vs a.declared cs h H c.self.view_is r.number c.requires.0 l.0 r.named seen i s (λ j le. let o = c.self.invariant.known j le in omega (arith, o))
 
 pub returns : goal.returns
 returns g c = λ x l nth f.
@@ -96,10 +96,10 @@ returns g c = λ x l nth f.
     let told = c.self.invariant.in_front in
     let p = c.nth-place.result in
     let e : slice_get a.places.stacks ((lengths_before cs).stacks + c.args.k) ≡ Some p = ap (λ (ls : Lengths). slice_get a.places.stacks (ls.stacks + c.args.k)) (sym told) ∙ ap (λ l. slice_get l (a.in_front.stacks + c.args.k)) (sym c.stacks.ensures) ∙ c.nth-place.ensures in
-    let r = nth_found a.stacks.lists xs ns vs a.declared cs h a.places c.self.invariant.sorted c.self.invariant.counted H c.self.view_is kinds.Stack c.args.k x nth p e in
+    let r = nth_found (holdings a) xs ns vs a.declared cs h a.places c.self.invariant.sorted c.self.invariant.counted H c.self.view_is kinds.Stack c.args.k x nth p e in
     let w = c.index.result.now in
-    let there : slice_get vs p ≡ Some w = slice_get_read vs (length vs) p w refl (place_fits a.stacks.lists xs ns vs a.declared cs h H c.self.view_is r.number x r.value p r.named r.seen r.place) c.index.ensures in
+    let there : slice_get vs p ≡ Some w = slice_get_read vs (length vs) p w refl (place_fits (holdings a) xs ns vs a.declared cs h H c.self.view_is r.number x r.value p r.named r.seen r.place) c.index.ensures in
     let i = c.stack.result in
     let s : IsStackOf ns vs r.number i = (p, w, r.place, there, c.stack.ensures) in
-    let at = list_is a.stacks.lists xs ns vs a.declared cs h H c.self.view_is r.number x l r.named f i s in
+    let at = list_is (holdings a) xs ns vs a.declared cs h H c.self.view_is r.number x l r.named f i s in
     ap (λ n. nat_eq n 0) (c.length.ensures ∙ ap length at) ∙ none_is l

@@ -1,44 +1,8 @@
-use Rattle.std.proofs.Common.{◌≤◌, length, sym, subst, arith}
-use Rattle.std.specs.Prelude.{IsTrue, ◌↔◌, reverse}
-use Rattle.janus_meaning.specs.Limit.{stack_limit}
-use Rattle.janus_store.proofs.NameStack.{lent_stack, has_stack, list_is, stack_low}
+use Rattle.std.proofs.Common.{◌≤◌, ap, ◌∙◌, subst}
+use Rattle.std.specs.Prelude.{IsTrue, ◌↔◌}
+use Rattle.janus_meaning.specs.Limit.{value_limit}
+use Rattle.janus_store.specs.StoreState.{values_held}
 use Rattle.janus_store.proofs.store.Store.is_full.Goals as goal
 
-pub stack-requires : goal.stack-requires
-stack-requires g c =
-    let a = c.self.inside in
-    let xs = a.names in
-    let ns = a.newest.items in
-    let vs = a.variables.items in
-    let cs = reverse a.calls.items in
-    let h = c.self.invariant.held in
-    let H = c.args.self.now in
-    let s = has_stack a.stacks.lists xs ns vs a.declared cs h H c.self.view_is c.args.name c.requires.0 c.requires.2.0 c.requires.1 c.requires.2.1 in
-    (s.0, lent_stack ns c.deref.result.now vs c.deref-2.result.now c.args.name s.0 c.deref.ensures.value c.deref-2.ensures.value s.1)
-
-pub is_full-requires : goal.is_full-requires
-is_full-requires g c =
-    let a = c.self.inside in
-    let xs = a.names in
-    let ns = a.newest.items in
-    let vs = a.variables.items in
-    let cs = reverse a.calls.items in
-    let h = c.self.invariant.held in
-    let H = c.args.self.now in
-    let i = c.stack.result in
-    let s = lent_stack c.deref.result.now ns c.deref-2.result.now vs c.args.name i (sym c.deref.ensures.value) (sym c.deref-2.ensures.value) c.stack.ensures in
-    stack_low a.stacks.lists xs ns vs a.declared cs h H c.self.view_is c.args.name c.requires.0 c.requires.2.0 c.requires.1 c.requires.2.1 i s (λ j le. let o = c.self.invariant.known j le in omega (arith, o))
-
 pub returns : goal.returns
-returns g c = λ x l named f.
-    let a = c.self.inside in
-    let xs = a.names in
-    let ns = a.newest.items in
-    let vs = a.variables.items in
-    let cs = reverse a.calls.items in
-    let h = c.self.invariant.held in
-    let H = c.args.self.now in
-    let i = c.stack.result in
-    let s = lent_stack c.deref.result.now ns c.deref-2.result.now vs c.args.name i (sym c.deref.ensures.value) (sym c.deref-2.ensures.value) c.stack.ensures in
-    let at = list_is a.stacks.lists xs ns vs a.declared cs h H c.self.view_is c.args.name x l named f i s in
-    subst (λ l. IsTrue c.is_full.result ↔ (stack_limit ≤ length l)) at c.is_full.ensures
+returns g c = subst (λ n. IsTrue c.is_full.result ↔ (value_limit ≤ n)) (c.self.invariant.values ∙ ap values_held c.self.view_is) c.is_full.ensures

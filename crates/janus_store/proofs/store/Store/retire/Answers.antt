@@ -1,12 +1,12 @@
-use Rattle.std.proofs.Common.{◌≡◌, ◌-◌, suc, [], ◌∷◌, length, length-append, refl, ap, ◌∙◌, sym, subst, arith}
-use Rattle.std.specs.Prelude.{reverse}
-use Rattle.janus_meaning.specs.Store.{Slot, cleared_val}
+use Rattle.std.proofs.Common.{◌≡◌, ◌-◌, suc, [], ◌∷◌, length, length-append, refl, ap, ◌∙◌, sym, subst, arith, ◌≤◌, ℤ, List, ◌++◌, take, drop}
+use Rattle.std.specs.Prelude.{reverse, slice_index_or, pos}
+use Rattle.janus_meaning.specs.Store.{Slot, cleared_val, held_by}
 use Rattle.janus_meaning.specs.World.{size_of, stacks_in, stacks_with}
-use Rattle.janus_store.specs.StoreState.{StoreState, live_stacks, stacks_lent}
+use Rattle.janus_store.specs.StoreState.{StoreState, live_stacks, stacks_lent, values_held}
 use Rattle.cell_pool.specs.Chains.{times}
-use Rattle.janus_store.specs.Inside.{held_in, name_among, IsHeld}
-use Rattle.janus_store.specs.Stacks.{Pooled}
-use Rattle.janus_store.specs.Values.{val_in, number_in}
+use Rattle.janus_store.specs.Inside.{held_in, name_among, IsHeld, holdings}
+use Rattle.janus_store.specs.Stacks.{Pooled, total}
+use Rattle.janus_store.specs.Values.{val_at, number_in, Holdings}
 use Rattle.janus_store.proofs.NameStack.{with_number}
 use Rattle.janus_store.proofs.Owned.{times_append, times_left}
 use Rattle.janus_store.proofs.Laid.{laid_of, as_many, met, held_is}
@@ -15,9 +15,12 @@ use Rattle.janus_store.proofs.Opening.{more_stacks, left_over, left_held}
 use Rattle.janus_store.proofs.Opening.{no_calls, base_alone, start_alone, all_declared, outermost_alone}
 use Rattle.janus_store.specs.Stores.{rest_of}
 use Rattle.std.specs.Prelude.{slice_set}
-use Rattle.janus_store.proofs.Opening.{left_place}
+use Rattle.janus_store.proofs.Opening.{left_place, left_nested}
 use Rattle.janus_store.specs.Inside.{bounds}
+use Rattle.std.proofs.lemmas.List.{take-append-drop, length-take-le}
+use Rattle.janus_store.proofs.Beside.{same_beside, held_shorter}
 use Rattle.janus_store.proofs.Sight.{start_of, counted_under}
+use Rattle.janus_store.proofs.Counted.{none_cleared}
 use Rattle.janus_store.proofs.store.Store.retire.Goals as goal
 
 pub remove_own-value-requires-clause-met : goal.remove_own-value-requires-clause-met
@@ -29,7 +32,7 @@ remove_own-value-requires-clause-met g c = λ i v e.
     let cs = reverse a.calls.items in
     let h = c.self.invariant.held in
     let H = c.args.self.now in
-    let l = laid_of a.stacks.lists xs ns vs a.declared cs h in
+    let l = laid_of (holdings a) xs ns vs a.declared cs h in
     omega (arith, met xs ns vs l i v e, as_many xs ns vs l, a.newest.ok.0)
 
 pub remove_own-value-requires-clause-own : goal.remove_own-value-requires-clause-own
@@ -41,10 +44,10 @@ remove_own-value-requires-clause-own g c = λ ws y gone.
     let cs = reverse a.calls.items in
     let h = c.self.invariant.held in
     let H = c.args.self.now in
-    let alone = no_calls a.stacks.lists xs ns vs a.declared cs h H c.self.view_is c.requires.whole in
+    let alone = no_calls (holdings a) xs ns vs a.declared cs h H c.self.view_is c.requires.whole in
     let above = base_alone xs ws cs alone in
     let over = start_alone xs ws cs alone in
-    left_place a.stacks.lists xs ns vs a.declared cs h y (slice_set ns y.name y.hidden) ws gone refl above over
+    left_place (holdings a) xs ns vs a.declared cs h y (slice_set ns y.name y.hidden) ws gone refl above over
 
 pub remove_own-value-requires-clause-some : goal.remove_own-value-requires-clause-some
 remove_own-value-requires-clause-some g c =
@@ -55,7 +58,7 @@ remove_own-value-requires-clause-some g c =
     let cs = reverse a.calls.items in
     let h = c.self.invariant.held in
     let H = c.args.self.now in
-    omega (arith, names_are_held a.stacks.lists xs ns vs a.declared cs h H c.self.view_is, a.variables.ok.0, ap size_of c.requires.first.3)
+    omega (arith, names_are_held (holdings a) xs ns vs a.declared cs h H c.self.view_is, a.variables.ok.0, ap size_of c.requires.first.3)
 
 pub take_back-requires-clause-first : goal.take_back-requires-clause-first
 take_back-requires-clause-first g c =
@@ -71,16 +74,16 @@ take_back-requires-clause-first g c =
     let ws = c.remove_own-value.new.variables.items in
     let gone = c.remove_own-value.ensures.variables in
     let newest = c.remove_own-value.ensures.newest in
-    let alone = no_calls a.stacks.lists xs ns vs a.declared cs h H c.self.view_is c.requires.whole in
+    let alone = no_calls (holdings a) xs ns vs a.declared cs h H c.self.view_is c.requires.whole in
     let above = base_alone xs ws cs alone in
     let over = start_alone xs ws cs alone in
-    let was = left_over a.stacks.lists xs ns vs a.declared cs h y ms ws gone newest above over H c.self.view_is in
-    let left = held_in a.stacks.lists xs a.declared ws cs in
-    let top : H.sight ≡ Slot (name_among xs y) (val_in a.stacks.lists y.value) left.sight = ap (λ (h : StoreState). h.sight) was in
+    let was = left_over (holdings a) xs ns vs a.declared cs h y ms ws gone newest above over H c.self.view_is in
+    let left = held_in (holdings a) xs a.declared ws cs in
+    let top : H.sight ≡ Slot (name_among xs y) (val_at (holdings a) (length ws) y.value) left.sight = ap (λ (h : StoreState). h.sight) was in
     let e = c.requires.first in
-    let both : Slot (name_among xs y) (val_in a.stacks.lists y.value) left.sight ≡ Slot e.0 e.1 e.2 = sym top ∙ e.3 in
-    let same : val_in a.stacks.lists y.value ≡ e.1 = cc in
-    subst (λ v. cleared_val v ≡ v) (sym same) e.4
+    let both : Slot (name_among xs y) (val_at (holdings a) (length ws) y.value) left.sight ≡ Slot e.0 e.1 e.2 = sym top ∙ e.3 in
+    let same : val_at (holdings a) (length ws) y.value ≡ e.1 = cc in
+    (slice_index_or a.numbers.items (length ws) (pos 0), subst (λ v. cleared_val v ≡ v) (sym same) e.4)
 
 pub take_back-requires-clause-room : goal.take_back-requires-clause-room
 take_back-requires-clause-room g c =
@@ -96,14 +99,14 @@ take_back-requires-clause-room g c =
     let ws = c.remove_own-value.new.variables.items in
     let gone = c.remove_own-value.ensures.variables in
     let newest = c.remove_own-value.ensures.newest in
-    let alone = no_calls a.stacks.lists xs ns vs a.declared cs h H c.self.view_is c.requires.whole in
+    let alone = no_calls (holdings a) xs ns vs a.declared cs h H c.self.view_is c.requires.whole in
     let above = base_alone xs ws cs alone in
     let over = start_alone xs ws cs alone in
-    let was = left_over a.stacks.lists xs ns vs a.declared cs h y ms ws gone newest above over H c.self.view_is in
-    let left = held_in a.stacks.lists xs a.declared ws cs in
-    let top : H.sight ≡ Slot (name_among xs y) (val_in a.stacks.lists y.value) left.sight = ap (λ (h : StoreState). h.sight) was in
-    let slots : live_stacks H ≡ stacks_with (val_in a.stacks.lists y.value) (live_stacks left) = ap live_stacks was ∙ more_stacks (val_in a.stacks.lists y.value) (stacks_in left.sight) (stacks_lent left.callers) in
-    omega (arith, with_number a.stacks.lists y.value (live_stacks left), slots, c.self.invariant.stacks, ap live_stacks c.self.view_is)
+    let was = left_over (holdings a) xs ns vs a.declared cs h y ms ws gone newest above over H c.self.view_is in
+    let left = held_in (holdings a) xs a.declared ws cs in
+    let top : H.sight ≡ Slot (name_among xs y) (val_at (holdings a) (length ws) y.value) left.sight = ap (λ (h : StoreState). h.sight) was in
+    let slots : live_stacks H ≡ stacks_with (val_at (holdings a) (length ws) y.value) (live_stacks left) = ap live_stacks was ∙ more_stacks (val_at (holdings a) (length ws) y.value) (stacks_in left.sight) (stacks_lent left.callers) in
+    omega (arith, with_number a.stacks.lists (slice_index_or a.numbers.items (length ws) (pos 0)) y.value (live_stacks left), slots, c.self.invariant.stacks, ap live_stacks c.self.view_is)
 
 pub invariant_of-self : goal.invariant_of-self
 invariant_of-self g c =
@@ -119,24 +122,43 @@ invariant_of-self g c =
     let ws = c.remove_own-value.new.variables.items in
     let gone = c.remove_own-value.ensures.variables in
     let newest = c.remove_own-value.ensures.newest in
-    let alone = no_calls a.stacks.lists xs ns vs a.declared cs h H c.self.view_is c.requires.whole in
+    let alone = no_calls (holdings a) xs ns vs a.declared cs h H c.self.view_is c.requires.whole in
     let above = base_alone xs ws cs alone in
     let over = start_alone xs ws cs alone in
-    let was = left_over a.stacks.lists xs ns vs a.declared cs h y ms ws gone newest above over H c.self.view_is in
-    let left = held_in a.stacks.lists xs a.declared ws cs in
-    let top : H.sight ≡ Slot (name_among xs y) (val_in a.stacks.lists y.value) left.sight = ap (λ (h : StoreState). h.sight) was in
-    let slots : live_stacks H ≡ stacks_with (val_in a.stacks.lists y.value) (live_stacks left) = ap live_stacks was ∙ more_stacks (val_in a.stacks.lists y.value) (stacks_in left.sight) (stacks_lent left.callers) in
-    let all : a.declared ≡ length vs = all_declared a.stacks.lists xs ns vs a.declared cs h H c.self.view_is c.requires.whole in
+    let was = left_over (holdings a) xs ns vs a.declared cs h y ms ws gone newest above over H c.self.view_is in
+    let few = c.truncate.new.self.items in
+    let n = c.len.result in
+    let cut : few ≡ take n a.numbers.items = c.truncate.ensures.items in
+    let more = drop n a.numbers.items in
+    let tail : a.numbers.items ≡ few ++ more = sym (ap (λ l. l ++ drop n a.numbers.items) cut ∙ take-append-drop n a.numbers.items) in
+    let is_long : n ≡ length ws = omega (arith, c.len.ensures, c.remove_own-value.new.variables.ok.0) in
+    let was_long : length vs ≡ suc (length ws) = omega (arith, ap length gone, length-append ws (y ∷ [])) in
+    let few_long : length few ≡ length ws = omega (arith, ap length cut, length-take-le n a.numbers.items (omega (arith, is_long, was_long, c.self.invariant.beside)), is_long) in
+    let fits : length ws ≤ length few = omega (arith, few_long) in
+    let on : List (List ℤ) → Holdings = λ ls. record { lists = ls; numbers = few } in
+    let nested = left_nested (holdings a) xs ns vs a.declared cs h y ms ws gone newest above over in
+    let shorter : held_in (on a.stacks.lists) xs a.declared ws cs ≡ held_in (holdings a) xs a.declared ws cs = same_beside a.stacks.lists few more a.numbers.items tail xs a.declared ws cs nested fits in
+    let left = held_in (holdings a) xs a.declared ws cs in
+    let top : H.sight ≡ Slot (name_among xs y) (val_at (holdings a) (length ws) y.value) left.sight = ap (λ (h : StoreState). h.sight) was in
+    let slots : live_stacks H ≡ stacks_with (val_at (holdings a) (length ws) y.value) (live_stacks left) = ap live_stacks was ∙ more_stacks (val_at (holdings a) (length ws) y.value) (stacks_in left.sight) (stacks_lent left.callers) in
+    let all : a.declared ≡ length vs = all_declared (holdings a) xs ns vs a.declared cs h H c.self.view_is c.requires.whole in
     let long : length vs ≡ suc (length ws) = omega (arith, ap length gone, length-append ws (y ∷ [])) in
     let lists = ap (λ (s : Pooled). s.lists) c.take_back.ensures in
     let spare = ap (λ (s : Pooled). s.spare) c.take_back.ensures in
+    let e = c.requires.first in
+    let both : Slot (name_among xs y) (val_at (holdings a) (length ws) y.value) left.sight ≡ Slot e.0 e.1 e.2 = sym top ∙ e.3 in
+    let same : val_at (holdings a) (length ws) y.value ≡ e.1 = cc in
+    let none : held_by (val_at (holdings a) (length ws) y.value) ≡ 0 = none_cleared (val_at (holdings a) (length ws) y.value) (subst (λ v. cleared_val v ≡ v) (sym same) e.4) in
     record {
-      held = subst (λ ls. IsHeld ls xs ms ws (a.declared - 1) cs) (sym lists)
-          (left_held a.stacks.lists xs ns vs a.declared cs h y ms ws gone newest above over (a.declared - 1) (omega arith) (omega (arith, all, long, outermost_alone (length ws) cs alone)) (omega (arith, all, long)));
-      stacks = omega (arith, ap (λ ls. live_stacks (held_in ls xs a.declared ws cs)) lists, with_number a.stacks.lists y.value (live_stacks left), ap length spare, length-append a.stacks.spare (number_in y.value), slots, c.self.invariant.stacks, ap live_stacks c.self.view_is);
+      held = subst (λ ls. IsHeld (on ls) xs ms ws (a.declared - 1) cs) (sym lists)
+          (held_shorter a.stacks.lists few more a.numbers.items tail xs ms ws (a.declared - 1) cs fits (left_held (holdings a) xs ns vs a.declared cs h y ms ws gone newest above over (a.declared - 1) (omega arith) (omega (arith, all, long, outermost_alone (length ws) cs alone)) (omega (arith, all, long))));
+      stacks = omega (arith, ap live_stacks shorter, ap (λ ls. live_stacks (held_in (on ls) xs a.declared ws cs)) lists, with_number a.stacks.lists (slice_index_or a.numbers.items (length ws) (pos 0)) y.value (live_stacks left), ap length spare, length-append a.stacks.spare (number_in y.value), slots, c.self.invariant.stacks, ap live_stacks c.self.view_is);
+      values = omega (arith, ap values_held shorter, ap (λ ls. values_held (held_in (on ls) xs a.declared ws cs)) lists, ap total lists, c.self.invariant.values, ap values_held c.self.view_is, ap values_held was, none);
       apart = λ i. let z = times_left vs ws y gone i in let w = ap (times i) spare in let t = times_append i a.stacks.spare (number_in y.value) in let o = c.self.invariant.apart i in omega (arith, z, w, t, o);
       known = λ i le. let z = times_left vs ws y gone i in let w = ap (times i) spare in let t = times_append i a.stacks.spare (number_in y.value) in let o = c.self.invariant.known i le in omega (arith, z, w, t, o);
+      beside = few_long;
       room = omega (arith, c.self.invariant.room, c.remove_own-value.ensures.room);
+      numbers_room = omega (arith, c.self.invariant.numbers_room, c.truncate.ensures.capacity);
       call_room = c.self.invariant.call_room;
       sorted = c.remove_own-value.ensures.sorted;
       counted = counted_under vs ws y cs (omega (arith, over, start_of (bounds xs [] ws) (length ws) cs)) gone c.self.invariant.counted;
@@ -158,14 +180,26 @@ returns g c =
     let ws = c.remove_own-value.new.variables.items in
     let gone = c.remove_own-value.ensures.variables in
     let newest = c.remove_own-value.ensures.newest in
-    let alone = no_calls a.stacks.lists xs ns vs a.declared cs h H c.self.view_is c.requires.whole in
+    let alone = no_calls (holdings a) xs ns vs a.declared cs h H c.self.view_is c.requires.whole in
     let above = base_alone xs ws cs alone in
     let over = start_alone xs ws cs alone in
-    let was = left_over a.stacks.lists xs ns vs a.declared cs h y ms ws gone newest above over H c.self.view_is in
-    let left = held_in a.stacks.lists xs a.declared ws cs in
-    let top : H.sight ≡ Slot (name_among xs y) (val_in a.stacks.lists y.value) left.sight = ap (λ (h : StoreState). h.sight) was in
+    let was = left_over (holdings a) xs ns vs a.declared cs h y ms ws gone newest above over H c.self.view_is in
+    let few = c.truncate.new.self.items in
+    let n = c.len.result in
+    let cut : few ≡ take n a.numbers.items = c.truncate.ensures.items in
+    let more = drop n a.numbers.items in
+    let tail : a.numbers.items ≡ few ++ more = sym (ap (λ l. l ++ drop n a.numbers.items) cut ∙ take-append-drop n a.numbers.items) in
+    let is_long : n ≡ length ws = omega (arith, c.len.ensures, c.remove_own-value.new.variables.ok.0) in
+    let was_long : length vs ≡ suc (length ws) = omega (arith, ap length gone, length-append ws (y ∷ [])) in
+    let few_long : length few ≡ length ws = omega (arith, ap length cut, length-take-le n a.numbers.items (omega (arith, is_long, was_long, c.self.invariant.beside)), is_long) in
+    let fits : length ws ≤ length few = omega (arith, few_long) in
+    let on : List (List ℤ) → Holdings = λ ls. record { lists = ls; numbers = few } in
+    let nested = left_nested (holdings a) xs ns vs a.declared cs h y ms ws gone newest above over in
+    let shorter : held_in (on a.stacks.lists) xs (a.declared - 1) ws cs ≡ held_in (holdings a) xs (a.declared - 1) ws cs = same_beside a.stacks.lists few more a.numbers.items tail xs (a.declared - 1) ws cs nested fits in
+    let left = held_in (holdings a) xs a.declared ws cs in
+    let top : H.sight ≡ Slot (name_among xs y) (val_at (holdings a) (length ws) y.value) left.sight = ap (λ (h : StoreState). h.sight) was in
     let lists = ap (λ (s : Pooled). s.lists) c.take_back.ensures in
-    ap (λ ls. held_in ls xs (a.declared - 1) ws cs) lists ∙ held_is _ _ (sym (ap rest_of top)) (ap (λ (h : StoreState). h.declared - 1) c.self.view_is) (ap (λ (h : StoreState). h.names) c.self.view_is) (sym (ap (λ (h : StoreState). h.callers) was) ∙ c.requires.whole.callers)
+    ap (λ ls. held_in (on ls) xs (a.declared - 1) ws cs) lists ∙ shorter ∙ held_is _ _ (sym (ap rest_of top)) (ap (λ (h : StoreState). h.declared - 1) c.self.view_is) (ap (λ (h : StoreState). h.names) c.self.view_is) (sym (ap (λ (h : StoreState). h.callers) was) ∙ c.requires.whole.callers)
 
 pub overflow_sub-self : goal.overflow_sub-self
 overflow_sub-self g c =
@@ -181,11 +215,11 @@ overflow_sub-self g c =
     let ws = c.remove_own-value.new.variables.items in
     let gone = c.remove_own-value.ensures.variables in
     let newest = c.remove_own-value.ensures.newest in
-    let alone = no_calls a.stacks.lists xs ns vs a.declared cs h H c.self.view_is c.requires.whole in
+    let alone = no_calls (holdings a) xs ns vs a.declared cs h H c.self.view_is c.requires.whole in
     let above = base_alone xs ws cs alone in
     let over = start_alone xs ws cs alone in
-    let was = left_over a.stacks.lists xs ns vs a.declared cs h y ms ws gone newest above over H c.self.view_is in
-    let left = held_in a.stacks.lists xs a.declared ws cs in
-    let top : H.sight ≡ Slot (name_among xs y) (val_in a.stacks.lists y.value) left.sight = ap (λ (h : StoreState). h.sight) was in
-    let all : a.declared ≡ length vs = all_declared a.stacks.lists xs ns vs a.declared cs h H c.self.view_is c.requires.whole in
+    let was = left_over (holdings a) xs ns vs a.declared cs h y ms ws gone newest above over H c.self.view_is in
+    let left = held_in (holdings a) xs a.declared ws cs in
+    let top : H.sight ≡ Slot (name_among xs y) (val_at (holdings a) (length ws) y.value) left.sight = ap (λ (h : StoreState). h.sight) was in
+    let all : a.declared ≡ length vs = all_declared (holdings a) xs ns vs a.declared cs h H c.self.view_is c.requires.whole in
     omega (arith, all, ap length gone, length-append ws (y ∷ []))

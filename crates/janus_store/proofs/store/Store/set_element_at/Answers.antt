@@ -1,19 +1,21 @@
 use Rattle.std.proofs.Common.{◌≡◌, ◌+◌, length, refl, ap, ◌∙◌, sym, subst, arith, w32, to_z, of_z}
-use Rattle.std.specs.Prelude.{slice_get, Some, reverse}
+use Rattle.std.specs.Prelude.{slice_get, Some, reverse, slice_index_or, pos}
 use Rattle.std.proofs.lemmas.Int.{to_z-of_z}
 use Rattle.std.proofs.lemmas.Option.{slice_get_read}
 use Rattle.cell_pool.specs.Chains.{times}
-use Rattle.janus_meaning.specs.Store.{element, set_element, cleared_val, Arr}
+use Rattle.janus_meaning.specs.Store.{element, set_element, cleared_val, Arr, held_by}
 use Rattle.janus_store.specs.Places.{lengths_before, AreSorted, AreCounted}
-use Rattle.janus_store.specs.StoreState.{live_stacks}
+use Rattle.janus_store.specs.StoreState.{live_stacks, values_held}
 use Rattle.janus_store.specs.Stores.{write}
-use Rattle.janus_store.specs.Values.{val_in}
+use Rattle.janus_store.specs.Values.{val_at}
 use Rattle.janus_store.specs.declared.places.Kind.TheVariants as kinds
 use Rattle.janus_store.specs.declared.places.Lengths.{Lengths}
+use Rattle.janus_store.specs.Inside.{holdings}
+use Rattle.std.proofs.lemmas.List.{length-set}
 use Rattle.janus_store.proofs.Marks.{marks_set, same_shape}
 use Rattle.janus_store.proofs.Nth.{nth_there, nth_found}
 use Rattle.janus_store.proofs.Owned.{stacks_written}
-use Rattle.janus_store.proofs.Standing.{place_fits, value_is, set_written, set_held, set_like, set_stacks}
+use Rattle.janus_store.proofs.Standing.{place_fits, value_is, set_written, set_held, set_like, set_stacks, set_values}
 use Rattle.janus_store.proofs.store.Store.set_element_at.Goals as goal
 
 pub nth-place-requires : goal.nth-place-requires
@@ -26,7 +28,7 @@ nth-place-requires g c =
     let h = c.self.invariant.held in
     let H = c.args.self.now in
     let told = c.self.invariant.in_front in
-    let t = nth_there a.stacks.lists xs ns vs a.declared cs h a.places c.self.invariant.sorted c.self.invariant.counted H c.self.view_is kinds.Array c.args.k c.requires.0 c.requires.1 in
+    let t = nth_there (holdings a) xs ns vs a.declared cs h a.places c.self.invariant.sorted c.self.invariant.counted H c.self.view_is kinds.Array c.args.k c.requires.0 c.requires.1 in
     (t.0, ap (λ l. slice_get l (a.in_front.arrays + c.args.k)) c.arrays.ensures ∙ ap (λ (ls : Lengths). slice_get a.places.arrays (ls.arrays + c.args.k)) told ∙ t.1)
 
 pub index_mut-requires : goal.index_mut-requires
@@ -40,9 +42,10 @@ index_mut-requires g c =
     let H = c.args.self.now in
     let told = c.self.invariant.in_front in
     let p = c.nth-place.result in
+    let b = slice_index_or a.numbers.items p (pos 0) in
     let e : slice_get a.places.arrays ((lengths_before cs).arrays + c.args.k) ≡ Some p = ap (λ (ls : Lengths). slice_get a.places.arrays (ls.arrays + c.args.k)) (sym told) ∙ ap (λ l. slice_get l (a.in_front.arrays + c.args.k)) (sym c.arrays.ensures) ∙ c.nth-place.ensures in
-    let r = nth_found a.stacks.lists xs ns vs a.declared cs h a.places c.self.invariant.sorted c.self.invariant.counted H c.self.view_is kinds.Array c.args.k c.requires.0 c.requires.1 p e in
-    omega (arith, place_fits a.stacks.lists xs ns vs a.declared cs h H c.self.view_is r.number c.requires.0 r.value p r.named r.seen r.place, a.variables.ok.0)
+    let r = nth_found (holdings a) xs ns vs a.declared cs h a.places c.self.invariant.sorted c.self.invariant.counted H c.self.view_is kinds.Array c.args.k c.requires.0 c.requires.1 p e in
+    omega (arith, place_fits (holdings a) xs ns vs a.declared cs h H c.self.view_is r.number c.requires.0 r.value p r.named r.seen r.place, a.variables.ok.0)
 
 pub set_element-requires : goal.set_element-requires
 set_element-requires g c =
@@ -55,12 +58,13 @@ set_element-requires g c =
     let H = c.args.self.now in
     let told = c.self.invariant.in_front in
     let p = c.nth-place.result in
+    let b = slice_index_or a.numbers.items p (pos 0) in
     let e : slice_get a.places.arrays ((lengths_before cs).arrays + c.args.k) ≡ Some p = ap (λ (ls : Lengths). slice_get a.places.arrays (ls.arrays + c.args.k)) (sym told) ∙ ap (λ l. slice_get l (a.in_front.arrays + c.args.k)) (sym c.arrays.ensures) ∙ c.nth-place.ensures in
-    let r = nth_found a.stacks.lists xs ns vs a.declared cs h a.places c.self.invariant.sorted c.self.invariant.counted H c.self.view_is kinds.Array c.args.k c.requires.0 c.requires.1 p e in
+    let r = nth_found (holdings a) xs ns vs a.declared cs h a.places c.self.invariant.sorted c.self.invariant.counted H c.self.view_is kinds.Array c.args.k c.requires.0 c.requires.1 p e in
     let v = c.index_mut.result.now in
     let read = c.index_mut.ensures.value in
-    let same = value_is a.stacks.lists xs ns vs a.declared cs h H c.self.view_is r.number c.requires.0 (Arr c.requires.2.0) p v r.named c.requires.2.2 r.place read in
-    (a.stacks.lists, (c.requires.2.0, c.requires.2.1, same, ap (element c.requires.2.0) (to_z-of_z w32 c.args.index c.ranges.index) ∙ c.requires.2.3))
+    let same = value_is (holdings a) xs ns vs a.declared cs h H c.self.view_is r.number c.requires.0 (Arr c.requires.2.0) p v r.named c.requires.2.2 r.place read in
+    (a.stacks.lists, b, (c.requires.2.0, c.requires.2.1, same, ap (element c.requires.2.0) (to_z-of_z w32 c.args.index c.ranges.index) ∙ c.requires.2.3))
 
 pub invariant_of-self : goal.invariant_of-self
 invariant_of-self g c =
@@ -73,22 +77,26 @@ invariant_of-self g c =
     let H = c.args.self.now in
     let told = c.self.invariant.in_front in
     let p = c.nth-place.result in
+    let b = slice_index_or a.numbers.items p (pos 0) in
     let e : slice_get a.places.arrays ((lengths_before cs).arrays + c.args.k) ≡ Some p = ap (λ (ls : Lengths). slice_get a.places.arrays (ls.arrays + c.args.k)) (sym told) ∙ ap (λ l. slice_get l (a.in_front.arrays + c.args.k)) (sym c.arrays.ensures) ∙ c.nth-place.ensures in
-    let r = nth_found a.stacks.lists xs ns vs a.declared cs h a.places c.self.invariant.sorted c.self.invariant.counted H c.self.view_is kinds.Array c.args.k c.requires.0 c.requires.1 p e in
+    let r = nth_found (holdings a) xs ns vs a.declared cs h a.places c.self.invariant.sorted c.self.invariant.counted H c.self.view_is kinds.Array c.args.k c.requires.0 c.requires.1 p e in
     let v = c.index_mut.result.now in
     let read = c.index_mut.ensures.value in
     let new = c.set_element.new.self in
-    let same = value_is a.stacks.lists xs ns vs a.declared cs h H c.self.view_is r.number c.requires.0 (Arr c.requires.2.0) p v r.named c.requires.2.2 r.place read in
-    let shape : cleared_val (val_in a.stacks.lists new) ≡ cleared_val (Arr c.requires.2.0) = c.set_element.ensures.extent a.stacks.lists ∙ ap cleared_val same in
-    let there : slice_get vs p ≡ Some v = slice_get_read vs (length vs) p v refl (place_fits a.stacks.lists xs ns vs a.declared cs h H c.self.view_is r.number c.requires.0 (Arr c.requires.2.0) p r.named c.requires.2.2 r.place) read in
+    let same = value_is (holdings a) xs ns vs a.declared cs h H c.self.view_is r.number c.requires.0 (Arr c.requires.2.0) p v r.named c.requires.2.2 r.place read in
+    let shape : cleared_val (val_at (holdings a) p new) ≡ cleared_val (Arr c.requires.2.0) = c.set_element.ensures.extent a.stacks.lists b ∙ ap cleared_val same in
+    let there : slice_get vs p ≡ Some v = slice_get_read vs (length vs) p v refl (place_fits (holdings a) xs ns vs a.declared cs h H c.self.view_is r.number c.requires.0 (Arr c.requires.2.0) p r.named c.requires.2.2 r.place) read in
     let keep = stacks_written vs p v (record { name = v.name; hidden = v.hidden; place = v.place; value = new }) there c.set_element.ensures.stack in
-    let marks = marks_set vs p v (record { name = v.name; hidden = v.hidden; place = v.place; value = new }) there refl (same_shape a.stacks.lists a.stacks.lists v.value new (shape ∙ sym (ap cleared_val same))) in
+    let marks = marks_set vs p v (record { name = v.name; hidden = v.hidden; place = v.place; value = new }) there refl (same_shape a.stacks.lists b v.value new (shape ∙ sym (ap cleared_val same))) in
     record {
-      held = set_held a.stacks.lists xs ns vs a.declared cs h H c.self.view_is r.number c.requires.0 (Arr c.requires.2.0) p v r.named c.requires.2.2 r.place read a.stacks.lists (λ j ne. refl) new;
-      stacks = omega (arith, c.self.invariant.stacks, ap live_stacks c.self.view_is, set_stacks a.stacks.lists xs ns vs a.declared cs h H c.self.view_is r.number c.requires.0 (Arr c.requires.2.0) p v r.named c.requires.2.2 r.place read a.stacks.lists (λ j ne. refl) new shape);
+      held = set_held (holdings a) xs ns vs a.declared cs h H c.self.view_is r.number c.requires.0 (Arr c.requires.2.0) p v r.named c.requires.2.2 r.place read (holdings a) (λ j ne. refl) new;
+      stacks = omega (arith, c.self.invariant.stacks, ap live_stacks c.self.view_is, set_stacks (holdings a) xs ns vs a.declared cs h H c.self.view_is r.number c.requires.0 (Arr c.requires.2.0) p v r.named c.requires.2.2 r.place read (holdings a) (λ j ne. refl) new shape);
+      values = omega (arith, c.self.invariant.values, ap values_held c.self.view_is, set_values (holdings a) xs ns vs a.declared cs h H c.self.view_is r.number c.requires.0 (Arr c.requires.2.0) p v r.named c.requires.2.2 r.place read (holdings a) (λ j ne. refl) new, ap held_by (c.set_element.ensures.written a.stacks.lists b c.requires.2.0 same));
       apart = λ i. let z = ap (times i) keep in let o = c.self.invariant.apart i in omega (arith, z, o);
       known = λ i le. let z = ap (times i) keep in let o = c.self.invariant.known i le in omega (arith, z, o);
+      beside = c.self.invariant.beside ∙ sym (length-set vs p (record { name = v.name; hidden = v.hidden; place = v.place; value = new }));
       room = c.self.invariant.room;
+      numbers_room = c.self.invariant.numbers_room;
       call_room = c.self.invariant.call_room;
       sorted = subst (AreSorted a.places) (sym marks) c.self.invariant.sorted;
       counted = subst (λ l. AreCounted l cs) (sym marks) c.self.invariant.counted;
@@ -107,14 +115,15 @@ returns-clause-shape g c =
     let H = c.args.self.now in
     let told = c.self.invariant.in_front in
     let p = c.nth-place.result in
+    let b = slice_index_or a.numbers.items p (pos 0) in
     let e : slice_get a.places.arrays ((lengths_before cs).arrays + c.args.k) ≡ Some p = ap (λ (ls : Lengths). slice_get a.places.arrays (ls.arrays + c.args.k)) (sym told) ∙ ap (λ l. slice_get l (a.in_front.arrays + c.args.k)) (sym c.arrays.ensures) ∙ c.nth-place.ensures in
-    let r = nth_found a.stacks.lists xs ns vs a.declared cs h a.places c.self.invariant.sorted c.self.invariant.counted H c.self.view_is kinds.Array c.args.k c.requires.0 c.requires.1 p e in
+    let r = nth_found (holdings a) xs ns vs a.declared cs h a.places c.self.invariant.sorted c.self.invariant.counted H c.self.view_is kinds.Array c.args.k c.requires.0 c.requires.1 p e in
     let v = c.index_mut.result.now in
     let read = c.index_mut.ensures.value in
     let new = c.set_element.new.self in
-    let same = value_is a.stacks.lists xs ns vs a.declared cs h H c.self.view_is r.number c.requires.0 (Arr c.requires.2.0) p v r.named c.requires.2.2 r.place read in
-    let shape : cleared_val (val_in a.stacks.lists new) ≡ cleared_val (Arr c.requires.2.0) = c.set_element.ensures.extent a.stacks.lists ∙ ap cleared_val same in
-    set_like a.stacks.lists xs ns vs a.declared cs h H c.self.view_is r.number c.requires.0 (Arr c.requires.2.0) p v r.named c.requires.2.2 r.place read a.stacks.lists (λ j ne. refl) new shape
+    let same = value_is (holdings a) xs ns vs a.declared cs h H c.self.view_is r.number c.requires.0 (Arr c.requires.2.0) p v r.named c.requires.2.2 r.place read in
+    let shape : cleared_val (val_at (holdings a) p new) ≡ cleared_val (Arr c.requires.2.0) = c.set_element.ensures.extent a.stacks.lists b ∙ ap cleared_val same in
+    set_like (holdings a) xs ns vs a.declared cs h H c.self.view_is r.number c.requires.0 (Arr c.requires.2.0) p v r.named c.requires.2.2 r.place read (holdings a) (λ j ne. refl) new shape
 
 pub returns-clause-written : goal.returns-clause-written
 returns-clause-written g c = λ x l nth k.
@@ -127,12 +136,13 @@ returns-clause-written g c = λ x l nth k.
     let H = c.args.self.now in
     let told = c.self.invariant.in_front in
     let p = c.nth-place.result in
+    let b = slice_index_or a.numbers.items p (pos 0) in
     let e : slice_get a.places.arrays ((lengths_before cs).arrays + c.args.k) ≡ Some p = ap (λ (ls : Lengths). slice_get a.places.arrays (ls.arrays + c.args.k)) (sym told) ∙ ap (λ l. slice_get l (a.in_front.arrays + c.args.k)) (sym c.arrays.ensures) ∙ c.nth-place.ensures in
-    let r = nth_found a.stacks.lists xs ns vs a.declared cs h a.places c.self.invariant.sorted c.self.invariant.counted H c.self.view_is kinds.Array c.args.k x nth p e in
+    let r = nth_found (holdings a) xs ns vs a.declared cs h a.places c.self.invariant.sorted c.self.invariant.counted H c.self.view_is kinds.Array c.args.k x nth p e in
     let v = c.index_mut.result.now in
     let read = c.index_mut.ensures.value in
     let new = c.set_element.new.self in
-    let same = value_is a.stacks.lists xs ns vs a.declared cs h H c.self.view_is r.number x (Arr l) p v r.named k r.place read in
+    let same = value_is (holdings a) xs ns vs a.declared cs h H c.self.view_is r.number x (Arr l) p v r.named k r.place read in
     ap (λ n. write x (Arr (set_element l n c.args.number)) H.sight) (sym (to_z-of_z w32 c.args.index c.ranges.index))
     ∙ ap (λ n. write x (Arr (set_element l (to_z w32 (of_z w32 c.args.index)) n)) H.sight) (sym (to_z-of_z w32 c.args.number c.ranges.number))
-    ∙ ap (λ u. write x u H.sight) (sym (c.set_element.ensures.written a.stacks.lists l same)) ∙ set_written a.stacks.lists xs ns vs a.declared cs h H c.self.view_is r.number x (Arr l) p v r.named k r.place read a.stacks.lists (λ j ne. refl) new
+    ∙ ap (λ u. write x u H.sight) (sym (c.set_element.ensures.written a.stacks.lists b l same)) ∙ set_written (holdings a) xs ns vs a.declared cs h H c.self.view_is r.number x (Arr l) p v r.named k r.place read (holdings a) (λ j ne. refl) new

@@ -2,6 +2,7 @@ use Rattle.std.proofs.Common.{ap, ◌∙◌, sym, arith}
 use Rattle.std.specs.Prelude.{slice_get, reverse}
 use Rattle.janus_meaning.specs.Fault.{TopEmpty}
 use Rattle.janus_store.specs.Values.{read_or}
+use Rattle.janus_store.specs.Inside.{holdings}
 use Rattle.janus_store.proofs.NameStack.{lent_stack, has_stack, list_is, stack_low, first_is}
 use Rattle.janus_store.proofs.store.Store.top.Goals as goal
 
@@ -14,7 +15,7 @@ stack-requires g c =
     let cs = reverse a.calls.items in
     let h = c.self.invariant.held in
     let H = c.args.self.now in
-    let s = has_stack a.stacks.lists xs ns vs a.declared cs h H c.self.view_is c.args.name c.requires.0 c.requires.2.0 c.requires.1 c.requires.2.1 in
+    let s = has_stack (holdings a) xs ns vs a.declared cs h H c.self.view_is c.args.name c.requires.0 c.requires.2.0 c.requires.1 c.requires.2.1 in
     (s.0, lent_stack ns c.deref.result.now vs c.deref-2.result.now c.args.name s.0 c.deref.ensures.value c.deref-2.ensures.value s.1)
 
 pub top-requires : goal.top-requires
@@ -28,7 +29,7 @@ top-requires g c =
     let H = c.args.self.now in
     let i = c.stack.result in
     let s = lent_stack c.deref.result.now ns c.deref-2.result.now vs c.args.name i (sym c.deref.ensures.value) (sym c.deref-2.ensures.value) c.stack.ensures in
-    stack_low a.stacks.lists xs ns vs a.declared cs h H c.self.view_is c.args.name c.requires.0 c.requires.2.0 c.requires.1 c.requires.2.1 i s (λ j le. let o = c.self.invariant.known j le in omega (arith, o))
+    stack_low (holdings a) xs ns vs a.declared cs h H c.self.view_is c.args.name c.requires.0 c.requires.2.0 c.requires.1 c.requires.2.1 i s (λ j le. let o = c.self.invariant.known j le in omega (arith, o))
 
 pub returns : goal.returns
 returns g c = λ x l named f.
@@ -41,5 +42,5 @@ returns g c = λ x l named f.
     let H = c.args.self.now in
     let i = c.stack.result in
     let s = lent_stack c.deref.result.now ns c.deref-2.result.now vs c.args.name i (sym c.deref.ensures.value) (sym c.deref-2.ensures.value) c.stack.ensures in
-    let at = list_is a.stacks.lists xs ns vs a.declared cs h H c.self.view_is c.args.name x l named f i s in
+    let at = list_is (holdings a) xs ns vs a.declared cs h H c.self.view_is c.args.name x l named f i s in
     ap (read_or TopEmpty) (c.top.ensures ∙ ap (λ l. slice_get l 0) at) ∙ first_is l
