@@ -1,16 +1,20 @@
 """Writes a part of tests_replay for tests_calls: a key, and a connection on shell with many requests, signed, as jupyter_client writes them.
 
     python3 benches/requests.py execute 20000 > /tmp/input
+    python3 benches/requests.py loop 3200000 64 > /tmp/input      (a cell of this many steps, in slices of 64; else of 4,096)
     crates/tests_calls/out/tests_calls < /tmp/input > /dev/null
 
 Kinds: execute (x += 1), values (the same with four user expressions), info, complete (a kernel with 256 names, all of which match),
-complete-few (11 of them match), judge (is_complete, over the same kernel), history (65,536 inputs, and then so many questions for the last ten).
+complete-few (11 of them match), judge (is_complete, over the same kernel), history (65,536 inputs, and then so many questions for the last ten),
+loop (one cell).
 """
 import hashlib
 import hmac
 import json
 import sys
 
+# how many steps a turn of the loop takes
+STEPS_OF_A_TURN = 10
 KEY = b"a0436f6c-1916-498b-8eb9-e81ab9368e84"
 SESSION = "af6834cc-5aec85a55bfd8ce5ee1b00a4"
 OPENING = (
@@ -43,6 +47,9 @@ def requests(kind, count):
     names = cell(" ".join(f"int v{i}" for i in range(256)))
     tail = {"raw": True, "output": False, "hist_access_type": "tail", "n": 10}
     four = {name: "x * 2" for name in "abcd"}
+    if kind == "loop":
+        turns = f"from i = 0 do x += i * 3 ^ 5 i += 1 until i = {count // STEPS_OF_A_TURN}"
+        return [("execute_request", cell("int x int i")), ("execute_request", cell(turns))]
     first, each = {
         "execute": ([cell("int x")], ("execute_request", cell("x += 1"))),
         "values": ([cell("int x")], ("execute_request", cell("x += 1", four))),
@@ -55,8 +62,10 @@ def requests(kind, count):
     return [("execute_request", c) for c in first] + [each] * count
 
 
-kind, count = sys.argv[1], int(sys.argv[2])
+kind, count, slice_steps = sys.argv[1], int(sys.argv[2]), int((sys.argv[3:] or [0])[0])
 octets = OPENING + b"".join(message(i, *r) for i, r in enumerate(requests(kind, count)))
 print("== replay")
 print(KEY.decode())
+if slice_steps:
+    print("slices " + f"{slice_steps} go, " * (count // slice_steps))
 print("shell", octets.hex())

@@ -63,10 +63,10 @@ local_stack_part xs s x y v e h =
     let weight = ap stm_weight is in
     record { block = met.1; lighter = omega (arith, weight) }
 
-pub local_int_flat : (x y : code_name.Name) (a b : code_exp.Exp) (z : Name) (f g : flat_exp.FlatExp) (v : Vec code_stm.Stm Global) (s : tree.Blk) → z ≡ name_of x → exp_of f ≡ plain a → exp_of g ≡ plain b → s ≡ block_of v.items → tree.LocalInt z (exp_of f) s (exp_of g) ≡ stm_of (code_stm.LocalInt x a v y b)
-local_int_flat x y a b z f g v s n h i j =
-    ap (λ z. tree.LocalInt z (exp_of f) s (exp_of g)) n
-    ∙ ap (λ e. tree.LocalInt (name_of x) e s (exp_of g)) h
+pub local_int_flat : (xs : List Name) (x y : code_name.Name) (a b : code_exp.Exp) (z : Name) (f g : flat_exp.FlatExp) (v : Vec code_stm.Stm Global) (s : tree.Blk) → z ≡ name_of x → exp_of xs f ≡ plain a → exp_of xs g ≡ plain b → s ≡ block_of v.items → tree.LocalInt z (exp_of xs f) s (exp_of xs g) ≡ stm_of (code_stm.LocalInt x a v y b)
+local_int_flat xs x y a b z f g v s n h i j =
+    ap (λ z. tree.LocalInt z (exp_of xs f) s (exp_of xs g)) n
+    ∙ ap (λ e. tree.LocalInt (name_of x) e s (exp_of xs g)) h
     ∙ ap (tree.LocalInt (name_of x) (plain a) s) i
     ∙ ap (λ s. tree.LocalInt (name_of x) (plain a) s (plain b)) j
     ∙ ap plain_stm (sym (view_local_int x y a b v))
@@ -75,17 +75,17 @@ pub local_stack_flat : (x y : code_name.Name) (z : Name) (v : Vec code_stm.Stm G
 local_stack_flat x y z v s n j =
     ap (λ z. tree.LocalStack z s) n ∙ ap (tree.LocalStack (name_of x)) j ∙ ap plain_stm (sym (view_local_stack x y v))
 
-pub if_flat : (a b : code_exp.Exp) (f g : flat_exp.FlatExp) (v w : Vec code_stm.Stm Global) (s t : tree.Blk) → exp_of f ≡ plain a → exp_of g ≡ plain b → s ≡ block_of v.items → t ≡ block_of w.items → tree.If (exp_of f) s t (exp_of g) ≡ stm_of (code_stm.If a v w b)
-if_flat a b f g v w s t h i j k =
-    ap (λ e. tree.If e s t (exp_of g)) h
+pub if_flat : (xs : List Name) (a b : code_exp.Exp) (f g : flat_exp.FlatExp) (v w : Vec code_stm.Stm Global) (s t : tree.Blk) → exp_of xs f ≡ plain a → exp_of xs g ≡ plain b → s ≡ block_of v.items → t ≡ block_of w.items → tree.If (exp_of xs f) s t (exp_of xs g) ≡ stm_of (code_stm.If a v w b)
+if_flat xs a b f g v w s t h i j k =
+    ap (λ e. tree.If e s t (exp_of xs g)) h
     ∙ ap (tree.If (plain a) s t) i
     ∙ ap (λ s. tree.If (plain a) s t (plain b)) j
     ∙ ap (λ t. tree.If (plain a) (block_of v.items) t (plain b)) k
     ∙ ap plain_stm (sym (view_if a b v w))
 
-pub loop_flat : (a b : code_exp.Exp) (f g : flat_exp.FlatExp) (v w : Vec code_stm.Stm Global) (s t : tree.Blk) → exp_of f ≡ plain a → exp_of g ≡ plain b → s ≡ block_of v.items → t ≡ block_of w.items → tree.From (exp_of f) s t (exp_of g) ≡ stm_of (code_stm.Loop a v w b)
-loop_flat a b f g v w s t h i j k =
-    ap (λ e. tree.From e s t (exp_of g)) h
+pub loop_flat : (xs : List Name) (a b : code_exp.Exp) (f g : flat_exp.FlatExp) (v w : Vec code_stm.Stm Global) (s t : tree.Blk) → exp_of xs f ≡ plain a → exp_of xs g ≡ plain b → s ≡ block_of v.items → t ≡ block_of w.items → tree.From (exp_of xs f) s t (exp_of xs g) ≡ stm_of (code_stm.Loop a v w b)
+loop_flat xs a b f g v w s t h i j k =
+    ap (λ e. tree.From e s t (exp_of xs g)) h
     ∙ ap (tree.From (plain a) s t) i
     ∙ ap (λ s. tree.From (plain a) s t (plain b)) j
     ∙ ap (λ t. tree.From (plain a) (block_of v.items) t (plain b)) k

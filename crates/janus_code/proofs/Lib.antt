@@ -6,4 +6,5 @@ pub mod Meeting
 pub mod Placing
 pub mod Lists
 pub mod ClosedLemmas
+pub mod GoesOn
 pub mod OnePrint

@@ -3,13 +3,8 @@ use Rattle.std.proofs.Common.{List, [], ◌∷◌, ◌++◌}
 use Rattle.janus_meaning.specs.Syntax.{Name}
 use Rattle.janus_code.specs.declared.code.Symbol.{Symbol}
 use Rattle.janus_code.specs.declared.code.FlatParameter.{FlatParameter}
-use Rattle.janus_code.specs.Numbered.{HasItsNumber, HaveTheirNumbers, IsSame, AreSame}
+use Rattle.janus_code.specs.Numbered.{HasItsNumber, HaveTheirNumbers}
 use Rattle.janus_code.specs.Procedures.{ParametersHaveNumbers}
-
-pub same_more : (xs ys : List Symbol) (x y : Symbol) → AreSame xs ys → IsSame x y → AreSame (xs ++ x ∷ []) (ys ++ y ∷ [])
-same_more [] [] x y h e = (e, tt)
-same_more (v ∷ xs) (w ∷ ys) x y h e = (h.0, same_more xs ys x y h.1 e)
-same_more _ _ x y h e = absurd h
 
 pub numbers_more : (xs : List Name) (ys : List Symbol) (y : Symbol) → HaveTheirNumbers xs ys → HasItsNumber xs y → HaveTheirNumbers xs (ys ++ y ∷ [])
 numbers_more xs [] y h e = (e, tt)

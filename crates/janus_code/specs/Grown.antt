@@ -1,5 +1,6 @@
--- Flat code that has grown: the old statements keep their trees, and the old members their places.
+-- Flat code that has grown: the old statements keep their trees, whatever the names are, and the old members their places.
 use Rattle.std.specs.Prelude.{◌≡◌, ℕ, ◌<◌, ◌≤◌, List, length, slice_index_or}
+use Rattle.janus_meaning.specs.Syntax.{Name}
 use Rattle.janus_code.specs.declared.code.Statement.{Statement}
 use Rattle.janus_code.specs.Flat.{tree_at}
 
@@ -7,4 +8,4 @@ pub record Grows (members : List ℕ) (statements : List Statement) (more : List
   pub longer : length members ≤ length more
   pub further : length statements ≤ length all
   pub same : (i : ℕ) → i < length members → slice_index_or more i 0 ≡ slice_index_or members i 0
-  pub trees : (n : ℕ) → n < length statements → tree_at more all n ≡ tree_at members statements n
+  pub trees : (xs : List Name) (n : ℕ) → n < length statements → tree_at xs more all n ≡ tree_at xs members statements n

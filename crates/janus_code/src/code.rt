@@ -4,28 +4,11 @@ ghost use Rattle.janus_code.specs.Flat.{IsDownward, IsDownward-prop};
 
 use janus_check::Kind;
 use janus_syntax::tree::{Operator, Update};
-use std::alloc::AllocError;
 
-/// A name with its number among the names that were met. What runs looks at the number alone.
-#[derive(Drop)]
+/// A name, by its number among the names that were met.
+#[derive(Clone, Copy, Drop)]
 pub struct Symbol {
-    pub text: String,
     pub number: usize,
-}
-
-impl Symbol {
-    ghost use Rattle.std.specs.Prelude.{IfOk};
-    ghost use Rattle.janus_code.specs.Numbered.{IsSame};
-
-    /// The same symbol in memory of its own; an error for want of memory.
-    pub fn copy(&self) -> Result<Symbol, AllocError>
-        ensures { IfOk result (λ copy. IsSame self.now copy) }
-    {
-        Ok(Symbol {
-            text: self.text.clone()?,
-            number: self.number,
-        })
-    }
 }
 
 /// An expression. The right sides of `And` and `Or` are read only where they are needed.

@@ -1,11 +1,11 @@
 //! The names and the expressions of flat code.
 
-ghost use Rattle.std.specs.Prelude.{◌≡◌, IfOk, map, string_bytes};
+ghost use Rattle.std.specs.Prelude.{◌≡◌, IfOk, map};
 ghost use Rattle.janus_names.specs.Numbers.{IsMet};
 ghost use Rattle.janus_syntax.specs.Tree.{names_view};
 ghost use Rattle.janus_syntax.specs.View.{name_of, text_of, exp_of as plain};
-ghost use Rattle.janus_code.specs.Expressions.{exp_of};
-ghost use Rattle.janus_code.specs.Numbered.{HasItsNumber, HaveTheirNumbers, HasNumbers, IsSame, AreSame, IsCopy, texts_of};
+ghost use Rattle.janus_code.specs.Expressions.{exp_of, symbol_name, names_in};
+ghost use Rattle.janus_code.specs.Numbered.{HasItsNumber, HaveTheirNumbers, HasNumbers, IsCopy};
 ghost use Rattle.janus_code.specs.Met.{AreAllMet, MeetsExp};
 
 use crate::code::{FlatExp, Symbol};
@@ -14,112 +14,51 @@ use janus_names::Names;
 use janus_syntax::tree;
 use std::alloc::{AllocError, Global};
 
-/// A name that was met with its number; an error for want of memory.
-pub(crate) fn symbol(names: &Names, name: &tree::Name) -> Result<Symbol, AllocError>
+/// The symbol of a name that was met.
+pub(crate) fn symbol(names: &Names, name: &tree::Name) -> Symbol
     requires { IsMet names.now (name_of name.now) }
-    ensures text { IfOk result (λ symbol. string_bytes symbol.text ≡ name_of name.now) }
-    ensures numbered { IfOk result (λ symbol. HasItsNumber names.now symbol) }
+    ensures name { symbol_name names.now result ≡ name_of name.now }
+    ensures numbered { HasItsNumber names.now result }
 {
     match names.number(&name.text) {
-        Some(number) => Ok(Symbol {
-            text: name.text.clone()?,
-            number,
-        }),
+        Some(number) => Symbol { number },
         None => unreachable!(),
     }
 }
 
-/// Names that were met with their numbers; an error for want of memory.
+/// The symbols of names that were met; an error for want of memory.
 pub(crate) fn symbols(
     alloc: Global,
     names: &Names,
     list: &[tree::Name],
 ) -> Result<Vec<Symbol>, AllocError>
     requires { AreAllMet names.now (map text_of (names_view list.now)) }
-    ensures texts { IfOk result (λ symbols. texts_of symbols.items ≡ map text_of (names_view list.now)) }
+    ensures names { IfOk result (λ symbols. names_in names.now symbols.items ≡ map text_of (names_view list.now)) }
     ensures numbered { IfOk result (λ symbols. HaveTheirNumbers names.now symbols.items) }
 {
     let mut symbols = Vec::new(alloc);
     for i in 0..list.len() {
-        symbols.push(symbol(names, &list[i])?)?;
+        symbols.push(symbol(names, &list[i]))?;
     }
     Ok(symbols)
 }
 
-/// The same symbols in memory of their own; an error for want of memory.
-pub(crate) fn copies(alloc: Global, symbols: &[Symbol]) -> Result<Vec<Symbol>, AllocError>
-    ensures { IfOk result (λ copies. AreSame symbols.now copies.items) }
-{
-    let mut copies = Vec::new(alloc);
-    for i in 0..symbols.len() {
-        copies.push(symbols[i].copy()?)?;
-    }
-    Ok(copies)
-}
-
-/// Two names that were met with their numbers; an error for want of memory.
-pub(crate) fn two_symbols(
-    names: &Names,
-    first: &tree::Name,
-    second: &tree::Name,
-) -> Result<(Symbol, Symbol), AllocError>
-    requires first { IsMet names.now (name_of first.now) }
-    requires second { IsMet names.now (name_of second.now) }
-    ensures texts { IfOk result (λ x. (string_bytes x.0.text ≡ name_of first.now) × (string_bytes x.1.text ≡ name_of second.now)) }
-    ensures numbered { IfOk result (λ x. HasItsNumber names.now x.0 × HasItsNumber names.now x.1) }
-{
-    both(symbol(names, first)?, symbol(names, second))
-}
-
-/// The name of a procedure and those of its arguments, which were met, with their numbers; an error for want of memory.
-pub(crate) fn call_symbols(
-    alloc: Global,
-    names: &Names,
-    called: &tree::Name,
-    arguments: &[tree::Name],
-) -> Result<(Symbol, Vec<Symbol>), AllocError>
-    requires called { IsMet names.now (name_of called.now) }
-    requires arguments { AreAllMet names.now (map text_of (names_view arguments.now)) }
-    ensures texts { IfOk result (λ x. (string_bytes x.0.text ≡ name_of called.now) × (texts_of x.1.items ≡ map text_of (names_view arguments.now))) }
-    ensures numbered { IfOk result (λ x. HasItsNumber names.now x.0 × HaveTheirNumbers names.now x.1.items) }
-{
-    both(symbol(names, called)?, symbols(alloc, names, arguments))
-}
-
-/// Two symbols in memory of their own; an error for want of memory.
-pub fn two_symbol_copies(first: &Symbol, second: &Symbol) -> Result<(Symbol, Symbol), AllocError>
-    ensures { IfOk result (λ x. IsSame first.now x.0 × IsSame second.now x.1) }
-{
-    both(first.copy()?, second.copy())
-}
-
-/// The symbols of a call in memory of their own; an error for want of memory.
-pub fn call_copies(
-    alloc: Global,
-    called: &Symbol,
-    arguments: &[Symbol],
-) -> Result<(Symbol, Vec<Symbol>), AllocError>
-    ensures { IfOk result (λ x. IsSame called.now x.0 × AreSame arguments.now x.1.items) }
-{
-    both(called.copy()?, copies(alloc, arguments))
-}
-
-/// An expression whose names were met, with their numbers; an error for want of memory.
+/// The flat form of an expression whose names were met; an error for want of memory.
 #[cycle(flat_exp)]
 pub fn flat_exp(alloc: Global, exp: &tree::Exp, names: &Names) -> Result<FlatExp, AllocError>
     requires { MeetsExp names.now (plain exp.now) }
-    ensures tree { IfOk result (λ flat. exp_of flat ≡ plain exp.now) }
+    ensures tree { IfOk result (λ flat. exp_of names.now flat ≡ plain exp.now) }
     ensures numbered { IfOk result (λ flat. HasNumbers names.now flat) }
 {
     match exp {
         tree::Exp::Number(number, _) => Ok(FlatExp::Number(*number)),
-        tree::Exp::Variable(name) => Ok(FlatExp::Variable(symbol(names, name)?)),
+        tree::Exp::Variable(name) => Ok(FlatExp::Variable(symbol(names, name))),
         tree::Exp::Element(name, index) => {
             let index = boxed_flat_exp(alloc, index, names)?;
-            Ok(FlatExp::Element(symbol(names, name)?, index))
+            Ok(FlatExp::Element(symbol(names, name), index))
         }
-        tree::Exp::Empty(name) => Ok(FlatExp::Empty(symbol(names, name)?)),
-        tree::Exp::Top(name) => Ok(FlatExp::Top(symbol(names, name)?)),
+        tree::Exp::Empty(name) => Ok(FlatExp::Empty(symbol(names, name))),
+        tree::Exp::Top(name) => Ok(FlatExp::Top(symbol(names, name))),
         tree::Exp::Negative(operand) => {
             Ok(FlatExp::Negative(boxed_flat_exp(alloc, operand, names)?))
         }
@@ -145,14 +84,14 @@ pub fn flat_exp(alloc: Global, exp: &tree::Exp, names: &Names) -> Result<FlatExp
 #[cycle(flat_exp)]
 fn boxed_flat_exp(alloc: Global, exp: &tree::Exp, names: &Names) -> Result<Box<FlatExp>, AllocError>
     requires { MeetsExp names.now (plain exp.now) }
-    ensures tree { IfOk result (λ flat. exp_of flat.value ≡ plain exp.now) }
+    ensures tree { IfOk result (λ flat. exp_of names.now flat.value ≡ plain exp.now) }
     ensures numbered { IfOk result (λ flat. HasNumbers names.now flat.value) }
 {
     let flat = flat_exp(alloc, exp, names)?;
     Ok(Box::new(alloc, flat)?)
 }
 
-/// Two expressions whose names were met, with their numbers; an error for want of memory.
+/// The flat forms of two expressions whose names were met; an error for want of memory.
 pub(crate) fn two_flat_exps(
     alloc: Global,
     first: &tree::Exp,
@@ -161,7 +100,7 @@ pub(crate) fn two_flat_exps(
 ) -> Result<(FlatExp, FlatExp), AllocError>
     requires first { MeetsExp names.now (plain first.now) }
     requires second { MeetsExp names.now (plain second.now) }
-    ensures trees { IfOk result (λ x. (exp_of x.0 ≡ plain first.now) × (exp_of x.1 ≡ plain second.now)) }
+    ensures trees { IfOk result (λ x. (exp_of names.now x.0 ≡ plain first.now) × (exp_of names.now x.1 ≡ plain second.now)) }
     ensures numbered { IfOk result (λ x. HasNumbers names.now x.0 × HasNumbers names.now x.1) }
 {
     let first = flat_exp(alloc, first, names)?;
@@ -175,13 +114,13 @@ pub fn copy(alloc: Global, exp: &FlatExp) -> Result<FlatExp, AllocError>
 {
     match exp {
         FlatExp::Number(number) => Ok(FlatExp::Number(*number)),
-        FlatExp::Variable(name) => Ok(FlatExp::Variable(name.copy()?)),
+        FlatExp::Variable(name) => Ok(FlatExp::Variable(*name)),
         FlatExp::Element(name, index) => {
             let index = boxed_copy(alloc, index)?;
-            Ok(FlatExp::Element(name.copy()?, index))
+            Ok(FlatExp::Element(*name, index))
         }
-        FlatExp::Empty(name) => Ok(FlatExp::Empty(name.copy()?)),
-        FlatExp::Top(name) => Ok(FlatExp::Top(name.copy()?)),
+        FlatExp::Empty(name) => Ok(FlatExp::Empty(*name)),
+        FlatExp::Top(name) => Ok(FlatExp::Top(*name)),
         FlatExp::Negative(operand) => {
             let operand = boxed_copy(alloc, operand)?;
             Ok(FlatExp::Negative(operand))

@@ -11,7 +11,7 @@ ghost use Rattle.janus_code.specs.Numbered.{StatementHasNumbers, HaveNumbers};
 ghost use Rattle.janus_code.specs.Met.{MeetsStm, MeetsBlk};
 
 use crate::code::{Block, Code, Statement};
-use crate::expression::{call_symbols, flat_exp, symbol, two_flat_exps, two_symbols};
+use crate::expression::{flat_exp, symbol, symbols, two_flat_exps};
 use crate::fault::InvertFault;
 use janus_check::Checked;
 use janus_names::Names;
@@ -29,7 +29,7 @@ struct Draft {
 /// The flat code of a checked cell's statements; or want of memory. All their names were met, those of locals too.
 pub fn flatten(alloc: Global, checked: &Checked, names: &Names) -> Result<Code, InvertFault>
     requires { MeetsBlk names.now (plain_cell (cell_in checked.now)).block }
-    ensures block { IfOk result (λ code. code_block code ≡ (plain_cell (cell_in checked.now)).block) }
+    ensures block { IfOk result (λ code. code_block names.now code ≡ (plain_cell (cell_in checked.now)).block) }
     ensures numbered { IfOk result (λ code. HaveNumbers names.now code.statements.items) }
 {
     Ok(flat_code(alloc, &checked.cell().statements, names)?)
@@ -38,7 +38,7 @@ pub fn flatten(alloc: Global, checked: &Checked, names: &Names) -> Result<Code, 
 /// The flat code of a block.
 pub(crate) fn flat_code(alloc: Global, block: &[Stm], names: &Names) -> Result<Code, AllocError>
     requires { MeetsBlk names.now (block_of block.now) }
-    ensures block { IfOk result (λ code. code_block code ≡ block_of block.now) }
+    ensures block { IfOk result (λ code. code_block names.now code ≡ block_of block.now) }
     ensures numbered { IfOk result (λ code. HaveNumbers names.now code.statements.items) }
 {
     let mut draft = Draft {
@@ -46,6 +46,9 @@ pub(crate) fn flat_code(alloc: Global, block: &[Stm], names: &Names) -> Result<C
         members: Vec::new(alloc),
     };
     let body = flat_block(alloc, block, names, &mut draft)?;
+    // Code is kept for long, so it has no room to spare.
+    draft.statements.shrink_to_fit();
+    draft.members.shrink_to_fit();
     Ok(Code {
         statements: draft.statements,
         members: draft.members,
@@ -64,7 +67,8 @@ fn flat_block(
     requires { MeetsBlk names.now (block_of block.now) }
     ensures grows { IfOk result (λ b. Grows draft.old.members.items draft.old.statements.items draft.new.members.items draft.new.statements.items) }
     ensures below { IfOk result (λ b. IsBelow draft.new.members.items (length draft.new.statements.items) b) }
-    ensures block { IfOk result (λ b. block_at (tree_at draft.new.members.items draft.new.statements.items) draft.new.members.items b ≡ block_of block.now) }
+    ensures block { IfOk result
+        (λ b. block_at (tree_at names.now draft.new.members.items draft.new.statements.items) draft.new.members.items b ≡ block_of block.now) }
     ensures numbered { IfOk result (λ b. HaveNumbers names.now draft.old.statements.items → HaveNumbers names.now draft.new.statements.items) }
 {
     let mut numbers = Vec::new(alloc);
@@ -80,8 +84,9 @@ fn add_block(draft: &mut Draft, numbers: &[usize]) -> Result<Block, AllocError>
     ensures grows { IfOk result (λ b. Grows draft.old.members.items draft.old.statements.items draft.new.members.items draft.new.statements.items) }
     ensures below { IfOk result (λ b. IsBelow draft.new.members.items (length draft.new.statements.items) b) }
     ensures block { IfOk result
-        (λ b. block_at (tree_at draft.new.members.items draft.new.statements.items) draft.new.members.items b
-        ≡ ahead (tree_at draft.old.members.items draft.old.statements.items) numbers.now 0 (length numbers.now)) }
+        (λ b. (xs : List Name) →
+        block_at (tree_at xs draft.new.members.items draft.new.statements.items) draft.new.members.items b
+        ≡ ahead (tree_at xs draft.old.members.items draft.old.statements.items) numbers.now 0 (length numbers.now)) }
     ensures statements { draft.new.statements.items ≡ draft.old.statements.items }
 {
     let start = draft.members.len();
@@ -103,31 +108,34 @@ fn flat_statement(
     requires { MeetsStm names.now (stm_of statement.now) }
     ensures grows { IfOk result (λ n. Grows draft.old.members.items draft.old.statements.items draft.new.members.items draft.new.statements.items) }
     ensures below { IfOk result (λ n. n < length draft.new.statements.items) }
-    ensures tree { IfOk result (λ n. tree_at draft.new.members.items draft.new.statements.items n ≡ stm_of statement.now) }
+    ensures tree { IfOk result (λ n. tree_at names.now draft.new.members.items draft.new.statements.items n ≡ stm_of statement.now) }
     ensures numbered { IfOk result (λ b. HaveNumbers names.now draft.old.statements.items → HaveNumbers names.now draft.new.statements.items) }
 {
     match statement {
         Stm::Skip => add(draft, Statement::Skip),
         Stm::Assign(name, update, exp) => {
-            let name = symbol(names, name)?;
+            let name = symbol(names, name);
             let exp = flat_exp(alloc, exp, names)?;
             add(draft, Statement::Assign(name, *update, exp))
         }
         Stm::AssignElement(name, index, update, exp) => {
-            let name = symbol(names, name)?;
+            let name = symbol(names, name);
             let (index, exp) = two_flat_exps(alloc, index, exp, names)?;
             add(draft, Statement::AssignElement(name, index, *update, exp))
         }
         Stm::Push(variable, stack) => {
-            let (variable, stack) = two_symbols(names, variable, stack)?;
+            let variable = symbol(names, variable);
+            let stack = symbol(names, stack);
             add(draft, Statement::Push(variable, stack))
         }
         Stm::Pop(variable, stack) => {
-            let (variable, stack) = two_symbols(names, variable, stack)?;
+            let variable = symbol(names, variable);
+            let stack = symbol(names, stack);
             add(draft, Statement::Pop(variable, stack))
         }
         Stm::Swap(one, other) => {
-            let (one, other) = two_symbols(names, one, other)?;
+            let one = symbol(names, one);
+            let other = symbol(names, other);
             add(draft, Statement::Swap(one, other))
         }
         Stm::If(test, then_part, else_part, last) => {
@@ -144,21 +152,23 @@ fn flat_statement(
         }
         Stm::LocalInt(name, first, block, _, last) => {
             let block = flat_block(alloc, block, names, draft)?;
-            let name = symbol(names, name)?;
+            let name = symbol(names, name);
             let (first, last) = two_flat_exps(alloc, first, last, names)?;
             add(draft, Statement::LocalInt(name, first, block, last))
         }
         Stm::LocalStack(name, block, _) => {
             let block = flat_block(alloc, block, names, draft)?;
-            let name = symbol(names, name)?;
+            let name = symbol(names, name);
             add(draft, Statement::LocalStack(name, block))
         }
         Stm::Call(called, arguments) => {
-            let (called, arguments) = call_symbols(alloc, names, called, arguments)?;
+            let called = symbol(names, called);
+            let arguments = symbols(alloc, names, arguments)?;
             add(draft, Statement::Call(called, arguments))
         }
         Stm::Uncall(called, arguments) => {
-            let (called, arguments) = call_symbols(alloc, names, called, arguments)?;
+            let called = symbol(names, called);
+            let arguments = symbols(alloc, names, arguments)?;
             add(draft, Statement::Uncall(called, arguments))
         }
     }
@@ -170,8 +180,9 @@ fn add(draft: &mut Draft, statement: Statement) -> Result<usize, AllocError>
     ensures grows { IfOk result (λ n. Grows draft.old.members.items draft.old.statements.items draft.new.members.items draft.new.statements.items) }
     ensures below { IfOk result (λ n. n < length draft.new.statements.items) }
     ensures tree { IfOk result
-        (λ n. tree_at draft.new.members.items draft.new.statements.items n
-        ≡ built (tree_at draft.old.members.items draft.old.statements.items) draft.old.members.items statement) }
+        (λ n. (xs : List Name) →
+        tree_at xs draft.new.members.items draft.new.statements.items n
+        ≡ built xs (tree_at xs draft.old.members.items draft.old.statements.items) draft.old.members.items statement) }
     ensures numbered { IfOk result
         (λ n. (xs : List Name) → HaveNumbers xs draft.old.statements.items → StatementHasNumbers xs statement → HaveNumbers xs draft.new.statements.items) }
 {

@@ -1,10 +1,10 @@
 //! Flat code, closed procedures, and inverse cells.
 //!
 //! To the layer above it promises that `invert` gives the inverse of a cell's statements, that `closed` gives a procedure with its local's
-//! name behind each `delocal`, that flat code stands for one block, that `flatten` gives code that stands for the cell's block, and
+//! name behind each `delocal`, that flat code stands for one block over a table of names, that `flatten` gives code that stands for the cell's block, and
 //! `flatten_procedure` a procedure whose code stands for its body. `janus_invert` has the inverse of flat code; what it makes of copied
-//! names and expressions is copied here, where they stand. In flat code each name, of a variable or a procedure, stands with the number
-//! under which it was met, so that what runs compares no text.
+//! expressions is copied here, where they stand. In flat code the number under which a name was met stands for it, that of a variable or of
+//! a procedure, so that what runs compares no text. What code means is told over the table of names that were met.
 //! The inverse of a statement is that of Yokoyama and Glück (2007), "A reversible programming language and its invertible
 //! self-interpreter": `+=` and `-=` exchange, `^=` stays; an `if` exchanges its test and its assertion, a loop its entry and its
 //! exit, and their blocks stay where they are, each inverted; `skip` and a swap stay; `push` and `pop`, `call` and `uncall` exchange, a

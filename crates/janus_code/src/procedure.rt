@@ -26,10 +26,10 @@ pub fn flatten_procedure(
     names: &Names,
 ) -> Result<FlatProcedure, InvertFault>
     requires { MeetsProc names.now (plain_procedure (procedure_view procedure.now)) }
-    ensures procedure { IfOk result (λ flat. proc_of flat ≡ plain_procedure (procedure_view procedure.now)) }
+    ensures procedure { IfOk result (λ flat. proc_of names.now flat ≡ plain_procedure (procedure_view procedure.now)) }
     ensures numbered { IfOk result (λ flat. ProcedureHasNumbers names.now flat) }
 {
-    let name = symbol(names, &procedure.name)?;
+    let name = symbol(names, &procedure.name);
     let parameters = flat_parameters(alloc, &procedure.parameters, names)?;
     let body = flat_code(alloc, &procedure.body, names)?;
     Ok(FlatProcedure {
@@ -39,31 +39,31 @@ pub fn flatten_procedure(
     })
 }
 
-/// Parameters that were met with their numbers; an error for want of memory.
+/// The flat forms of parameters that were met; an error for want of memory.
 fn flat_parameters(
     alloc: Global,
     parameters: &[tree::Parameter],
     names: &Names,
 ) -> Result<Vec<FlatParameter>, AllocError>
     requires { AreAllMet names.now (names_of (map plain_parameter (parameters_view parameters.now))) }
-    ensures parameters { IfOk result (λ flat. params_of flat.items ≡ map plain_parameter (parameters_view parameters.now)) }
+    ensures parameters { IfOk result (λ flat. params_of names.now flat.items ≡ map plain_parameter (parameters_view parameters.now)) }
     ensures numbered { IfOk result (λ flat. ParametersHaveNumbers names.now flat.items) }
 {
     let mut flat = Vec::new(alloc);
     for i in 0..parameters.len() {
-        flat.push(flat_parameter(&parameters[i], names)?)?;
+        flat.push(flat_parameter(&parameters[i], names))?;
     }
     Ok(flat)
 }
 
-/// A parameter that was met with its number; an error for want of memory.
-fn flat_parameter(parameter: &tree::Parameter, names: &Names) -> Result<FlatParameter, AllocError>
+/// The flat form of a parameter that was met.
+fn flat_parameter(parameter: &tree::Parameter, names: &Names) -> FlatParameter
     requires { IsMet names.now (plain_parameter (parameter_view parameter.now)).0 }
-    ensures parameter { IfOk result (λ flat. param_of flat ≡ plain_parameter (parameter_view parameter.now)) }
-    ensures numbered { IfOk result (λ flat. HasItsNumber names.now flat.name) }
+    ensures parameter { param_of names.now result ≡ plain_parameter (parameter_view parameter.now) }
+    ensures numbered { HasItsNumber names.now result.name }
 {
-    Ok(FlatParameter {
-        name: symbol(names, name_of_parameter(parameter))?,
+    FlatParameter {
+        name: symbol(names, name_of_parameter(parameter)),
         kind: kind_of(parameter),
-    })
+    }
 }

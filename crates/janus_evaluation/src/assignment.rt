@@ -1,11 +1,11 @@
 //! What assignments do to a store.
 
-ghost use Rattle.std.specs.Prelude.{◌≡◌, ◌≢◌, string_bytes};
+ghost use Rattle.std.specs.Prelude.{◌≡◌, ◌≢◌};
 ghost use Rattle.janus_meaning.specs.Fault.{Bad, Broken};
 ghost use Rattle.janus_meaning.specs.Moves.{assign as assign_of, assign_at as assign_at_of};
 ghost use Rattle.janus_syntax.specs.View.{update_of};
 ghost use Rattle.janus_store.specs.StoreState.{IsLike};
-ghost use Rattle.janus_code.specs.Expressions.{exp_of};
+ghost use Rattle.janus_code.specs.Expressions.{symbol_name, exp_of};
 ghost use Rattle.janus_code.specs.Numbered.{HasItsNumber, HasNumbers};
 ghost use Rattle.janus_evaluation.specs.Results.{IsDone, IsCounted, IsWrittenOnce};
 
@@ -26,10 +26,11 @@ pub fn assign<L: Ledger>(
     store: &mut Store<L>,
     writes: &mut Writes<L>,
 ) -> Result<(), ValueFault>
-    requires safe { assign_of (string_bytes name.now.text) (update_of update) (exp_of exp.now) store.old.sight ≢ Bad Broken }
+    requires safe { assign_of (symbol_name store.old.names name.now) (update_of update) (exp_of store.old.names exp.now) store.old.sight ≢ Bad Broken }
     requires at { HasItsNumber store.old.names name.now }
     requires numbered { HasNumbers store.old.names exp.now }
-    ensures done { IsDone (assign_of (string_bytes name.now.text) (update_of update) (exp_of exp.now) store.old.sight) store.old.sight store.new.sight result }
+    ensures done { IsDone (assign_of (symbol_name store.old.names name.now) (update_of update) (exp_of store.old.names exp.now) store.old.sight)
+        store.old.sight store.new.sight result }
     ensures shape { IsLike store.old store.new }
     ensures counted { IsCounted result writes.old writes.new }
     ensures once { IsWrittenOnce result writes.old writes.new }
@@ -55,13 +56,14 @@ pub fn assign_element<L: Ledger>(
     store: &mut Store<L>,
     writes: &mut Writes<L>,
 ) -> Result<(), ValueFault>
-    requires safe { assign_at_of (string_bytes name.now.text) (exp_of index.now) (update_of update) (exp_of exp.now) store.old.sight ≢ Bad Broken }
+    requires safe { assign_at_of (symbol_name store.old.names name.now) (exp_of store.old.names index.now) (update_of update)
+        (exp_of store.old.names exp.now) store.old.sight ≢ Bad Broken }
     requires at { HasItsNumber store.old.names name.now }
     requires index_placed { HasNumbers store.old.names index.now }
     requires numbered { HasNumbers store.old.names exp.now }
     ensures done { IsDone
-        (assign_at_of (string_bytes name.now.text) (exp_of index.now) (update_of update)
-        (exp_of exp.now) store.old.sight) store.old.sight store.new.sight result }
+        (assign_at_of (symbol_name store.old.names name.now) (exp_of store.old.names index.now) (update_of update)
+        (exp_of store.old.names exp.now) store.old.sight) store.old.sight store.new.sight result }
     ensures shape { IsLike store.old store.new }
     ensures counted { IsCounted result writes.old writes.new }
     ensures once { IsWrittenOnce result writes.old writes.new }

@@ -21,9 +21,9 @@ use std::sync::ledger::Ledger;
 /// Whether an expression is not 0, or its first fault. Its names are declared, each as what its use wants, and have their
 /// numbers.
 pub fn test<L: Ledger>(exp: &FlatExp, store: &Store<L>) -> Result<bool, ValueFault>
-    requires safe { test_of (exp_of exp.now) store.now.sight ≢ Bad Broken }
+    requires safe { test_of (exp_of store.now.names exp.now) store.now.sight ≢ Bad Broken }
     requires numbered { HasNumbers store.now.names exp.now }
-    ensures { truth_of result ≡ test_of (exp_of exp.now) store.now.sight }
+    ensures { truth_of result ≡ test_of (exp_of store.now.names exp.now) store.now.sight }
 {
     match value(exp, store) {
         Ok(number) => Ok(holds(number)),
@@ -36,9 +36,9 @@ pub fn test<L: Ledger>(exp: &FlatExp, store: &Store<L>) -> Result<bool, ValueFau
 // An operator between numbers and variables is what most expressions are: it is worked out in place, with no call.
 #[inline]
 pub fn value<L: Ledger>(exp: &FlatExp, store: &Store<L>) -> Result<i32, ValueFault>
-    requires safe { value_of (exp_of exp.now) store.now.sight ≢ Bad Broken }
+    requires safe { value_of (exp_of store.now.names exp.now) store.now.sight ≢ Bad Broken }
     requires numbered { HasNumbers store.now.names exp.now }
-    ensures { result_of result ≡ value_of (exp_of exp.now) store.now.sight }
+    ensures { result_of result ≡ value_of (exp_of store.now.names exp.now) store.now.sight }
 {
     match exp {
         FlatExp::Binary(operator, left, right) => match leaf(left, store) {
@@ -55,9 +55,9 @@ pub fn value<L: Ledger>(exp: &FlatExp, store: &Store<L>) -> Result<i32, ValueFau
 /// The number of a number or a variable; none of another expression.
 #[inline(always)]
 fn leaf<L: Ledger>(exp: &FlatExp, store: &Store<L>) -> Option<i32>
-    requires safe { value_of (exp_of exp.now) store.now.sight ≢ Bad Broken }
+    requires safe { value_of (exp_of store.now.names exp.now) store.now.sight ≢ Bad Broken }
     requires numbered { HasNumbers store.now.names exp.now }
-    ensures { IfSome result (λ n. value_of (exp_of exp.now) store.now.sight ≡ Fine n) }
+    ensures { IfSome result (λ n. value_of (exp_of store.now.names exp.now) store.now.sight ≡ Fine n) }
 {
     match exp {
         FlatExp::Number(number) => Some(number.cast_signed()),
@@ -70,9 +70,9 @@ fn leaf<L: Ledger>(exp: &FlatExp, store: &Store<L>) -> Option<i32>
 #[inline(always)]
 #[cycle(computed)]
 fn operand<L: Ledger>(exp: &FlatExp, store: &Store<L>) -> Result<i32, ValueFault>
-    requires safe { value_of (exp_of exp.now) store.now.sight ≢ Bad Broken }
+    requires safe { value_of (exp_of store.now.names exp.now) store.now.sight ≢ Bad Broken }
     requires numbered { HasNumbers store.now.names exp.now }
-    ensures { result_of result ≡ value_of (exp_of exp.now) store.now.sight }
+    ensures { result_of result ≡ value_of (exp_of store.now.names exp.now) store.now.sight }
 {
     match leaf(exp, store) {
         Some(number) => Ok(number),
@@ -83,9 +83,9 @@ fn operand<L: Ledger>(exp: &FlatExp, store: &Store<L>) -> Result<i32, ValueFault
 /// The number of an expression, as `value` has it.
 #[cycle(computed)]
 fn computed<L: Ledger>(exp: &FlatExp, store: &Store<L>) -> Result<i32, ValueFault>
-    requires safe { value_of (exp_of exp.now) store.now.sight ≢ Bad Broken }
+    requires safe { value_of (exp_of store.now.names exp.now) store.now.sight ≢ Bad Broken }
     requires numbered { HasNumbers store.now.names exp.now }
-    ensures { result_of result ≡ value_of (exp_of exp.now) store.now.sight }
+    ensures { result_of result ≡ value_of (exp_of store.now.names exp.now) store.now.sight }
 {
     match exp {
         FlatExp::Number(number) => Ok(number.cast_signed()),

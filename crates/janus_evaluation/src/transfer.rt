@@ -1,10 +1,11 @@
 //! What goes between a variable and a stack, and between two variables.
 
-ghost use Rattle.std.specs.Prelude.{◌≡◌, ◌≢◌, ◌+◌, string_bytes};
+ghost use Rattle.std.specs.Prelude.{◌≡◌, ◌≢◌, ◌+◌};
 ghost use Rattle.janus_meaning.specs.Fault.{Fine, Bad, Broken};
 ghost use Rattle.janus_meaning.specs.Limit.{pool};
 ghost use Rattle.janus_meaning.specs.Moves.{push as push_of, pop as pop_of, swap as swap_of};
 ghost use Rattle.janus_store.specs.StoreState.{IsLike, values_lent};
+ghost use Rattle.janus_code.specs.Expressions.{symbol_name};
 ghost use Rattle.janus_code.specs.Numbered.{HasItsNumber};
 ghost use Rattle.janus_evaluation.specs.Results.{IsDone, IsCounted};
 
@@ -21,10 +22,11 @@ pub fn push<L: Ledger>(
     store: &mut Store<L>,
     writes: &mut Writes<L>,
 ) -> Result<(), ValueFault>
-    requires safe { push_of pool (values_lent store.old.callers) (string_bytes variable.now.text) (string_bytes stack.now.text) store.old.sight ≢ Bad Broken }
+    requires safe { push_of pool (values_lent store.old.callers) (symbol_name store.old.names variable.now) (symbol_name store.old.names stack.now)
+        store.old.sight ≢ Bad Broken }
     requires variable { HasItsNumber store.old.names variable.now }
     requires stack { HasItsNumber store.old.names stack.now }
-    ensures done { IsDone (push_of pool (values_lent store.old.callers) (string_bytes variable.now.text) (string_bytes stack.now.text)
+    ensures done { IsDone (push_of pool (values_lent store.old.callers) (symbol_name store.old.names variable.now) (symbol_name store.old.names stack.now)
         store.old.sight) store.old.sight store.new.sight result }
     ensures shape { IsLike store.old store.new }
     ensures counted { IsCounted result writes.old writes.new }
@@ -48,10 +50,11 @@ pub fn pop<L: Ledger>(
     store: &mut Store<L>,
     writes: &mut Writes<L>,
 ) -> Result<(), ValueFault>
-    requires safe { pop_of (string_bytes variable.now.text) (string_bytes stack.now.text) store.old.sight ≢ Bad Broken }
+    requires safe { pop_of (symbol_name store.old.names variable.now) (symbol_name store.old.names stack.now) store.old.sight ≢ Bad Broken }
     requires variable { HasItsNumber store.old.names variable.now }
     requires stack { HasItsNumber store.old.names stack.now }
-    ensures done { IsDone (pop_of (string_bytes variable.now.text) (string_bytes stack.now.text) store.old.sight) store.old.sight store.new.sight result }
+    ensures done { IsDone (pop_of (symbol_name store.old.names variable.now) (symbol_name store.old.names stack.now) store.old.sight)
+        store.old.sight store.new.sight result }
     ensures shape { IsLike store.old store.new }
     ensures counted { IsCounted result writes.old writes.new }
 {
@@ -76,10 +79,10 @@ pub fn swap<L: Ledger>(
     store: &mut Store<L>,
     writes: &mut Writes<L>,
 )
-    requires safe { swap_of (string_bytes first.now.text) (string_bytes second.now.text) store.old.sight ≢ Bad Broken }
+    requires safe { swap_of (symbol_name store.old.names first.now) (symbol_name store.old.names second.now) store.old.sight ≢ Bad Broken }
     requires first { HasItsNumber store.old.names first.now }
     requires second { HasItsNumber store.old.names second.now }
-    ensures done { swap_of (string_bytes first.now.text) (string_bytes second.now.text) store.old.sight ≡ Fine store.new.sight }
+    ensures done { swap_of (symbol_name store.old.names first.now) (symbol_name store.old.names second.now) store.old.sight ≡ Fine store.new.sight }
     ensures shape { IsLike store.old store.new }
     ensures counted { writes.new ≡ writes.old + 2 }
 {

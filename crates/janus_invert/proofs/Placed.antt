@@ -1,5 +1,5 @@
 -- The names of the inverse have the numbers of those of the code.
-use Rattle.std.proofs.Common.{◌≡◌, ℕ, ◌<◌, List, [], ◌∷◌, length, get_or, arith}
+use Rattle.std.proofs.Common.{◌≡◌, ℕ, ◌<◌, List, length, get_or, sym, subst, arith}
 use Rattle.std.specs.Prelude.{slice_get, Some}
 use Rattle.std.proofs.lemmas.Option.{slice_get_within, slice_get-get_or}
 use Rattle.janus_meaning.specs.Syntax.{Name}
@@ -7,14 +7,14 @@ use Rattle.janus_code.specs.declared.code.Block.{Block}
 use Rattle.janus_code.specs.declared.code.Symbol.{Symbol}
 use Rattle.janus_code.specs.declared.code.Statement.{Statement}
 use Rattle.janus_code.specs.declared.code.Statement.TheVariants.{Skip, Assign, AssignElement, Push, Pop, Swap, If, Loop, LocalInt, LocalStack, Call, Uncall}
-use Rattle.janus_code.specs.Numbered.{HaveTheirNumbers, AreSame, StatementHasNumbers, HaveNumbers}
-use Rattle.janus_code.proofs.Placing.{same_at}
+use Rattle.janus_code.specs.Numbered.{HasItsNumber, HaveTheirNumbers, StatementHasNumbers, HaveNumbers}
 use Rattle.janus_invert.specs.Inverted.{IsInverse, AreInverse}
 
-all_same_at : (xs : List Name) (ys zs : List Symbol) → AreSame ys zs → HaveTheirNumbers xs ys → HaveTheirNumbers xs zs
-all_same_at xs [] [] same at = tt
-all_same_at xs (y ∷ ys) (z ∷ zs) same at = (same_at xs y z same.0 at.0, all_same_at xs ys zs same.1 at.1)
-all_same_at xs _ _ same at = absurd same
+same_at : (xs : List Name) (x y : Symbol) → y ≡ x → HasItsNumber xs x → HasItsNumber xs y
+same_at xs x y same at = subst (HasItsNumber xs) (sym same) at
+
+all_same_at : (xs : List Name) (ys zs : List Symbol) → zs ≡ ys → HaveTheirNumbers xs ys → HaveTheirNumbers xs zs
+all_same_at xs ys zs same at = subst (HaveTheirNumbers xs) (sym same) at
 
 statement_turned : (members others : List ℕ) (xs : List Name) (s r : Statement) → IsInverse members others s r → StatementHasNumbers xs s → StatementHasNumbers xs r
 statement_turned members others xs Skip Skip v p = tt

@@ -1,9 +1,10 @@
 -- Inverse code stands for the inverse block.
-use Rattle.std.proofs.Common.{◌≡◌, ℕ, zero, suc, ◌+◌, ◌-◌, ◌<◌, ◌≤◌, List, [], ◌∷◌, length, get_or, refl, ap, ◌∙◌, sym, arith, ⊎_elim}
-use Rattle.std.specs.Prelude.{slice_get, Some, None, string_bytes}
+use Rattle.std.proofs.Common.{◌≡◌, ℕ, zero, suc, ◌+◌, ◌-◌, ◌<◌, ◌≤◌, List, length, get_or, refl, ap, ◌∙◌, sym, arith, ⊎_elim}
+use Rattle.std.specs.Prelude.{slice_get, Some, None}
 use Rattle.std.proofs.lemmas.Bool.{cases_lt}
 use Rattle.std.proofs.lemmas.Option.{slice_get-get_or, slice_get_within, slice_get_cases}
 use Rattle.janus_meaning.specs.Syntax as tree
+use Rattle.janus_meaning.specs.Syntax.{Name}
 use Rattle.janus_meaning.specs.Word.{opposite}
 use Rattle.janus_syntax.specs.View.{update_of}
 use Rattle.janus_syntax.specs.declared.tree.Update.{Update}
@@ -11,9 +12,7 @@ use Rattle.janus_syntax.specs.declared.tree.Update.TheVariants as update
 use Rattle.janus_code.specs.declared.code.Block.{Block}
 use Rattle.janus_code.specs.declared.code.Statement.{Statement}
 use Rattle.janus_code.specs.declared.code.Statement.TheVariants.{Skip, Assign, AssignElement, Push, Pop, Swap, If, Loop, LocalInt, LocalStack, Call, Uncall}
-use Rattle.janus_code.specs.declared.code.Symbol.{Symbol}
-use Rattle.janus_code.specs.Expressions.{exp_of}
-use Rattle.janus_code.specs.Numbered.{AreSame, texts_of}
+use Rattle.janus_code.specs.Expressions.{exp_of, symbol_name, names_in}
 use Rattle.janus_code.specs.Flat.{ahead, block_at, built, tree_at, IsBelow, BlocksAreBelow, AreBelow, IsDownward}
 use Rattle.janus_code.specs.Cells.{IsOpposite}
 use Rattle.janus_invert.specs.Inverted.{IsBackward, IsInverse, AreInverse}
@@ -60,52 +59,47 @@ opposite_sign update.Subtract update.Add h = refl
 opposite_sign update.Xor update.Xor h = refl
 opposite_sign _ _ h = absurd h
 
-same_texts : (xs ys : List Symbol) → AreSame xs ys → texts_of ys ≡ texts_of xs
-same_texts [] [] h = refl
-same_texts (x ∷ xs) (y ∷ ys) h = ap (λ z. z ∷ texts_of ys) h.0.text ∙ ap (λ zs. string_bytes x.text ∷ zs) (same_texts xs ys h.1)
-same_texts _ _ h = absurd h
-
-module _ (t u : ℕ → tree.Stm) (members others : List ℕ) (m : ℕ) (inv : (j : ℕ) → j < m → u j ≡ tree.inverse (t j)) where
-  built_turned : (s r : Statement) → BlocksAreBelow members m s → IsInverse members others s r → built u others r ≡ tree.inverse (built t members s)
+module _ (xs : List Name) (t u : ℕ → tree.Stm) (members others : List ℕ) (m : ℕ) (inv : (j : ℕ) → j < m → u j ≡ tree.inverse (t j)) where
+  built_turned : (s r : Statement) → BlocksAreBelow members m s → IsInverse members others s r → built xs u others r ≡ tree.inverse (built xs t members s)
   built_turned Skip Skip b h = refl
   built_turned (Assign x o e) (Assign y p f) b h =
-      ap (λ z. tree.Set z (update_of p) (exp_of f)) h.0.text
-      ∙ ap (λ q. tree.Set (string_bytes x.text) q (exp_of f)) (opposite_sign o p h.1)
-      ∙ ap (tree.Set (string_bytes x.text) (opposite (update_of o))) h.2.tree
+      ap (λ z. tree.Set z (update_of p) (exp_of xs f)) (ap (symbol_name xs) h.0)
+      ∙ ap (λ q. tree.Set (symbol_name xs x) q (exp_of xs f)) (opposite_sign o p h.1)
+      ∙ ap (tree.Set (symbol_name xs x) (opposite (update_of o))) (h.2.tree xs)
   built_turned (AssignElement x i o e) (AssignElement y j p f) b h =
-      ap (λ z. tree.SetAt z (exp_of j) (update_of p) (exp_of f)) h.0.text
-      ∙ ap (λ z. tree.SetAt (string_bytes x.text) z (update_of p) (exp_of f)) h.1.tree
-      ∙ ap (λ q. tree.SetAt (string_bytes x.text) (exp_of i) q (exp_of f)) (opposite_sign o p h.2)
-      ∙ ap (tree.SetAt (string_bytes x.text) (exp_of i) (opposite (update_of o))) h.3.tree
-  built_turned (Push x y) (Pop v w) b h = ap (λ z. tree.Pop z (string_bytes w.text)) h.0.text ∙ ap (tree.Pop (string_bytes x.text)) h.1.text
-  built_turned (Pop x y) (Push v w) b h = ap (λ z. tree.Push z (string_bytes w.text)) h.0.text ∙ ap (tree.Push (string_bytes x.text)) h.1.text
-  built_turned (Swap x y) (Swap v w) b h = ap (λ z. tree.Swap z (string_bytes w.text)) h.0.text ∙ ap (tree.Swap (string_bytes x.text)) h.1.text
+      ap (λ z. tree.SetAt z (exp_of xs j) (update_of p) (exp_of xs f)) (ap (symbol_name xs) h.0)
+      ∙ ap (λ z. tree.SetAt (symbol_name xs x) z (update_of p) (exp_of xs f)) (h.1.tree xs)
+      ∙ ap (λ q. tree.SetAt (symbol_name xs x) (exp_of xs i) q (exp_of xs f)) (opposite_sign o p h.2)
+      ∙ ap (tree.SetAt (symbol_name xs x) (exp_of xs i) (opposite (update_of o))) (h.3.tree xs)
+  built_turned (Push x y) (Pop v w) b h = ap (λ z. tree.Pop z (symbol_name xs w)) (ap (symbol_name xs) h.0) ∙ ap (tree.Pop (symbol_name xs x)) (ap (symbol_name xs) h.1)
+  built_turned (Pop x y) (Push v w) b h = ap (λ z. tree.Push z (symbol_name xs w)) (ap (symbol_name xs) h.0) ∙ ap (tree.Push (symbol_name xs x)) (ap (symbol_name xs) h.1)
+  built_turned (Swap x y) (Swap v w) b h = ap (λ z. tree.Swap z (symbol_name xs w)) (ap (symbol_name xs) h.0) ∙ ap (tree.Swap (symbol_name xs x)) (ap (symbol_name xs) h.1)
   built_turned (If a p q c) (If d r s e) b h =
-      ap (λ z. tree.If z (block_at u others r) (block_at u others s) (exp_of e)) h.0.tree
-      ∙ ap (λ z. tree.If (exp_of c) z (block_at u others s) (exp_of e)) (block_turned t u members others m p r b.0 h.1 inv)
-      ∙ ap (λ z. tree.If (exp_of c) (tree.inverse_block (block_at t members p)) z (exp_of e)) (block_turned t u members others m q s b.1 h.2 inv)
-      ∙ ap (tree.If (exp_of c) (tree.inverse_block (block_at t members p)) (tree.inverse_block (block_at t members q))) h.3.tree
+      ap (λ z. tree.If z (block_at u others r) (block_at u others s) (exp_of xs e)) (h.0.tree xs)
+      ∙ ap (λ z. tree.If (exp_of xs c) z (block_at u others s) (exp_of xs e)) (block_turned t u members others m p r b.0 h.1 inv)
+      ∙ ap (λ z. tree.If (exp_of xs c) (tree.inverse_block (block_at t members p)) z (exp_of xs e)) (block_turned t u members others m q s b.1 h.2 inv)
+      ∙ ap (tree.If (exp_of xs c) (tree.inverse_block (block_at t members p)) (tree.inverse_block (block_at t members q))) (h.3.tree xs)
   built_turned (Loop a p q c) (Loop d r s e) b h =
-      ap (λ z. tree.From z (block_at u others r) (block_at u others s) (exp_of e)) h.0.tree
-      ∙ ap (λ z. tree.From (exp_of c) z (block_at u others s) (exp_of e)) (block_turned t u members others m p r b.0 h.1 inv)
-      ∙ ap (λ z. tree.From (exp_of c) (tree.inverse_block (block_at t members p)) z (exp_of e)) (block_turned t u members others m q s b.1 h.2 inv)
-      ∙ ap (tree.From (exp_of c) (tree.inverse_block (block_at t members p)) (tree.inverse_block (block_at t members q))) h.3.tree
+      ap (λ z. tree.From z (block_at u others r) (block_at u others s) (exp_of xs e)) (h.0.tree xs)
+      ∙ ap (λ z. tree.From (exp_of xs c) z (block_at u others s) (exp_of xs e)) (block_turned t u members others m p r b.0 h.1 inv)
+      ∙ ap (λ z. tree.From (exp_of xs c) (tree.inverse_block (block_at t members p)) z (exp_of xs e)) (block_turned t u members others m q s b.1 h.2 inv)
+      ∙ ap (tree.From (exp_of xs c) (tree.inverse_block (block_at t members p)) (tree.inverse_block (block_at t members q))) (h.3.tree xs)
   built_turned (LocalInt x a p c) (LocalInt y d r e) b h =
-      ap (λ z. tree.LocalInt z (exp_of d) (block_at u others r) (exp_of e)) h.0.text
-      ∙ ap (λ z. tree.LocalInt (string_bytes x.text) z (block_at u others r) (exp_of e)) h.1.tree
-      ∙ ap (λ z. tree.LocalInt (string_bytes x.text) (exp_of c) z (exp_of e)) (block_turned t u members others m p r b h.2 inv)
-      ∙ ap (tree.LocalInt (string_bytes x.text) (exp_of c) (tree.inverse_block (block_at t members p))) h.3.tree
+      ap (λ z. tree.LocalInt z (exp_of xs d) (block_at u others r) (exp_of xs e)) (ap (symbol_name xs) h.0)
+      ∙ ap (λ z. tree.LocalInt (symbol_name xs x) z (block_at u others r) (exp_of xs e)) (h.1.tree xs)
+      ∙ ap (λ z. tree.LocalInt (symbol_name xs x) (exp_of xs c) z (exp_of xs e)) (block_turned t u members others m p r b h.2 inv)
+      ∙ ap (tree.LocalInt (symbol_name xs x) (exp_of xs c) (tree.inverse_block (block_at t members p))) (h.3.tree xs)
   built_turned (LocalStack x p) (LocalStack y r) b h =
-      ap (λ z. tree.LocalStack z (block_at u others r)) h.0.text
-      ∙ ap (tree.LocalStack (string_bytes x.text)) (block_turned t u members others m p r b h.1 inv)
-  built_turned (Call f xs) (Uncall g ys) b h = ap (λ z. tree.Uncall z (texts_of ys.items)) h.0.text ∙ ap (tree.Uncall (string_bytes f.text)) (same_texts xs.items ys.items h.1)
-  built_turned (Uncall f xs) (Call g ys) b h = ap (λ z. tree.Call z (texts_of ys.items)) h.0.text ∙ ap (tree.Call (string_bytes f.text)) (same_texts xs.items ys.items h.1)
+      ap (λ z. tree.LocalStack z (block_at u others r)) (ap (symbol_name xs) h.0)
+      ∙ ap (tree.LocalStack (symbol_name xs x)) (block_turned t u members others m p r b h.1 inv)
+  built_turned (Call f ys) (Uncall g zs) b h = ap (λ z. tree.Uncall z (names_in xs zs.items)) (ap (symbol_name xs) h.0) ∙ ap (tree.Uncall (symbol_name xs f)) (ap (names_in xs) h.1)
+  built_turned (Uncall f ys) (Call g zs) b h = ap (λ z. tree.Call z (names_in xs zs.items)) (ap (symbol_name xs) h.0) ∙ ap (tree.Call (symbol_name xs f)) (ap (names_in xs) h.1)
   built_turned _ _ b h = absurd h
 
 -- ---- code
 
-module _ (members : List ℕ) (statements : List Statement) (body : Block) (others : List ℕ) (inverses : List Statement) (back : Block) (d : AreBelow members statements) (e : AreBelow others inverses) (v : AreInverse members statements body others inverses back) where
-  turned_up_to : (n : ℕ) → n ≤ length statements → (m : ℕ) → m < n → tree_at others inverses m ≡ tree.inverse (tree_at members statements m)
+module _ (xs : List Name) (members : List ℕ) (statements : List Statement) (body : Block) (others : List ℕ) (inverses : List Statement) (back : Block) (d : AreBelow members statements) (e : AreBelow others inverses) (v : AreInverse members statements body others inverses back) where
+  turned_up_to : (n : ℕ) → n ≤ length statements → (m : ℕ) → m < n → tree_at xs others inverses m ≡ tree.inverse (tree_at xs members statements m)
   turned_up_to zero h m lt = absurd (omega arith)
   turned_up_to (suc n) h m lt =
       let before = turned_up_to n (omega arith) in
@@ -117,17 +111,17 @@ module _ (members : List ℕ) (statements : List Statement) (body : Block) (othe
       let s = p.0 in
       let r = get_or inverses m s in
       let there : slice_get inverses m ≡ Some r = slice_get-get_or inverses m s (omega (arith, v.as_many)) in
-      tree_of others inverses m r e there
-      ∙ built_turned (tree_at members statements) (tree_at others inverses) members others m (λ j low. before j (omega arith)) s r (d m s p.2) (v.inverse m s r p.2 there)
-      ∙ ap tree.inverse (sym (tree_of members statements m s d p.2)))
+      tree_of xs others inverses m r e there
+      ∙ built_turned xs (tree_at xs members statements) (tree_at xs others inverses) members others m (λ j low. before j (omega arith)) s r (d m s p.2) (v.inverse m s r p.2 there)
+      ∙ ap tree.inverse (sym (tree_of xs members statements m s d p.2)))
       (λ (p : (length statements ≤ m) × (slice_get statements m ≡ None)). let q : length statements ≤ m = p.0 in absurd (omega arith))
       (slice_get_cases statements m).1)
       (cases_lt m n)
 
   -- the whole block
-  pub body_turned : IsBelow members (length statements) body → block_at (tree_at others inverses) others back ≡ tree.inverse_block (block_at (tree_at members statements) members body)
+  pub body_turned : IsBelow members (length statements) body → block_at (tree_at xs others inverses) others back ≡ tree.inverse_block (block_at (tree_at xs members statements) members body)
   body_turned b =
-      block_turned (tree_at members statements) (tree_at others inverses) members others (length statements) body back b v.whole
+      block_turned (tree_at xs members statements) (tree_at xs others inverses) members others (length statements) body back b v.whole
       (λ j lt. turned_up_to (length statements) (omega arith) j lt)
 
 -- ---- the parts of inverse code

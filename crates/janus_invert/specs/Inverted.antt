@@ -4,7 +4,7 @@ use Rattle.janus_code.specs.declared.code.Block.{Block}
 use Rattle.janus_code.specs.declared.code.Statement.{Statement}
 use Rattle.janus_code.specs.declared.code.Statement.TheVariants.{Skip, Assign, AssignElement, Push, Pop, Swap, If, Loop, LocalInt, LocalStack, Call, Uncall}
 use Rattle.janus_code.specs.Cells.{IsOpposite}
-use Rattle.janus_code.specs.Numbered.{IsSame, AreSame, IsCopy}
+use Rattle.janus_code.specs.Numbered.{IsCopy}
 
 -- the members of the block c are those of b, backward
 pub record IsBackward (members others : List ℕ) (b c : Block) : Type 0 where
@@ -16,21 +16,21 @@ pub record IsBackward (members others : List ℕ) (b c : Block) : Type 0 where
 -- s and its inverse r
 abbrev pub IsInverse : List ℕ → List ℕ → Statement → Statement → Type 0
 IsInverse members others Skip Skip = Unit {0}
-IsInverse members others (Assign x u e) (Assign y v f) = IsSame x y × IsOpposite u v × IsCopy e f
+IsInverse members others (Assign x u e) (Assign y v f) = (y ≡ x) × IsOpposite u v × IsCopy e f
 IsInverse members others (AssignElement x i u e) (AssignElement y j v f) =
-    IsSame x y × IsCopy i j × IsOpposite u v × IsCopy e f
-IsInverse members others (Push x y) (Pop v w) = IsSame x v × IsSame y w
-IsInverse members others (Pop x y) (Push v w) = IsSame x v × IsSame y w
-IsInverse members others (Swap x y) (Swap v w) = IsSame x v × IsSame y w
+    (y ≡ x) × IsCopy i j × IsOpposite u v × IsCopy e f
+IsInverse members others (Push x y) (Pop v w) = (v ≡ x) × (w ≡ y)
+IsInverse members others (Pop x y) (Push v w) = (v ≡ x) × (w ≡ y)
+IsInverse members others (Swap x y) (Swap v w) = (v ≡ x) × (w ≡ y)
 IsInverse members others (If a p q b) (If c r s d) =
     IsCopy b c × IsBackward members others p r × IsBackward members others q s × IsCopy a d
 IsInverse members others (Loop a p q b) (Loop c r s d) =
     IsCopy b c × IsBackward members others p r × IsBackward members others q s × IsCopy a d
 IsInverse members others (LocalInt x a p b) (LocalInt y c r d) =
-    IsSame x y × IsCopy b c × IsBackward members others p r × IsCopy a d
-IsInverse members others (LocalStack x p) (LocalStack y r) = IsSame x y × IsBackward members others p r
-IsInverse members others (Call f xs) (Uncall g ys) = IsSame f g × AreSame xs.items ys.items
-IsInverse members others (Uncall f xs) (Call g ys) = IsSame f g × AreSame xs.items ys.items
+    (y ≡ x) × IsCopy b c × IsBackward members others p r × IsCopy a d
+IsInverse members others (LocalStack x p) (LocalStack y r) = (y ≡ x) × IsBackward members others p r
+IsInverse members others (Call f xs) (Uncall g ys) = (g ≡ f) × (ys.items ≡ xs.items)
+IsInverse members others (Uncall f xs) (Call g ys) = (g ≡ f) × (ys.items ≡ xs.items)
 IsInverse members others _ _ = ⊥
 
 pub record AreInverse (members : List ℕ) (statements : List Statement) (body : Block) (others : List ℕ) (inverses : List Statement)

@@ -8,16 +8,16 @@ ghost use Rattle.janus_invert.specs.Inverted.{IsInverse, IsBackward, AreInverse}
 ghost use Rattle.janus_code.specs.CodeBlock.{code_block};
 ghost use Rattle.janus_invert.specs.Longer.{IsLonger};
 
-use janus_code::expression::{call_copies, copy, two_copies, two_symbol_copies};
+use janus_code::expression::{copy, two_copies};
 use janus_code::{Block, Code, InvertFault, Statement, opposite};
 use std::alloc::{AllocError, Global};
 
 /// The code whose block is the inverse of this one's: its statements keep their numbers. Or want of memory.
 pub fn invert_code(alloc: Global, code: &Code) -> Result<Code, InvertFault>
-    ensures block { IfOk result (λ inverse. code_block inverse ≡ inverse_block (code_block code.now)) }
+    ensures block { IfOk result (λ inverse. (xs : List Name) → code_block xs inverse ≡ inverse_block (code_block xs code.now)) }
     ensures parts { IfOk result
         (λ inverse. AreInverse code.now.members.items code.now.statements.items code.now.body inverse.members.items inverse.statements.items inverse.body) }
-    // The names keep their numbers.
+    // A table of names that has the code's numbers has those of the inverse too.
     ensures numbered { IfOk result (λ inverse. (xs : List Name) → HaveNumbers xs code.now.statements.items → HaveNumbers xs inverse.statements.items) }
 {
     Ok(inverse_code(alloc, code)?)
@@ -25,13 +25,13 @@ pub fn invert_code(alloc: Global, code: &Code) -> Result<Code, InvertFault>
 
 /// The inverse of each statement at its number, and that of the body.
 fn inverse_code(alloc: Global, code: &Code) -> Result<Code, AllocError>
-    ensures block { IfOk result (λ inverse. code_block inverse ≡ inverse_block (code_block code.now)) }
+    ensures block { IfOk result (λ inverse. (xs : List Name) → code_block xs inverse ≡ inverse_block (code_block xs code.now)) }
     ensures parts { IfOk result
         (λ inverse. AreInverse code.now.members.items code.now.statements.items code.now.body inverse.members.items inverse.statements.items inverse.body) }
     ensures numbered { IfOk result (λ inverse. (xs : List Name) → HaveNumbers xs code.now.statements.items → HaveNumbers xs inverse.statements.items) }
 {
-    let mut statements = Vec::new(alloc);
-    let mut members = Vec::new(alloc);
+    let mut statements = Vec::with_capacity(alloc, code.statements.len())?;
+    let mut members = Vec::with_capacity(alloc, code.members.len())?;
     for i in 0..code.statements.len() {
         let inverse = inverse_one(alloc, &code.statements[i], &code.members, i, &mut members)?;
         statements.push(inverse)?;
@@ -59,26 +59,16 @@ fn inverse_one(
     match statement {
         Statement::Skip => Ok(Statement::Skip),
         Statement::Assign(name, update, exp) => {
-            let name = name.copy()?;
-            Ok(Statement::Assign(name, opposite(*update), copy(alloc, exp)?))
+            let exp = copy(alloc, exp)?;
+            Ok(Statement::Assign(*name, opposite(*update), exp))
         }
         Statement::AssignElement(name, index, update, exp) => {
-            let name = name.copy()?;
             let (index, exp) = two_copies(alloc, index, exp)?;
-            Ok(Statement::AssignElement(name, index, opposite(*update), exp))
+            Ok(Statement::AssignElement(*name, index, opposite(*update), exp))
         }
-        Statement::Push(variable, stack) => {
-            let (variable, stack) = two_symbol_copies(variable, stack)?;
-            Ok(Statement::Pop(variable, stack))
-        }
-        Statement::Pop(variable, stack) => {
-            let (variable, stack) = two_symbol_copies(variable, stack)?;
-            Ok(Statement::Push(variable, stack))
-        }
-        Statement::Swap(one, other) => {
-            let (one, other) = two_symbol_copies(one, other)?;
-            Ok(Statement::Swap(one, other))
-        }
+        Statement::Push(variable, stack) => Ok(Statement::Pop(*variable, *stack)),
+        Statement::Pop(variable, stack) => Ok(Statement::Push(*variable, *stack)),
+        Statement::Swap(one, other) => Ok(Statement::Swap(*one, *other)),
         Statement::If(test, then_part, else_part, last) => {
             let then_part = backward(members, *then_part, others)?;
             let else_part = backward(members, *else_part, others)?;
@@ -93,21 +83,18 @@ fn inverse_one(
         }
         Statement::LocalInt(name, first, block, last) => {
             let block = backward(members, *block, others)?;
-            let name = name.copy()?;
             let (first, last) = two_copies(alloc, first, last)?;
-            Ok(Statement::LocalInt(name, last, block, first))
+            Ok(Statement::LocalInt(*name, last, block, first))
         }
         Statement::LocalStack(name, block) => {
             let block = backward(members, *block, others)?;
-            Ok(Statement::LocalStack(name.copy()?, block))
+            Ok(Statement::LocalStack(*name, block))
         }
         Statement::Call(called, arguments) => {
-            let (called, arguments) = call_copies(alloc, called, arguments)?;
-            Ok(Statement::Uncall(called, arguments))
+            Ok(Statement::Uncall(*called, arguments.to_vec(alloc)?))
         }
         Statement::Uncall(called, arguments) => {
-            let (called, arguments) = call_copies(alloc, called, arguments)?;
-            Ok(Statement::Call(called, arguments))
+            Ok(Statement::Call(*called, arguments.to_vec(alloc)?))
         }
     }
 }

@@ -5,6 +5,7 @@ pub mod BodiesInEffect
 pub mod Calling
 pub mod Courses
 pub mod Entering
+pub mod GoesOn
 pub mod Leaving
 pub mod Lending
 pub mod Levels
@@ -19,3 +20,4 @@ pub mod Turned
 pub mod OpenTotals
 pub mod Leaping
 pub mod Paths
+pub mod Over

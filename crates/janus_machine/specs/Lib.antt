@@ -1,3 +1,4 @@
+pub mod BlocksOver
 pub mod Faults
 pub mod Statements
 pub mod Acts

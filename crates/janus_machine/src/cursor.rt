@@ -1,6 +1,7 @@
 //! A place in code.
 
 ghost use Rattle.std.specs.Prelude.{◌≡◌, ◌+◌, ◌-◌, ◌≤◌, ◌<◌, ◌^◌, ℕ, List, [], true, false, IfOk, vec_capacity};
+ghost use Rattle.janus_meaning.specs.Syntax.{Name};
 ghost use Rattle.janus_meaning.specs.Stepping.{BeforeBlock as Before};
 ghost use Rattle.janus_meaning.specs.Limit.{step_limit};
 ghost use Rattle.janus_code.specs.CodeBlock.{code_block};
@@ -17,7 +18,7 @@ use std::alloc::{AllocError, Global};
 
 /// The last place of code.
 pub(crate) fn last(linear: &Linear) -> usize
-    ensures { result ≡ block_size (code_block linear.now.code) - 1 }
+    ensures { (xs : List Name) → result ≡ block_size (code_block xs linear.now.code) - 1 }
 {
     linear.instructions.len().saturating_sub(1)
 }
@@ -87,7 +88,8 @@ impl Cursor {
     /// Goes before the block of a book's code. No call is open then.
     pub fn enter(&mut self, book: &Book)
         ensures stands { (t : declared.Procedures) (h : StoreState) → h.callers ≡ [] → IsStanding t book.now self.new h }
-        ensures place { (t : declared.Procedures) (hs : List Caller) → place_of t book.now self.new hs ≡ Before (block_in book.now Forward) [] }
+        ensures place { (xs : List Name) (t : declared.Procedures) (hs : List Caller) →
+            place_of xs t book.now self.new hs ≡ Before (block_in xs book.now Forward) [] }
         ensures counts { IsAtEntry self.new }
     {
         self.calls.clear();
@@ -101,7 +103,8 @@ impl Cursor {
     /// Goes before the block of a book's inverse code. No call is open then.
     pub fn enter_inverse(&mut self, book: &Book)
         ensures stands { (t : declared.Procedures) (h : StoreState) → h.callers ≡ [] → IsStanding t book.now self.new h }
-        ensures place { (t : declared.Procedures) (hs : List Caller) → place_of t book.now self.new hs ≡ Before (block_in book.now Inverse) [] }
+        ensures place { (xs : List Name) (t : declared.Procedures) (hs : List Caller) →
+            place_of xs t book.now self.new hs ≡ Before (block_in xs book.now Inverse) [] }
         ensures counts { IsAtEntry self.new }
     {
         self.calls.clear();

@@ -1,6 +1,7 @@
 //! A procedure as it runs.
 
-ghost use Rattle.std.specs.Prelude.{◌≡◌, IfOk};
+ghost use Rattle.std.specs.Prelude.{◌≡◌, List, IfOk};
+ghost use Rattle.janus_meaning.specs.Syntax.{Name};
 ghost use Rattle.janus_code.specs.CodeBlock.{code_block};
 ghost use Rattle.janus_machine.specs.Bodies.{numbers_of};
 ghost use Rattle.janus_machine.specs.LinkedProcedure.{name_number_of, parameters_of, body_of};
@@ -30,8 +31,8 @@ impl LinkedProcedure {
     ) -> Result<LinkedProcedure, AllocError>
         ensures name { IfOk result (λ procedure. name_number_of procedure ≡ flat.name.number) }
         ensures parameters { IfOk result (λ procedure. parameters_of procedure ≡ numbers_of flat.parameters.items) }
-        ensures body { IfOk result (λ procedure. block_in (body_of procedure) Forward ≡ code_block flat.body) }
-        // Both ways the names keep their numbers.
+        ensures body { IfOk result (λ procedure. (xs : List Name) → block_in xs (body_of procedure) Forward ≡ code_block xs flat.body) }
+        // A table of names that has the code's numbers has them both ways.
         ensures numbered { IfOk result (λ procedure. KeepsNumbers flat.body.statements.items (body_of procedure)) }
     {
         let name = flat.name.number;

@@ -1,5 +1,5 @@
 -- Names in a row, the first under the number 0.
-use Rattle.std.specs.Prelude.{◌≡◌, ◌⊎◌, ℕ, List, [], ◌∷◌, ◌++◌, length, slice_get, Some}
+use Rattle.std.specs.Prelude.{◌≡◌, ◌⊎◌, ℕ, List, [], ◌∷◌, ◌++◌, length, slice_get, slice_index_or, Some}
 
 -- the octets of a name
 abbrev pub Name : Type 0
@@ -8,6 +8,10 @@ Name = List ℕ
 -- this number is that of this name
 abbrev pub IsNumbered : List Name → ℕ → Name → Type 0
 IsNumbered xs k x = slice_get xs k ≡ Some x
+
+-- the name of a number; behind them all the empty one
+abbrev pub name_at : List Name → ℕ → Name
+name_at xs k = slice_index_or xs k []
 
 -- the name has a number
 abbrev pub IsMet : List Name → Name → Type 0

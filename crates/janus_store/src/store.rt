@@ -600,9 +600,23 @@ impl<L: Ledger> Store<L> {
         ensures shape { IsLike self.old self.new }
         ensures counted { writes.new ≡ writes.old + 1 }
     {
+        let _former = self.replace_number_at(k, number, writes);
+    }
+
+    /// Another number for the k-th name in sight that has one and is not hidden; the answer is the number that it had.
+    #[inline(always)]
+    pub fn replace_number_at(&mut self, k: usize, number: i32, writes: &mut Writes<L>) -> i32
+        requires { (x : Name) × IsNumberInSight self.old k x }
+        ensures former { (x : Name) → IsNumberInSight self.old k x → look x self.old.sight ≡ Fine (Num result) }
+        ensures written { (x : Name) → IsNumberInSight self.old k x → write x (Num number) self.old.sight ≡ Fine self.new.sight }
+        ensures shape { IsLike self.old self.new }
+        ensures counted { writes.new ≡ writes.old + 1 }
+    {
         writes.add();
         let place = nth(self.places.numbers(), self.in_front.numbers, k);
+        let former = beside(&self.numbers, place);
         self.numbers[place] = number;
+        former
     }
 
     /// Another number for an element of the k-th array in sight that is not hidden, at an index within its range.

@@ -396,6 +396,8 @@ fn statements_behind(
         statements.push(next)?;
         rest = after;
     }
+    // A tree is kept for long, so it has no room to spare.
+    statements.shrink_to_fit();
     Ok((statements, rest))
 }
 

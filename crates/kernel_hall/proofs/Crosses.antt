@@ -67,7 +67,7 @@ Code-send : IsSend (Code.the_field).row
 Code-send = search (crosses, Statement-send, sendable) depth 60 fits 20000
 
 Linear-send : IsSend (Linear.the_field).row
-Linear-send = search (crosses, maps, FlatExp-send, Code-send, sendable) depth 60 fits 20000
+Linear-send = search (crosses, maps, Code-send, sendable) depth 60 fits 20000
 
 FrameNames-send : IsSend (FrameNames.the_field).row
 FrameNames-send = search (crosses, sendable) depth 60 fits 20000

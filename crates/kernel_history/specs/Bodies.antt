@@ -72,7 +72,7 @@ procedures_in tree work = (start_of (code_of (past_of tree) (work_of work)) (her
 
 -- ---- which bodies are kept, and in which order
 
--- each node's code has its numbers in the store, and its bodies are kept
+-- each node's code, read over the store's table of names, is its cell's block, and its bodies are kept
 abbrev pub NodesAreReady : {L : Type 0} → HistoryTree → Runner L → Type 0
 NodesAreReady tree runner = (n : ℕ) (cell : EndedCell) → IsCellAt tree n cell → IsReady runner.store.names runner.procedures cell.program
 

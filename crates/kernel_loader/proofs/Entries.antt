@@ -2,7 +2,7 @@
 use Rattle.std.proofs.Common.{◌≡◌, ℕ, ◌<◌, ◌≤◌, inl, inr, List, [], ◌∷◌, ◌++◌, length, map, take, get_or, zero, suc, refl, sym, ap, ◌∙◌, subst, arith, length-append}
 use Rattle.std.specs.Prelude.{slice_get, Some, None}
 use Rattle.std.proofs.lemmas.Bool.{cases_lt}
-use Rattle.janus_meaning.specs.Syntax.{Name, ANumber, AnArray, AStack, Blk}
+use Rattle.janus_meaning.specs.Syntax.{Name, ANumber, AnArray, AStack}
 use Rattle.janus_meaning.specs.Store.{Val, Num, Arr, Stk, Lent, Store, Bare, Slot}
 use Rattle.janus_meaning.specs.Shape.{Shape, AreDistinct, shape_of, kind_at}
 use Rattle.janus_meaning.specs.World.{size_of, listed}
@@ -10,13 +10,7 @@ use Rattle.janus_check.specs.Names.{over}
 use Rattle.janus_check.specs.Names as names
 use Rattle.janus_check.specs.declared.env.Kind.{Kind}
 use Rattle.janus_check.specs.declared.env.Kind.TheVariants.{Number, Array, Stack}
-use Rattle.janus_syntax.specs.Tree as tree
-use Rattle.janus_syntax.specs.View.{plain_cell}
-use Rattle.janus_machine.specs.Places.{block_in}
-use Rattle.janus_machine.specs.declared.book.Direction.TheVariants.{Forward}
 use Rattle.kernel_loader.specs.Kinds.{kind_in}
-use Rattle.kernel_runner.specs.Program.{tree_of, cell_of_program}
-use Rattle.kernel_runner.specs.declared.program.Program.{Program}
 use Rattle.kernel_runner.proofs.Declaring.{LendNothing}
 
 abbrev pub entry_of : Name × Val → Name × Kind
@@ -123,12 +117,5 @@ taken_all [] zero l = refl
 taken_all [] (suc i) l = refl
 taken_all (x ∷ xs) zero l = absurd (omega arith)
 taken_all (x ∷ xs) (suc i) l = ap (λ (zs : List (Name × Kind)). x ∷ zs) (taken_all xs i (omega arith))
-
--- what a program runs is its tree, where its book has the tree's block
-pub same_cell : (p : Program) → block_in p.book Forward ≡ (plain_cell (tree_of p)).block → cell_of_program p ≡ plain_cell (tree_of p)
-same_cell p e = by (tree_of p) e
-  where
-    by : (c : tree.Cell) → block_in p.book Forward ≡ (plain_cell c).block → record { declarations = (plain_cell c).declarations; procedures = (plain_cell c).procedures; block = block_in p.book Forward } ≡ plain_cell c
-    by (tree.cell_of ds b ps) e = ap (λ (k : Blk). record { declarations = (plain_cell (tree.cell_of ds b ps)).declarations; procedures = (plain_cell (tree.cell_of ds b ps)).procedures; block = k }) e
 
 -- ---- kinds of parameters

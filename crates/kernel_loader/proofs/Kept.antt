@@ -11,6 +11,7 @@ use Rattle.janus_syntax.specs.declared.tree.Procedure as Defined
 use Rattle.janus_code.specs.Met.{MeetsProc}
 use Rattle.kernel_loader.specs.Met.{AreProceduresMet}
 use Rattle.janus_names.specs.Numbers.{IsNumbered}
+use Rattle.janus_names.proofs.NameAt.{is_numbered}
 use Rattle.janus_code.specs.CodeBlock.{code_block}
 use Rattle.janus_code.specs.Numbered.{HaveNumbers}
 use Rattle.janus_code.specs.Procedures.{param_of, params_of, proc_of, ParametersHaveNumbers, ProcedureHasNumbers}
@@ -22,20 +23,20 @@ use Rattle.janus_machine.specs.Places.{block_in, BookHasNumbers}
 use Rattle.janus_machine.specs.declared.book.Direction.TheVariants.{Forward}
 use Rattle.janus_machine.specs.declared.linked_procedure.LinkedProcedure.{LinkedProcedure}
 
-parameters_named : (xs : List Name) (ps : List FlatParameter) → ParametersHaveNumbers xs ps → AreNamed xs (numbers_of ps) (names_of (params_of ps))
+parameters_named : (xs : List Name) (ps : List FlatParameter) → ParametersHaveNumbers xs ps → AreNamed xs (numbers_of ps) (names_of (params_of xs ps))
 parameters_named xs [] h = tt
-parameters_named xs (p ∷ ps) h = (h.0, parameters_named xs ps h.1)
+parameters_named xs (p ∷ ps) h = (is_numbered xs p.name.number h.0, parameters_named xs ps h.1)
 
-pub body_of_flat : (xs : List Name) (f : flat.FlatProcedure) (b : LinkedProcedure) (p : Proc) → proc_of f ≡ p → ProcedureHasNumbers xs f → length p.params ≤ parameter_limit → b.name ≡ f.name.number → b.parameters.items ≡ numbers_of f.parameters.items →
-    block_in b.book Forward ≡ code_block f.body → ((xs : List Name) → HaveNumbers xs f.body.statements.items → BookHasNumbers xs b.book) → IsNumbered xs b.name p.name × IsBody xs b p
+pub body_of_flat : (xs : List Name) (f : flat.FlatProcedure) (b : LinkedProcedure) (p : Proc) → proc_of xs f ≡ p → ProcedureHasNumbers xs f → length p.params ≤ parameter_limit → b.name ≡ f.name.number → b.parameters.items ≡ numbers_of f.parameters.items →
+    ((xs : List Name) → block_in xs b.book Forward ≡ code_block xs f.body) → ((xs : List Name) → HaveNumbers xs f.body.statements.items → BookHasNumbers xs b.book) → IsNumbered xs b.name p.name × IsBody xs b p
 body_of_flat xs f b p is numbered few name parameters body books = (
-  subst (λ (p : Proc). IsNumbered xs b.name p.name) is (subst (λ k. IsNumbered xs k (proc_of f).name) (sym name) numbered.name),
+  subst (λ (p : Proc). IsNumbered xs b.name p.name) is (subst (λ k. IsNumbered xs k (proc_of xs f).name) (sym name) (is_numbered xs f.name.number numbered.name)),
   record {
     few = subst (λ ks. length ks ≤ parameter_limit) (sym parameters)
-        (subst (λ n. n ≤ parameter_limit) (ap (λ (p : Proc). length p.params) (sym is) ∙ length-map f.parameters.items param_of ∙ sym (length-map f.parameters.items (λ (p : FlatParameter). p.name.number))) few);
+        (subst (λ n. n ≤ parameter_limit) (ap (λ (p : Proc). length p.params) (sym is) ∙ length-map f.parameters.items (param_of xs) ∙ sym (length-map f.parameters.items (λ (p : FlatParameter). p.name.number))) few);
     parameters = subst (λ ks. AreNamed xs ks (names_of p.params)) (sym parameters)
         (subst (λ (p : Proc). AreNamed xs (numbers_of f.parameters.items) (names_of p.params)) is (parameters_named xs f.parameters.items numbered.parameters));
-    body = body ∙ ap (λ (p : Proc). p.body) is;
+    body = body xs ∙ ap (λ (p : Proc). p.body) is;
     numbered = books xs numbered.body;
   },
 )

@@ -3,7 +3,7 @@ use Rattle.std.proofs.Common.{◌≡◌, ◌≢◌, ℕ, zero, suc, ◌+◌, Lis
 use Rattle.std.specs.Prelude.{slice_get}
 use Rattle.std.specs.Result.{IfOk, OnOk, IfErr}
 use Rattle.std.proofs.lemmas.Option.{slice_get_within}
-use Rattle.janus_meaning.specs.Syntax.{Name, Proc}
+use Rattle.janus_meaning.specs.Syntax.{Name, Blk, Proc}
 use Rattle.janus_meaning.specs.Store.{Store}
 use Rattle.janus_meaning.specs.World.{World, oldest, size_of}
 use Rattle.janus_names.specs.Numbers.{HaveOneNumber}
@@ -19,20 +19,23 @@ use Rattle.janus_check.specs.WellFormed.{IsWellFormed}
 use Rattle.janus_check.specs.declared.fault.CheckFault as check
 use Rattle.janus_check.specs.declared.fault.CheckFault.TheVariants as check_fault
 use Rattle.janus_check.proofs.SameHeads.{formed_same, faults_same}
+use Rattle.janus_code.specs.CodeBlock.{code_block}
 use Rattle.janus_code.specs.Met.{MeetsBlk, MeetsLocalsOf}
 use Rattle.janus_code.specs.Numbered.{HaveNumbers}
+use Rattle.janus_code.specs.declared.code.Code.{Code}
 use Rattle.janus_code.specs.declared.code.Statement.{Statement}
 use Rattle.janus_code.proofs.Meeting.{AreMet, AreCalledMet}
 use Rattle.janus_store.specs.StoreState.{StoreState, Caller, AreKnown, KeepsSight, shown_store, given_back}
 use Rattle.janus_machine.specs.Bodies.{AreBelow, AreBodies, AreBodiesFrom, AreDefined, Define}
 use Rattle.janus_machine.specs.Procedures.{kept_in}
-use Rattle.janus_machine.specs.Places.{BookHasNumbers, KeepsNumbers}
+use Rattle.janus_machine.specs.Places.{block_in, BookHasNumbers, KeepsNumbers}
 use Rattle.janus_machine.specs.declared.book.Book.{Book}
+use Rattle.janus_machine.specs.declared.book.Direction.TheVariants.{Forward}
 use Rattle.janus_machine.specs.declared.linked_procedure.LinkedProcedure.{LinkedProcedure}
 use Rattle.janus_machine.specs.declared.procedures.Procedures.{Procedures}
 use Rattle.kernel_loader.specs.Known.{FindTheSame}
 use Rattle.kernel_loader.specs.Met.{AreDeclaredMet, MeetOwn, AreProceduresMet}
-use Rattle.kernel_runner.specs.Program.{cell_of_program, tree_of, procedures_of, IsReady}
+use Rattle.kernel_runner.specs.Program.{cell_of_program, procedures_of, IsReady}
 use Rattle.kernel_runner.specs.Runner.{ShownWorld, Shows, Is, Between}
 use Rattle.kernel_loader.specs.Loading.{IsCheckedOver}
 use Rattle.kernel_runner.specs.declared.program.Program.{Program}
@@ -118,10 +121,10 @@ viewed_count [] = refl
 viewed_count (y ∷ ys) = ap suc (viewed_count ys)
 
 -- a program is ready whose code has its numbers, and whose bodies are kept behind the others
-pub ready_made : (xs ys : List Name) (old new : Procedures) (program : Program) → cell_of_program program ≡ plain_cell (tree_of program) → ys ≡ xs → BookHasNumbers ys program.book → program.first ≡ length (kept_in old) →
+pub ready_made : (xs ys : List Name) (old new : Procedures) (program : Program) → block_in ys program.book Forward ≡ (cell_of_program program).block → ys ≡ xs → BookHasNumbers ys program.book → program.first ≡ length (kept_in old) →
     AreBodiesFrom ys (kept_in new) (length (kept_in old)) (procedures_of program) → length (kept_in new) ≡ length (kept_in old) + length (procedures_of program) → IsReady xs new program
 ready_made xs ys old new program meant names numbered first bodies count = record {
-  meant = meant;
+  meant = subst (λ (xs : List Name). block_in xs program.book Forward ≡ (cell_of_program program).block) names meant;
   numbered = subst (λ (xs : List Name). BookHasNumbers xs program.book) names numbered;
   within = omega (arith, first, count);
   bodies = subst (λ (xs : List Name). AreBodiesFrom xs (kept_in new) program.first (procedures_of program)) names
@@ -155,6 +158,12 @@ pub first_here : (w : World) (g : Shape) (hs : Heads) (t : tree.Cell) (f : check
     f ≢ check_fault.Memory → IsFirst f (cell_faults (shape_of w.store) (heads_of w.procedures) t)
 first_here w g hs t f same heads first real =
     subst (λ (h : Shape). IsFirst f (cell_faults h (heads_of w.procedures) t)) same (subst (λ fs. IsFirst f fs) (faults_same g hs (heads_of w.procedures) t heads) (first real))
+
+-- a book that is made of code that stands for a block
+pub book_block : {E : Type 0} (xs : List Name) (code : Code) (b : Blk) (r : Result Book E) → code_block xs code ≡ b → IfOk r (λ book. (ys : List Name) → block_in ys book Forward ≡ code_block ys code) →
+    IfOk r (λ book. block_in xs book Forward ≡ b)
+book_block xs code b (Ok book) is stands = stands xs ∙ is
+book_block xs code b (Err e) is stands = tt
 
 -- a book that is made of statements whose names have their numbers
 pub book_numbered : {E : Type 0} (xs : List Name) (ss : List Statement) (r : Result Book E) → HaveNumbers xs ss → IfOk r (KeepsNumbers ss) → IfOk r (BookHasNumbers xs)

@@ -4,11 +4,11 @@ use Rattle.janus_meaning.specs.Syntax.{Name, Proc, names_of, Stm, Blk, Skip, Set
 use Rattle.janus_meaning.specs.World.{Declaration, declared_name}
 use Rattle.janus_names.specs.Numbers.{IsMet, GoOn}
 use Rattle.janus_code.specs.Met.{AreAllMet, MeetsLocals, MeetsLocalsOf}
-use Rattle.kernel_runner.proofs.Growing.{same_number}
+use Rattle.janus_machine.proofs.GoesOn.{number_goes_on}
 use Rattle.kernel_loader.specs.Met.{AreDeclaredMet, MeetOwn}
 
 pub still_met : (xs ys : List Name) (x : Name) → GoOn xs ys → IsMet xs x → IsMet ys x
-still_met xs ys x g m = (m.0, same_number xs ys m.0 x g m.1)
+still_met xs ys x g m = (m.0, number_goes_on xs ys g m.0 x m.1)
 
 module _ (xs ys : List Name) (g : GoOn xs ys) where
   mutual

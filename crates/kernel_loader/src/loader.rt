@@ -102,7 +102,7 @@ fn keep_and_link<L: Ledger>(
 ) -> Result<Book, AllocError>
     requires block { MeetsBlk names.now (plain_cell (cell_in checked.now)).block }
     requires procedures { AreProceduresMet names.now (plain_cell (cell_in checked.now)).procedures }
-    ensures block { IfOk result (λ book. block_in book Forward ≡ (plain_cell (cell_in checked.now)).block) }
+    ensures block { IfOk result (λ book. block_in names.now book Forward ≡ (plain_cell (cell_in checked.now)).block) }
     ensures numbered { IfOk result (BookHasNumbers names.now) }
     ensures bodies { OnOk result (AreBodiesBehind names.now kept.old kept.new (plain_cell (cell_in checked.now)).procedures) }
     ensures count { OnOk result (length (kept_in kept.new) ≡ length (kept_in kept.old) + length (plain_cell (cell_in checked.now)).procedures) }
@@ -122,7 +122,7 @@ fn book_of<L: Ledger>(
     store: &Store<L>,
 ) -> Result<Book, AllocError>
     requires { MeetsBlk names.now (plain_cell (cell_in checked.now)).block }
-    ensures block { IfOk result (λ book. block_in book Forward ≡ (plain_cell (cell_in checked.now)).block) }
+    ensures block { IfOk result (λ book. block_in names.now book Forward ≡ (plain_cell (cell_in checked.now)).block) }
     ensures numbered { IfOk result (BookHasNumbers names.now) }
 {
     let Ok(code) = flatten(alloc, checked, names) else {

@@ -23,7 +23,7 @@ use Rattle.janus_machine.specs.Open.{HaveLocals, Agrees}
 use Rattle.janus_machine.specs.Places.{block_in}
 use Rattle.janus_machine.specs.declared.book.Book.{Book}
 use Rattle.janus_machine.specs.declared.book.Direction.{Direction}
-use Rattle.janus_machine.specs.declared.book.Direction.TheVariants.{Inverse}
+use Rattle.janus_machine.specs.declared.book.Direction.TheVariants.{Forward, Inverse}
 use Rattle.janus_machine.specs.declared.cursor.Call.{Call}
 use Rattle.janus_machine.specs.declared.cursor.Cursor.{Cursor}
 use Rattle.janus_machine.specs.declared.procedures.Procedures.{Procedures}
@@ -59,18 +59,18 @@ none_in_front : (fs us : List Frame) → fs ++ us ≡ [] → fs ≡ []
 none_in_front [] us e = refl
 none_in_front (f ∷ fs) us e = cc
 
-pub agrees_before : (k : ℕ) (t : Procedures) (b : Book) (c : Cursor) (h : StoreState) (blk : Blk) → IsWhole h → stacks_in h.sight ≡ k → IsStanding t b c h → place_of t b c h.callers ≡ BeforeBlock blk [] → Agrees k t b c h
+pub agrees_before : (k : ℕ) (t : Procedures) (b : Book) (c : Cursor) (h : StoreState) (blk : Blk) → IsWhole h → stacks_in h.sight ≡ k → IsStanding t b c h → place_of h.names t b c h.callers ≡ BeforeBlock blk [] → Agrees k t b c h
 agrees_before k t b c h blk whole stacks standing place =
-    let frames : frames_of (place_in t b c) ++ outside_of t b c h.callers ≡ [] = sym (frames_within (outside_of t b c h.callers) (place_in t b c)) ∙ ap frames_of place in
-    let none : frames_of (place_in t b c) ≡ [] = none_in_front (frames_of (place_in t b c)) (outside_of t b c h.callers) frames in
+    let frames : frames_of (place_in h.names t b c) ++ outside_of h.names t b c h.callers ≡ [] = sym (frames_within (outside_of h.names t b c h.callers) (place_in h.names t b c)) ∙ ap frames_of place in
+    let none : frames_of (place_in h.names t b c) ≡ [] = none_in_front (frames_of (place_in h.names t b c)) (outside_of h.names t b c h.callers) frames in
     let lent : stacks_lent h.callers ≡ 0 = ap stacks_lent whole.callers in
     let own : own_names h.declared h.callers ≡ h.declared = ap (own_names h.declared) whole.callers in
-    let locals : locals_in (frames_of (place_in t b c)) ≡ 0 = ap locals_in none in
+    let locals : locals_in (frames_of (place_in h.names t b c)) ≡ 0 = ap locals_in none in
     let declared = whole.declared in
     record {
       stacks = (let e : live_stacks h ≡ k = omega arith in e) ∙ sym (ap (live k) (ap frames_of place));
       size = omega arith;
-      callers = subst (λ (cs : List Call). HaveLocals t b h.declared c.direction cs h.callers) (sym (no_calls h.names t b c.direction (calls_of c) h.callers whole.callers standing.calls)) tt;
+      callers = subst (λ (cs : List Call). HaveLocals h.names t b h.declared c.direction cs h.callers) (sym (no_calls h.names t b c.direction (calls_of c) h.callers whole.callers standing.calls)) tt;
     }
 
 -- ---- entering a cell
@@ -96,25 +96,25 @@ ready_still old new program becomes kept h =
       bodies = bodies_from_same new.store.names (kept_in old.procedures) (kept_in new.procedures) program.first (procedures_of program) kept more.bodies;
     }
 
--- what a cursor promises before a block
-pub record IsBefore (cursor : Cursor) (book : Book) (blk : Blk) : Type 0 where
+-- what a cursor promises before a block, over these names
+pub record IsBefore (xs : List Name) (cursor : Cursor) (book : Book) (blk : Blk) : Type 0 where
   pub stands : (t : Procedures) (h : StoreState) → h.callers ≡ [] → IsStanding t book cursor h
-  pub place : (t : Procedures) (hs : List Caller) → place_of t book cursor hs ≡ BeforeBlock blk []
+  pub place : (t : Procedures) (hs : List Caller) → place_of xs t book cursor hs ≡ BeforeBlock blk []
   pub counts : (cursor.count ≡ 0) × (cursor.turned ≡ false)
 
 pub entered_here : {L : Type 0} (old new : Runner L) (program : Program) (from : ShownWorld) → CanEnter old program from →
     Becomes old.store new.store (declare (cell_of_program program).declarations old.store.sight) → kept_in new.procedures ≡ kept_in old.procedures → AreDefined new.procedures (with_bodies program from.bodies) →
-    IsBefore new.cursor program.book (cell_of_program program).block → Stands new program (entry program from) false
+    IsBefore new.store.names new.cursor program.book (block_in new.store.names program.book Forward) → Stands new program (entry program from) false
 entered_here old new program from can becomes kept defined before =
     let cell = cell_of_program program in
     let start : World = entered cell from.world in
     let shown : old.store.sight ≡ from.world.store = sym (all_shown old.store can.is.1) ∙ can.is.0.store in
     let same : new.store.sight ≡ start.store = becomes.sight ∙ ap (declare cell.declarations) shown in
     let standing = before.stands new.procedures new.store becomes.whole.callers in
-    let place = before.place new.procedures new.store.callers in
+    let ready = ready_grows old.store.names new.store.names becomes.names old.procedures program can.ready in
+    let place : place_of new.store.names new.procedures program.book new.cursor new.store.callers ≡ BeforeBlock cell.block [] = before.place new.procedures new.store.callers ∙ ap (λ (b : Blk). BeforeBlock b []) ready.meant in
     let grown : Define new.store.names old.procedures from.bodies from.world.procedures = defined_grow old.store.names new.store.names becomes.names old.procedures from.bodies from.world.procedures can.is.0.defined in
     let itself : Becomes old.store new.store new.store.sight = record { sight = refl; whole = becomes.whole; names = becomes.names; one_number = becomes.one_number } in
-    let ready = ready_grows old.store.names new.store.names becomes.names old.procedures program can.ready in
     record {
       cell = refl;
       good = entered_is_good cell from.world (sound_good from.world can.sound);
@@ -133,7 +133,7 @@ entered_here old new program from can becomes kept defined before =
 -- ---- and its inverse
 
 pub entered_inverse_here : {L : Type 0} (old new : Runner L) (program : Program) (from : ShownWorld) → CanReturn old program from → new.store ≡ old.store → new.procedures ≡ old.procedures →
-    IsBefore new.cursor program.book (block_in program.book Inverse) → Stands new program (inverse_entry program from) false
+    IsBefore new.store.names new.cursor program.book (block_in new.store.names program.book Inverse) → Stands new program (inverse_entry program from) false
 unfolding CodeExec
 entered_inverse_here old new program from can store procedures before =
     let cell = cell_of_program program in
@@ -142,7 +142,9 @@ entered_inverse_here old new program from can store procedures before =
     let now : IsWhole new.store = subst (λ (h : StoreState). IsWhole h) (sym store) can.is.1 in
     let same : new.store.sight ≡ from.world.store = ap (λ (h : StoreState). h.sight) store ∙ sym (all_shown old.store can.is.1) ∙ can.is.0.store in
     let standing = before.stands new.procedures new.store now.callers in
-    let place : place_of new.procedures program.book new.cursor new.store.callers ≡ BeforeBlock (inverse_block cell.block) [] = before.place new.procedures new.store.callers ∙ ap (λ (b : Blk). BeforeBlock b []) (books_turn program.book) in
+    let ready : IsReady new.store.names new.procedures program = subst (λ (h : StoreState). IsReady h.names new.procedures program) (sym store) (subst (λ (t : Procedures). IsReady old.store.names t program) (sym procedures) can.ready) in
+    let turned : block_in new.store.names program.book Inverse ≡ inverse_block cell.block = books_turn new.store.names program.book ∙ ap inverse_block ready.meant in
+    let place : place_of new.store.names new.procedures program.book new.cursor new.store.callers ≡ BeforeBlock (inverse_block cell.block) [] = before.place new.procedures new.store.callers ∙ ap (λ (b : Blk). BeforeBlock b []) turned in
     record {
       cell = refl;
       good = back.good;
@@ -152,7 +154,7 @@ entered_inverse_here old new program from can store procedures before =
       standing = standing;
       declared = now.declared ∙ ap size_of same;
       agrees = agrees_before (stacks_in from.world.store) new.procedures program.book new.cursor new.store (inverse_block cell.block) now (ap stacks_in same) standing place;
-      ready = subst (λ (h : StoreState). IsReady h.names new.procedures program) (sym store) (subst (λ (t : Procedures). IsReady old.store.names t program) (sym procedures) can.ready);
+      ready = ready;
       one_number = subst (λ (h : StoreState). HaveOneNumber h.names) (sym store) can.is.0.one_number;
       defined = subst (λ (h : StoreState). Define h.names new.procedures from.bodies from.world.procedures) (sym store) (subst (λ (t : Procedures). Define old.store.names t from.bodies from.world.procedures) (sym procedures) can.is.0.defined);
       faces = (ap (λ (r : Store). To (BeforeBlock (inverse_block cell.block) []) r) (sym same) ∙ ap (λ (p : Place). To p new.store.sight) (sym place), never);

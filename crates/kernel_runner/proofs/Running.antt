@@ -133,7 +133,7 @@ module _ {L : Type 0} (runner : Runner L) (program : Program) (at : Place) where
   -- ---- turned round
 
   pub turned_round : (cursor : Cursor) → Stands runner program at false → IsStanding runner.procedures program.book cursor runner.store →
-      place_of runner.procedures program.book cursor runner.store.callers ≡ mirror (place_of runner.procedures program.book runner.cursor runner.store.callers) →
+      place_of runner.store.names runner.procedures program.book cursor runner.store.callers ≡ mirror (place_of runner.store.names runner.procedures program.book runner.cursor runner.store.callers) →
       ((k : ℕ) → Agrees k runner.procedures program.book runner.cursor runner.store → Agrees k runner.procedures program.book cursor runner.store) →
       (cursor.count ≡ runner.cursor.count) × (cursor.turned ≡ not runner.cursor.turned) →
       Stands {L = L} (record { store = runner.store; cursor = cursor; procedures = runner.procedures }) program at true

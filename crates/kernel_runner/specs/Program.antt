@@ -16,25 +16,22 @@ use Rattle.kernel_runner.specs.declared.program.Program.{Program}
 abbrev pub tree_of : Program → tree.Cell
 tree_of program = cell_in program.checked
 
+-- the cell that it is: the one that was checked
+abbrev pub cell_of_program : Program → Cell
+cell_of_program program = plain_cell (tree_of program)
+
 -- what it declares
 abbrev pub declarations_of : Program → List Declaration
-declarations_of program = (plain_cell (tree_of program)).declarations
+declarations_of program = (cell_of_program program).declarations
 
 -- what it defines
 abbrev pub procedures_of : Program → List Proc
-procedures_of program = (plain_cell (tree_of program)).procedures
+procedures_of program = (cell_of_program program).procedures
 
-abbrev pub cell_of_program : Program → Cell
-cell_of_program program = record {
-  declarations = declarations_of program;
-  procedures = procedures_of program;
-  block = block_in program.book Forward;
-}
-
--- What runs of it is the cell that was checked, and has its numbers among the names that were met: its code, and the bodies of its
--- procedures, which are kept one behind another.
+-- What runs of it is that cell: its code, read over the table of names, is the cell's block, each of its numbers is that of a name in the
+-- table, and the bodies of its procedures are kept one behind another.
 pub record IsReady (names : List Name) (t : Procedures) (program : Program) : Type 0 where
-  pub meant : cell_of_program program ≡ plain_cell (tree_of program)
+  pub meant : block_in names program.book Forward ≡ (cell_of_program program).block
   pub numbered : BookHasNumbers names program.book
   pub within : program.first + length (procedures_of program) ≤ length (kept_in t)
   pub bodies : AreBodiesFrom names (kept_in t) program.first (procedures_of program)

@@ -113,7 +113,7 @@ pub record Stands {L : Type 0} (runner : Runner L) (program : Program) (at : Pla
   -- the store has the names of the world in which the steps began, and above them what is open at the cursor
   pub declared : runner.store.declared ≡ size_of (start_at at).store
   pub agrees : Agrees (stacks_in (start_at at).store) runner.procedures program.book runner.cursor runner.store
-  -- the code and its procedures' name each variable by its number
+  -- what runs is the program's cell
   pub ready : IsReady runner.store.names runner.procedures program
   pub one_number : HaveOneNumber runner.store.names
   pub defined : Define runner.store.names runner.procedures at.bodies (start_at at).procedures

@@ -7,26 +7,15 @@ use janus_syntax::tree::Update;
 use std::alloc::AllocError;
 use tests_rows::Sheet;
 
-/// Writes what is laid of the statement of a call between the entry and the end of a block.
+/// Writes what is laid of one of two assignments, to the names of the numbers 0 and 1, between the entry and the end of a block: of the one that the call says.
 pub(crate) fn answer(call: &str, sheet: &mut Sheet) {
     let number = if call == "in scope" { 0 } else { 1 };
-    match String::from_str(sheet.alloc(), "x") {
-        Ok(name) => tell_with(name, number, sheet),
-        Err(_) => sheet.refuse(),
-    }
+    tell_of([assignment(0), assignment(1)], number, sheet)
 }
 
-/// What is laid of the statement of this number, of which the first assigns to this name.
-fn tell_with(name: String, number: usize, sheet: &mut Sheet) {
-    match String::from_str(sheet.alloc(), "y") {
-        Ok(other) => tell_of([assignment(name, 0), assignment(other, 1)], number, sheet),
-        Err(_) => sheet.refuse(),
-    }
-}
-
-/// The assignment of one more to a name.
-fn assignment(text: String, number: usize) -> Statement {
-    let name = Symbol { text, number };
+/// The assignment of one more to the name of this number.
+fn assignment(number: usize) -> Statement {
+    let name = Symbol { number };
     Statement::Assign(name, Update::Add, FlatExp::Number(1))
 }
 

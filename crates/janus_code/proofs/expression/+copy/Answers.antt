@@ -2,10 +2,10 @@ use Rattle.std.proofs.Common.{refl}
 use Rattle.janus_code.proofs.Placing.{copy_of, copy_through, element_copy, negative_copy, binary_copy, and_copy, or_copy}
 use Rattle.janus_code.proofs.expression.+copy.Goals as goal
 
-pub copy-returns-in_ok-copy-in-Element : goal.copy-returns-in_ok-copy-in-Element
-copy-returns-in_ok-copy-in-Element t c =
+pub copy-returns-in_ok-index-in-Element : goal.copy-returns-in_ok-index-in-Element
+copy-returns-in_ok-index-in-Element t c =
     copy_of c.args.exp.now _ _ c.in-Element.is
-    (element_copy c.in-Element.name c.in_ok-copy-in-Element.field-0 c.in-Element.index c.in_ok-index-in-Element.index c.in_ok-copy-in-Element.ensures
+    (element_copy c.in-Element.name c.in-Element.index c.in_ok-index-in-Element.index
     (copy_through c.deref.result.now _ c.in_ok-index-in-Element.index.value _ c.deref.ensures refl c.in_ok-index-in-Element.ensures))
 
 pub copy-returns-in_ok-operand-in-Negative : goal.copy-returns-in_ok-operand-in-Negative

@@ -1,10 +1,11 @@
-use Rattle.std.proofs.Common.{List, map, take, ◌∷◌, ◌++◌, [], string_bytes, ap, ◌∙◌, sym, subst}
+use Rattle.std.proofs.Common.{List, map, take, ◌∷◌, ◌++◌, [], ap, ◌∙◌, sym, subst}
 use Rattle.std.proofs.lemmas.List.{map-append}
 use Rattle.janus_syntax.specs.Tree.{name_view, names_view}
 use Rattle.janus_syntax.specs.View.{text_of}
 use Rattle.janus_check.proofs.DropLemmas.{taken}
 use Rattle.janus_code.specs.declared.code.Symbol.{Symbol}
-use Rattle.janus_code.specs.Numbered.{HaveTheirNumbers, texts_of}
+use Rattle.janus_code.specs.Expressions.{symbol_name, names_in}
+use Rattle.janus_code.specs.Numbered.{HaveTheirNumbers}
 use Rattle.janus_code.proofs.Lists.{numbers_more}
 use Rattle.janus_code.proofs.Meeting.{one_name_met}
 use Rattle.janus_code.proofs.expression.symbols.Goals as goal
@@ -17,11 +18,11 @@ loop-i-preserved c =
     let xs = c.args.list.now in
     let i = c.loop-i.i in
     let x = c.index-list-i.result in
-    let y = c.in_ok-symbol.field-0 in
+    let y = c.symbol.result in
     let ys = c.loop-i.symbols.items in
     let v = c.loop-i.invariant in (
-      ap texts_of c.in_ok-push.ensures.items ∙ map-append (λ (y : Symbol). string_bytes y.text) ys (y ∷ [])
-          ∙ (λ j. v.0 j ++ c.in_ok-symbol.ensures.text j ∷ [])
+      ap (names_in c.args.names.now) c.in_ok-push.ensures.items ∙ map-append (symbol_name c.args.names.now) ys (y ∷ [])
+          ∙ (λ j. v.0 j ++ c.symbol.ensures.name j ∷ [])
           ∙ sym (ap (λ xs. map text_of (names_view xs)) (taken xs i x c.index-list-i.is c.loop-i-test.true) ∙ ap (map text_of) (map-append name_view (take i xs) (x ∷ [])) ∙ map-append text_of (names_view (take i xs)) (name_view x ∷ [])),
-      subst (λ (ys : List Symbol). HaveTheirNumbers c.args.names.now ys) (sym c.in_ok-push.ensures.items) (numbers_more c.args.names.now ys y v.1 c.in_ok-symbol.ensures.numbered),
+      subst (λ (ys : List Symbol). HaveTheirNumbers c.args.names.now ys) (sym c.in_ok-push.ensures.items) (numbers_more c.args.names.now ys y v.1 c.symbol.ensures.numbered),
     )

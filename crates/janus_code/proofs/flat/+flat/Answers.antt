@@ -14,22 +14,22 @@ pub flat_block-returns-clause-block : goal.flat_block-returns-clause-block
 flat_block-returns-clause-block t c =
     let d = c.loop-i.draft in
     let v = c.loop-i.invariant in
-    let tree : ℕ → _ = tree_at d.members.items d.statements.items in
+    let tree : ℕ → _ = tree_at c.args.names.now d.members.items d.statements.items in
     let long : length c.deref.result.now ≡ length c.args.block.now = omega (arith, ap length c.deref.ensures.value, v.as_many) in
     let row : ahead tree c.deref.result.now 0 (length c.deref.result.now) ≡ block_of c.args.block.now =
     ap (ahead tree c.deref.result.now 0) long
     ∙ row_is tree c.deref.result.now 0 c.args.block.now (λ j s e. let z : 0 + j ≡ j = omega arith in
     ap (λ j. tree (get_or c.deref.result.now j 0)) z ∙ ap (λ (ns : List ℕ). tree (get_or ns j 0)) c.deref.ensures.value
     ∙ v.trees j s (omega (arith, slice_get_within c.args.block.now j s e)) e) in
-    if_ok c.add_block.result (λ b e. e ∙ row) c.add_block.ensures.block
+    if_ok c.add_block.result (λ b e. e c.args.names.now ∙ row) c.add_block.ensures.block
 
 pub flat_statement-returns-in_ok-test-in-If-clause-tree : goal.flat_statement-returns-in_ok-test-in-If-clause-tree
 flat_statement-returns-in_ok-test-in-If-clause-tree t c =
     let d = c.flat_block.new.draft in
     let e = c.flat_block-in-If.new.draft in
-    let kept = block_grown d.members.items e.members.items d.statements.items e.statements.items c.in_ok-then_part-in-If.then_part c.in_ok-else_part-in-If.ensures.grows c.in_ok-then_part-in-If.ensures.below in
+    let kept = block_grown c.args.names.now d.members.items e.members.items d.statements.items e.statements.items c.in_ok-then_part-in-If.then_part c.in_ok-else_part-in-If.ensures.grows c.in_ok-then_part-in-If.ensures.below in
     if_ok c.add-in-If.result (λ n h.
-    h ∙ if_flat c.in-If.test c.in-If.last c.in_ok-test-in-If.test c.in_ok-test-in-If.last c.in-If.then_part c.in-If.else_part _ _
+    h c.args.names.now ∙ if_flat c.args.names.now c.in-If.test c.in-If.last c.in_ok-test-in-If.test c.in_ok-test-in-If.last c.in-If.then_part c.in-If.else_part _ _
     c.in_ok-test-in-If.ensures.trees.0 c.in_ok-test-in-If.ensures.trees.1
     (kept.0 ∙ c.in_ok-then_part-in-If.ensures.block ∙ ap block_of c.deref.ensures.value)
     (c.in_ok-else_part-in-If.ensures.block ∙ ap block_of c.deref-in-If.ensures.value)
@@ -39,9 +39,9 @@ pub flat_statement-returns-in_ok-entry-in-Loop-clause-tree : goal.flat_statement
 flat_statement-returns-in_ok-entry-in-Loop-clause-tree t c =
     let d = c.flat_block-in-Loop.new.draft in
     let e = c.flat_block-in-Loop-2.new.draft in
-    let kept = block_grown d.members.items e.members.items d.statements.items e.statements.items c.in_ok-do_part-in-Loop.do_part c.in_ok-loop_part-in-Loop.ensures.grows c.in_ok-do_part-in-Loop.ensures.below in
+    let kept = block_grown c.args.names.now d.members.items e.members.items d.statements.items e.statements.items c.in_ok-do_part-in-Loop.do_part c.in_ok-loop_part-in-Loop.ensures.grows c.in_ok-do_part-in-Loop.ensures.below in
     if_ok c.add-in-Loop.result (λ n h.
-    h ∙ loop_flat c.in-Loop.entry c.in-Loop.exit c.in_ok-entry-in-Loop.entry c.in_ok-entry-in-Loop.exit c.in-Loop.do_part c.in-Loop.loop_part _ _
+    h c.args.names.now ∙ loop_flat c.args.names.now c.in-Loop.entry c.in-Loop.exit c.in_ok-entry-in-Loop.entry c.in_ok-entry-in-Loop.exit c.in-Loop.do_part c.in-Loop.loop_part _ _
     c.in_ok-entry-in-Loop.ensures.trees.0 c.in_ok-entry-in-Loop.ensures.trees.1
     (kept.0 ∙ c.in_ok-do_part-in-Loop.ensures.block ∙ ap block_of c.deref-in-Loop.ensures.value)
     (c.in_ok-loop_part-in-Loop.ensures.block ∙ ap block_of c.deref-in-Loop-2.ensures.value)
@@ -107,7 +107,7 @@ flat_block-loop-i-preserved t c =
       as_many = omega (arith, ap length grown, length-append ns (n ∷ []), v.as_many);
       grows = search rules;
       below = row_below ns more n i (length old.statements.items) (length new.statements.items) grown v.as_many v.below one.grows.further one.below;
-      trees = row_trees (tree_at old.members.items old.statements.items) (tree_at new.members.items new.statements.items) ns more n i (length old.statements.items) c.args.block.now s grown v.as_many v.below one.grows.trees v.trees here one.tree;
+      trees = row_trees (tree_at c.args.names.now old.members.items old.statements.items) (tree_at c.args.names.now new.members.items new.statements.items) ns more n i (length old.statements.items) c.args.block.now s grown v.as_many v.below (one.grows.trees c.args.names.now) v.trees here one.tree;
       numbered = λ p. one.numbered (v.numbered p);
     }
 
@@ -126,23 +126,23 @@ flat_statement-flat_block-requires-in-LocalStack t c =
 pub flat_statement-returns-in_ok-first-in-LocalInt-clause-tree : goal.flat_statement-returns-in_ok-first-in-LocalInt-clause-tree
 flat_statement-returns-in_ok-first-in-LocalInt-clause-tree t c =
     if_ok c.add-in-LocalInt.result (λ n h.
-    h ∙ local_int_flat c.in-LocalInt.name c.in-LocalInt.field-3 c.in-LocalInt.first c.in-LocalInt.last _ c.in_ok-first-in-LocalInt.first c.in_ok-first-in-LocalInt.last c.in-LocalInt.block _
-    c.in_ok-name-in-LocalInt.ensures.text c.in_ok-first-in-LocalInt.ensures.trees.0 c.in_ok-first-in-LocalInt.ensures.trees.1
+    h c.args.names.now ∙ local_int_flat c.args.names.now c.in-LocalInt.name c.in-LocalInt.field-3 c.in-LocalInt.first c.in-LocalInt.last _ c.in_ok-first-in-LocalInt.first c.in_ok-first-in-LocalInt.last c.in-LocalInt.block _
+    c.symbol-name-in-LocalInt.ensures.name c.in_ok-first-in-LocalInt.ensures.trees.0 c.in_ok-first-in-LocalInt.ensures.trees.1
     (c.in_ok-block-in-LocalInt.ensures.block ∙ ap block_of c.deref-in-LocalInt.ensures.value)
     ∙ ap stm_of (sym c.in-LocalInt.is)) c.add-in-LocalInt.ensures.tree
 
-pub flat_statement-returns-in_ok-name-in-LocalStack-clause-tree : goal.flat_statement-returns-in_ok-name-in-LocalStack-clause-tree
-flat_statement-returns-in_ok-name-in-LocalStack-clause-tree t c =
+pub flat_statement-returns-in_ok-block-in-LocalStack-clause-tree : goal.flat_statement-returns-in_ok-block-in-LocalStack-clause-tree
+flat_statement-returns-in_ok-block-in-LocalStack-clause-tree t c =
     if_ok c.add-in-LocalStack.result (λ n h.
-    h ∙ local_stack_flat c.in-LocalStack.name c.in-LocalStack.field-2 _ c.in-LocalStack.block _
-    c.in_ok-name-in-LocalStack.ensures.text
+    h c.args.names.now ∙ local_stack_flat c.in-LocalStack.name c.in-LocalStack.field-2 _ c.in-LocalStack.block _
+    c.symbol-name-in-LocalStack.ensures.name
     (c.in_ok-block-in-LocalStack.ensures.block ∙ ap block_of c.deref-in-LocalStack.ensures.value)
     ∙ ap stm_of (sym c.in-LocalStack.is)) c.add-in-LocalStack.ensures.tree
 
 pub flat_statement-returns-in_ok-first-in-LocalInt-clause-numbered : goal.flat_statement-returns-in_ok-first-in-LocalInt-clause-numbered
 flat_statement-returns-in_ok-first-in-LocalInt-clause-numbered t c =
-    if_ok c.add-in-LocalInt.result (λ n h p. h c.args.names.now (c.in_ok-block-in-LocalInt.ensures.numbered p) (c.in_ok-name-in-LocalInt.ensures.numbered, c.in_ok-first-in-LocalInt.ensures.numbered.0, c.in_ok-first-in-LocalInt.ensures.numbered.1)) c.add-in-LocalInt.ensures.numbered
+    if_ok c.add-in-LocalInt.result (λ n h p. h c.args.names.now (c.in_ok-block-in-LocalInt.ensures.numbered p) (c.symbol-name-in-LocalInt.ensures.numbered, c.in_ok-first-in-LocalInt.ensures.numbered.0, c.in_ok-first-in-LocalInt.ensures.numbered.1)) c.add-in-LocalInt.ensures.numbered
 
-pub flat_statement-returns-in_ok-name-in-LocalStack-clause-numbered : goal.flat_statement-returns-in_ok-name-in-LocalStack-clause-numbered
-flat_statement-returns-in_ok-name-in-LocalStack-clause-numbered t c =
-    if_ok c.add-in-LocalStack.result (λ n h p. h c.args.names.now (c.in_ok-block-in-LocalStack.ensures.numbered p) c.in_ok-name-in-LocalStack.ensures.numbered) c.add-in-LocalStack.ensures.numbered
+pub flat_statement-returns-in_ok-block-in-LocalStack-clause-numbered : goal.flat_statement-returns-in_ok-block-in-LocalStack-clause-numbered
+flat_statement-returns-in_ok-block-in-LocalStack-clause-numbered t c =
+    if_ok c.add-in-LocalStack.result (λ n h p. h c.args.names.now (c.in_ok-block-in-LocalStack.ensures.numbered p) c.symbol-name-in-LocalStack.ensures.numbered) c.add-in-LocalStack.ensures.numbered

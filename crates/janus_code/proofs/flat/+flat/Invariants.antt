@@ -13,7 +13,7 @@ invariant-flat_block-loop-i l = record {
   as_many : length l.numbers.items ≡ l.i;
   grows : Grows l.fn.draft.members.items l.fn.draft.statements.items l.draft.members.items l.draft.statements.items;
   below : (j : ℕ) → j < l.i → get_or l.numbers.items j 0 < length l.draft.statements.items;
-  trees : (j : ℕ) (s : code_stm.Stm) → j < l.i → slice_get l.block j ≡ Some s → tree_at l.draft.members.items l.draft.statements.items (get_or l.numbers.items j 0) ≡ stm_of s;
+  trees : (j : ℕ) (s : code_stm.Stm) → j < l.i → slice_get l.block j ≡ Some s → tree_at l.names l.draft.members.items l.draft.statements.items (get_or l.numbers.items j 0) ≡ stm_of s;
   numbered : HaveNumbers l.names l.fn.draft.statements.items → HaveNumbers l.names l.draft.statements.items;
 }
 

@@ -14,6 +14,6 @@ pub returns-clause-tree : goal.returns-clause-tree
 returns-clause-tree c =
     let d = c.args.draft.now in
     let long : c.len-number.result ≡ length d.statements.items = omega (arith, d.statements.ok.0) in
-    ap (λ (ss : List Statement). tree_at d.members.items ss c.len-number.result) c.in_ok-push.ensures.items
-    ∙ ap (tree_at d.members.items (d.statements.items ++ _)) long
-    ∙ tree_added d.members.items d.statements.items c.args.statement d.below c.requires
+    λ xs. ap (λ (ss : List Statement). tree_at xs d.members.items ss c.len-number.result) c.in_ok-push.ensures.items
+    ∙ ap (tree_at xs d.members.items (d.statements.items ++ _)) long
+    ∙ tree_added xs d.members.items d.statements.items c.args.statement d.below c.requires

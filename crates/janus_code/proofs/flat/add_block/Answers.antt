@@ -18,4 +18,4 @@ returns-clause-block c =
     let d = c.args.draft.now in
     let ms = d.members.items in
     let ns = c.args.numbers.now in
-    block_added ms ns d.statements.items (c.extend_from_slice.new.self.items) (record { start = c.len-start.result; end = c.len.result }) d.below c.requires c.in_ok-extend_from_slice.ensures.items (omega (arith, d.members.ok.0)) (omega (arith, d.members.ok.0, c.in_ok-extend_from_slice.ensures.len))
+    λ xs. block_added xs ms ns d.statements.items (c.extend_from_slice.new.self.items) (record { start = c.len-start.result; end = c.len.result }) d.below c.requires c.in_ok-extend_from_slice.ensures.items (omega (arith, d.members.ok.0)) (omega (arith, d.members.ok.0, c.in_ok-extend_from_slice.ensures.len))

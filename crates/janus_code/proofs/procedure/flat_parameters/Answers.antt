@@ -18,11 +18,11 @@ loop-i-preserved c =
     let xs = c.args.parameters.now in
     let i = c.loop-i.i in
     let x = c.index-parameters-i.result in
-    let y = c.in_ok-flat_parameter.field-0 in
+    let y = c.flat_parameter.result in
     let ys = c.loop-i.flat.items in
     let v = c.loop-i.invariant in (
-      ap params_of c.in_ok-push.ensures.items ∙ map-append param_of ys (y ∷ [])
-          ∙ (λ j. v.0 j ++ c.in_ok-flat_parameter.ensures.parameter j ∷ [])
+      ap (params_of c.args.names.now) c.in_ok-push.ensures.items ∙ map-append (param_of c.args.names.now) ys (y ∷ [])
+          ∙ (λ j. v.0 j ++ c.flat_parameter.ensures.parameter j ∷ [])
           ∙ sym (ap (λ xs. map plain_parameter (parameters_view xs)) (taken xs i x c.index-parameters-i.is c.loop-i-test.true) ∙ ap (map plain_parameter) (map-append parameter_view (take i xs) (x ∷ [])) ∙ map-append plain_parameter (parameters_view (take i xs)) (parameter_view x ∷ [])),
-      subst (λ (ys : List FlatParameter). ParametersHaveNumbers c.args.names.now ys) (sym c.in_ok-push.ensures.items) (parameters_more c.args.names.now ys y v.1 c.in_ok-flat_parameter.ensures.numbered),
+      subst (λ (ys : List FlatParameter). ParametersHaveNumbers c.args.names.now ys) (sym c.in_ok-push.ensures.items) (parameters_more c.args.names.now ys y v.1 c.flat_parameter.ensures.numbered),
     )

@@ -5,4 +5,4 @@ use Rattle.janus_code.specs.Procedures.{params_of, ParametersHaveNumbers}
 use Rattle.janus_code.proofs.procedure.flat_parameters.Given as goal
 
 abbrev pub invariant-loop-i : goal.invariant-loop-i
-invariant-loop-i l = (params_of l.flat.items ≡ map plain_parameter (parameters_view (take l.i l.parameters))) × ParametersHaveNumbers l.names l.flat.items
+invariant-loop-i l = (params_of l.names l.flat.items ≡ map plain_parameter (parameters_view (take l.i l.parameters))) × ParametersHaveNumbers l.names l.flat.items

@@ -1,4 +1,4 @@
-use Rattle.std.proofs.Common.{◌≡◌, ℤ, false, ap, ◌∙◌, sym, string_bytes, arith, of_z, to_z, w32}
+use Rattle.std.proofs.Common.{◌≡◌, ℤ, false, ap, ◌∙◌, sym, arith, of_z, to_z, w32}
 use Rattle.std.specs.Prelude.{slice_get}
 use Rattle.std.specs.Ordering.{int_eq}
 use Rattle.std.proofs.lemmas.Int.{to_z-of_z}
@@ -8,7 +8,8 @@ use Rattle.janus_meaning.specs.Store.{Store, Slot, Num}
 use Rattle.janus_meaning.specs.Value.{value}
 use Rattle.janus_meaning.proofs.Changes.{int_eq_true}
 use Rattle.janus_store.specs.StoreState.{StoreState}
-use Rattle.janus_code.specs.Expressions.{exp_of}
+use Rattle.janus_names.proofs.NameAt.{is_numbered}
+use Rattle.janus_code.specs.Expressions.{symbol_name, exp_of}
 use Rattle.janus_evaluation.specs.Results.{fault_of}
 use Rattle.janus_evaluation.proofs.Ends.{number_on_top}
 use Rattle.janus_evaluation.proofs.local.close_number.Goals.{in-Ok+else-wanted-number, in-Err}
@@ -23,27 +24,31 @@ refused n w r e = ap (λ t. and_then (guard t DelocalMismatch) (λ ok. Fine r)) 
 
 pub returns-clause-done : goal.returns-clause-done
 returns-clause-done g c =
-    let x = string_bytes c.args.name.now.text in
-    let b = exp_of c.args.last.now in
+    let xs = c.args.store.now.names in
+    let at = is_numbered xs c.args.name.now.number c.requires.at in
+    let x = symbol_name xs c.args.name.now in
+    let b = exp_of xs c.args.last.now in
     let s = c.args.store.now.sight in
     let t = number_on_top x b s c.requires.safe in
     let left = c.leave_local-number.ensures.left x t.number t.rest t.top in
     let after = c.leave_local-number.new.self in
     let rest : after.sight ≡ t.rest = ap (λ (h : StoreState). h.sight) left.1 in
     let names : after.names ≡ c.args.store.now.names = ap (λ (h : StoreState). h.names) left.1 in
-    let again = c.enter_local.ensures x (ap (λ (l : _). slice_get l c.args.name.now.number) names ∙ c.requires.at) in
+    let again = c.enter_local.ensures x (ap (λ (l : _). slice_get l c.args.name.now.number) names ∙ at) in
     let number : c.leave_local-number.result ≡ t.number = left.0 in
     let zm : to_z w32 (of_z w32 c.leave_local-number.result) ≡ c.leave_local-number.result = grind (arith, to_z-of_z) in
     let back : c.enter_local.new.self.sight ≡ s = ap (λ (h : StoreState). h.sight) again ∙ ap (λ n. Slot x (Num n) after.sight) (zm ∙ number) ∙ ap (Slot x (Num t.number)) rest ∙ sym t.top in
+    let read : value (exp_of after.names c.args.last.now) after.sight ≡ value b t.rest =
+    ap (λ (l : _). value (exp_of l c.args.last.now) after.sight) names ∙ ap (value b) rest in
     elim c.match-value.branch [
       | in-Ok+else-wanted-number w ↦
-          let wanted : value b t.rest ≡ Fine w.in-Ok.wanted = sym (w.in-Ok.ensures ∙ ap (value b) rest) in
+          let wanted : value b t.rest ≡ Fine w.in-Ok.wanted = sym (w.in-Ok.ensures ∙ read) in
           let apart = differs t.number w.in-Ok.wanted (λ e. w.if-wanted-number.false (ap (of_z w32) (sym e ∙ sym number))) in (
             t.is ∙ ap (λ r. and_then r (λ w. and_then (guard (int_eq t.number w) DelocalMismatch) (λ ok. Fine t.rest))) wanted ∙ refused t.number w.in-Ok.wanted t.rest apart ∙ ap (λ f. Bad (fault_of f)) (sym w.fault-is),
             back,
           )
       | in-Err w ↦
-          let wanted : value b t.rest ≡ Bad (fault_of w.in-Err.fault) = sym (w.in-Err.ensures ∙ ap (value b) rest) in (
+          let wanted : value b t.rest ≡ Bad (fault_of w.in-Err.fault) = sym (w.in-Err.ensures ∙ read) in (
             t.is ∙ ap (λ r. and_then r (λ w. and_then (guard (int_eq t.number w) DelocalMismatch) (λ ok. Fine t.rest))) wanted ∙ ap (λ f. Bad (fault_of f)) (sym w.fault-is),
             back,
           )

@@ -1,4 +1,4 @@
-use Rattle.std.proofs.Common.{◌≡◌, ◌<◌, ◌≤◌, ℕ, [], true, false, ap, ◌∙◌, sym, string_bytes, arith, refl}
+use Rattle.std.proofs.Common.{◌≡◌, ◌<◌, ◌≤◌, ℕ, [], true, false, ap, ◌∙◌, sym, arith, refl}
 use Rattle.std.specs.Prelude.{nat_lt}
 use Rattle.std.proofs.lemmas.Bool.Decides.{nat_tests}
 use Rattle.janus_meaning.specs.Fault.{Fine, and_then, guard, TooManyStacks}
@@ -6,6 +6,8 @@ use Rattle.janus_meaning.specs.Limit.{live_stack_limit}
 use Rattle.janus_meaning.specs.Store.{Slot, Stk}
 use Rattle.janus_meaning.specs.Moves.{stack_room}
 use Rattle.janus_store.specs.StoreState.{StoreState, live_stacks}
+use Rattle.janus_names.proofs.NameAt.{is_numbered}
+use Rattle.janus_code.specs.Expressions.{symbol_name}
 use Rattle.janus_evaluation.proofs.local.open_stack.Goals as goal
 
 no_room : (k : ℕ) → live_stack_limit ≤ k → nat_lt k live_stack_limit ≡ false
@@ -17,7 +19,8 @@ some_room k h = grind (arith, nat_tests)
 pub returns-then-stacks_left-eq0-clause-done : goal.returns-then-stacks_left-eq0-clause-done
 unfolding stack_room
 returns-then-stacks_left-eq0-clause-done g c =
-    let x = string_bytes c.args.name.now.text in
+    let xs = c.args.store.now.names in
+    let x = symbol_name xs c.args.name.now in
     let s = c.args.store.now.sight in
     let full = no_room (live_stacks c.args.store.now) (omega (arith, c.stacks_left.ensures, c.if-stacks_left-eq0.true)) in
     (ap (λ t. and_then (guard t TooManyStacks) (λ ok. Fine (Slot x (Stk []) s))) full, refl)
@@ -25,8 +28,25 @@ returns-then-stacks_left-eq0-clause-done g c =
 pub returns-clause-done : goal.returns-clause-done
 unfolding stack_room
 returns-clause-done g c =
-    let x = string_bytes c.args.name.now.text in
+    let xs = c.args.store.now.names in
+    let x = symbol_name xs c.args.name.now in
     let s = c.args.store.now.sight in
     let room = some_room (live_stacks c.args.store.now) (omega (arith, c.stacks_left.ensures, c.if-stacks_left-eq0.false)) in
     ap (λ t. and_then (guard t TooManyStacks) (λ ok. Fine (Slot x (Stk []) s))) room
-    ∙ ap Fine (sym (ap (λ (h : StoreState). h.sight) (c.enter_local_stack.ensures x c.requires.at)))
+    ∙ ap Fine (sym (ap (λ (h : StoreState). h.sight) (c.enter_local_stack.ensures x (is_numbered xs c.args.name.now.number c.requires.at))))
+
+pub enter_local_stack-requires-clause-named : goal.enter_local_stack-requires-clause-named
+enter_local_stack-requires-clause-named g c =
+    let xs = c.args.store.now.names in
+    (symbol_name xs c.args.name.now, is_numbered xs c.args.name.now.number c.requires.at)
+
+pub returns-clause-names : goal.returns-clause-names
+returns-clause-names g c =
+    let xs = c.args.store.now.names in
+    let at = is_numbered xs c.args.name.now.number c.requires.at in
+    let entered = c.enter_local_stack.ensures (symbol_name xs c.args.name.now) at in
+    record {
+      declared = ap (λ (h : StoreState). h.declared) entered;
+      names = ap (λ (h : StoreState). h.names) entered;
+      callers = ap (λ (h : StoreState). h.callers) entered;
+    }

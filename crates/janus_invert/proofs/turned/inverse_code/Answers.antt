@@ -55,7 +55,7 @@ returns-clause-block c =
     let many : length c.loop-i.statements.items ≡ length code.statements.items = omega (arith, v.as_many, code.statements.ok.0) in
     let back : IsBackward code.members.items c.backward.new.others.items code.body c.in_ok-body.body = subst (λ (ms : List ℕ). IsBackward ms c.backward.new.others.items code.body c.in_ok-body.body) c.deref-2.ensures.value c.in_ok-body.ensures.backward in
     let down = inverse_downward code.members.items code.statements.items code.body c.loop-i.members.items c.backward.new.others.items c.loop-i.statements.items c.in_ok-body.body code.downward many v.inverse c.in_ok-body.ensures.longer back in
-    body_turned code.members.items code.statements.items code.body c.backward.new.others.items c.loop-i.statements.items c.in_ok-body.body code.downward.each down.each
+    λ xs. body_turned xs code.members.items code.statements.items code.body c.backward.new.others.items c.loop-i.statements.items c.in_ok-body.body code.downward.each down.each
     (are_inverse code.members.items code.statements.items code.body c.loop-i.members.items c.backward.new.others.items c.loop-i.statements.items c.in_ok-body.body many v.inverse c.in_ok-body.ensures.longer back) code.downward.whole
 
 pub returns-clause-numbered : goal.returns-clause-numbered

@@ -42,11 +42,11 @@ returns-clause-stands g c =
     let way = c.caller_direction-direction.result in
     let turned : way ≡ caller_way call.uncalled u.direction = c.caller_direction-direction.ensures in
     let caller = book_in t b cs in
-    let end : c.last-end.result ≡ block_size (block_in caller way) - 1 =
-    c.last-end.ensures ∙ ap (λ (l : Linear). block_size (code_block l.code) - 1) (c.linear.ensures ∙ ap (λ (k : Book). linear_in k way) (c.running.ensures ∙ ap (λ is. book_in t b (reverse is)) c.deref.ensures.value)) in
-    let placed = c.turned_place-at.ensures caller end in
-    let to_go : c.saturating_sub-cursor.result ≡ block_size (block_in caller (caller_way call.uncalled u.direction)) - 1 - suc (call_at caller (caller_way call.uncalled u.direction) call.place) =
-    subst (λ w. c.saturating_sub-cursor.result ≡ block_size (block_in caller w) - 1 - suc (call_at caller w call.place)) turned (omega (arith, c.saturating_sub-cursor.ensures, c.saturating_sub.ensures, end, placed)) in
+    let end : c.last-end.result ≡ block_size (block_in h.names caller way) - 1 =
+    c.last-end.ensures h.names ∙ ap (λ (l : Linear). block_size (code_block h.names l.code) - 1) (c.linear.ensures ∙ ap (λ (k : Book). linear_in k way) (c.running.ensures ∙ ap (λ is. book_in t b (reverse is)) c.deref.ensures.value)) in
+    let placed = c.turned_place-at.ensures h.names caller end in
+    let to_go : c.saturating_sub-cursor.result ≡ block_size (block_in h.names caller (caller_way call.uncalled u.direction)) - 1 - suc (call_at h.names caller (caller_way call.uncalled u.direction) call.place) =
+    subst (λ w. c.saturating_sub-cursor.result ≡ block_size (block_in h.names caller w) - 1 - suc (call_at h.names caller w call.place)) turned (omega (arith, c.saturating_sub-cursor.ensures, c.saturating_sub.ensures, end, placed)) in
     stands_left t b u h stands call cs calls_are lender.0 lender.1 lender.2 c.requires.ended q.0 q.2 x.values x.unbound x.filled x.returned _ c.unbind.new.self refl turned to_go refl refl c.unbind.ensures
 
 pub returns-clause-steps : goal.returns-clause-steps
@@ -66,11 +66,11 @@ returns-clause-steps g c = λ ps k known a.
     let way = c.caller_direction-direction.result in
     let turned : way ≡ caller_way call.uncalled u.direction = c.caller_direction-direction.ensures in
     let caller = book_in t b cs in
-    let end : c.last-end.result ≡ block_size (block_in caller way) - 1 =
-    c.last-end.ensures ∙ ap (λ (l : Linear). block_size (code_block l.code) - 1) (c.linear.ensures ∙ ap (λ (k : Book). linear_in k way) (c.running.ensures ∙ ap (λ is. book_in t b (reverse is)) c.deref.ensures.value)) in
-    let placed = c.turned_place-at.ensures caller end in
-    let to_go : c.saturating_sub-cursor.result ≡ block_size (block_in caller (caller_way call.uncalled u.direction)) - 1 - suc (call_at caller (caller_way call.uncalled u.direction) call.place) =
-    subst (λ w. c.saturating_sub-cursor.result ≡ block_size (block_in caller w) - 1 - suc (call_at caller w call.place)) turned (omega (arith, c.saturating_sub-cursor.ensures, c.saturating_sub.ensures, end, placed)) in
+    let end : c.last-end.result ≡ block_size (block_in h.names caller way) - 1 =
+    c.last-end.ensures h.names ∙ ap (λ (l : Linear). block_size (code_block h.names l.code) - 1) (c.linear.ensures ∙ ap (λ (k : Book). linear_in k way) (c.running.ensures ∙ ap (λ is. book_in t b (reverse is)) c.deref.ensures.value)) in
+    let placed = c.turned_place-at.ensures h.names caller end in
+    let to_go : c.saturating_sub-cursor.result ≡ block_size (block_in h.names caller (caller_way call.uncalled u.direction)) - 1 - suc (call_at h.names caller (caller_way call.uncalled u.direction) call.place) =
+    subst (λ w. c.saturating_sub-cursor.result ≡ block_size (block_in h.names caller w) - 1 - suc (call_at h.names caller w call.place)) turned (omega (arith, c.saturating_sub-cursor.ensures, c.saturating_sub.ensures, end, placed)) in
     leads_left t b u h stands call cs calls_are lender.0 lender.1 lender.2 c.requires.ended q.0 q.2 x.values x.unbound x.filled x.returned (record { direction = way; to_go = c.saturating_sub-cursor.result; calls = c.pop.new.self; used = call.used; count = u.count; turned = u.turned; room = subst (λ m. 8192 ≤ m) (sym c.in-Some.ensures.capacity) u.room }) c.unbind.new.self refl turned to_go refl refl c.unbind.ensures ps k known
 
 pub returns-clause-agrees : goal.returns-clause-agrees
@@ -90,9 +90,9 @@ returns-clause-agrees g c =
     let way = c.caller_direction-direction.result in
     let turned : way ≡ caller_way call.uncalled u.direction = c.caller_direction-direction.ensures in
     let caller = book_in t b cs in
-    let end : c.last-end.result ≡ block_size (block_in caller way) - 1 =
-    c.last-end.ensures ∙ ap (λ (l : Linear). block_size (code_block l.code) - 1) (c.linear.ensures ∙ ap (λ (k : Book). linear_in k way) (c.running.ensures ∙ ap (λ is. book_in t b (reverse is)) c.deref.ensures.value)) in
-    let placed = c.turned_place-at.ensures caller end in
-    let to_go : c.saturating_sub-cursor.result ≡ block_size (block_in caller (caller_way call.uncalled u.direction)) - 1 - suc (call_at caller (caller_way call.uncalled u.direction) call.place) =
-    subst (λ w. c.saturating_sub-cursor.result ≡ block_size (block_in caller w) - 1 - suc (call_at caller w call.place)) turned (omega (arith, c.saturating_sub-cursor.ensures, c.saturating_sub.ensures, end, placed)) in
+    let end : c.last-end.result ≡ block_size (block_in h.names caller way) - 1 =
+    c.last-end.ensures h.names ∙ ap (λ (l : Linear). block_size (code_block h.names l.code) - 1) (c.linear.ensures ∙ ap (λ (k : Book). linear_in k way) (c.running.ensures ∙ ap (λ is. book_in t b (reverse is)) c.deref.ensures.value)) in
+    let placed = c.turned_place-at.ensures h.names caller end in
+    let to_go : c.saturating_sub-cursor.result ≡ block_size (block_in h.names caller (caller_way call.uncalled u.direction)) - 1 - suc (call_at h.names caller (caller_way call.uncalled u.direction) call.place) =
+    subst (λ w. c.saturating_sub-cursor.result ≡ block_size (block_in h.names caller w) - 1 - suc (call_at h.names caller w call.place)) turned (omega (arith, c.saturating_sub-cursor.ensures, c.saturating_sub.ensures, end, placed)) in
     agrees_left t b u h stands call cs calls_are lender.0 lender.1 lender.2 c.requires.ended q.0 q.2 x.values x.unbound x.filled x.returned _ c.unbind.new.self refl turned to_go refl refl c.unbind.ensures

@@ -162,7 +162,7 @@ statements_behind-statements-preserved t c =
     rw (c.in_ok-push.ensures.items, view_push c.statements.statements.items c.in-Some.next) (so_far_goes_on c.statements.invariant i)
 
 pub statements_behind-returns : goal.statements_behind-returns
-statements_behind-returns t c = so_far_ends c.statements.invariant (subst (IsStmOrOther c.args.depth (views c.statements.rest.now)) c.in_default.is c.in_ok-next.ensures)
+statements_behind-returns t c = rw c.shrink_to_fit.ensures.items (so_far_ends c.statements.invariant (subst (IsStmOrOther c.args.depth (views c.statements.rest.now)) c.in_default.is c.in_ok-next.ensures))
 
 pub construct-returns-in-If : goal.construct-returns-in-If
 construct-returns-in-If t c = λ place. rw c.in-If.is (if_result place c.args.depth c.requires.room (views c.args.tokens.now) (λ x. stm_view x.0) (λ x. views x.1.now) c.behind_if.result c.behind_if.ensures)

@@ -15,6 +15,7 @@ use Rattle.janus_check.specs.Check.{exp_faults}
 use Rattle.janus_check.specs.Fault.{IsFirst}
 use Rattle.janus_check.specs.declared.fault.CheckFault.{CheckFault}
 use Rattle.janus_check.specs.declared.fault.CheckFault.TheVariants as fault
+use Rattle.janus_code.specs.Expressions as flat
 use Rattle.janus_code.specs.Numbered.{HasNumbers}
 use Rattle.janus_code.specs.Met.{MeetsExp}
 use Rattle.janus_code.proofs.Meeting.{exp_met}
@@ -42,7 +43,8 @@ pub value-requires-clause-safe : goal.value-requires-clause-safe
 value-requires-clause-safe g c = λ broken.
     let tree : Exp = exp_of c.args.exp.now in
     let formed = subst (λ (g : Shape). IsExp g tree) (c.in-Ok.ensures.names ∙ declared c.args.store.now c.requires.whole) c.in-Ok-check_exp.ensures.well_formed in
-    not_broken tree c.args.store.now.sight formed (ap (λ (e : Exp). value e c.args.store.now.sight) (sym c.in-Ok-flat_exp.ensures.tree) ∙ broken)
+    let same : flat.exp_of c.args.store.now.names c.in-Ok-flat_exp.flat ≡ tree = subst (λ (xs : List Name). flat.exp_of xs c.in-Ok-flat_exp.flat ≡ tree) c.names.ensures.names c.in-Ok-flat_exp.ensures.tree in
+    not_broken tree c.args.store.now.sight formed (ap (λ (e : Exp). value e c.args.store.now.sight) (sym same) ∙ broken)
 
 pub value-requires-clause-numbered : goal.value-requires-clause-numbered
 value-requires-clause-numbered g c =
@@ -80,11 +82,12 @@ pub returns-in-Ok-value : goal.returns-in-Ok-value
 returns-in-Ok-value g c = λ text has.
     let tree : Exp = exp_of c.args.exp.now in
     let formed : IsExp (shape_of c.args.store.now.sight) tree = subst (λ (g : Shape). IsExp g tree) (c.in-Ok.ensures.names ∙ declared c.args.store.now c.requires.whole) c.in-Ok-check_exp.ensures.well_formed in
+    let stands : flat.exp_of c.args.store.now.names c.in-Ok-flat_exp.flat ≡ tree = subst (λ (xs : List Name). flat.exp_of xs c.in-Ok-flat_exp.flat ≡ tree) c.names.ensures.names c.in-Ok-flat_exp.ensures.tree in
     let worth : HasValue c.args.store.now.sight text (Fine c.in-Ok-value.number) = record {
       tree = exp_view c.args.exp.now;
       is_tree = has;
       formed = formed;
-      evaluated = ap (λ (e : Exp). value e c.args.store.now.sight) (sym c.in-Ok-flat_exp.ensures.tree) ∙ sym c.in-Ok-value.ensures;
+      evaluated = ap (λ (e : Exp). value e c.args.store.now.sight) (sym stands) ∙ sym c.in-Ok-value.ensures;
     } in
     let same : to_z w32 (of_z w32 c.in-Ok-value.number) ≡ c.in-Ok-value.number = grind (arith, to_z-of_z) in
     subst (λ (z : ℤ). HasValue c.args.store.now.sight text (Fine z)) (sym same) worth
@@ -93,9 +96,10 @@ pub returns : goal.returns
 returns g c = λ text has.
     let tree : Exp = exp_of c.args.exp.now in
     let formed : IsExp (shape_of c.args.store.now.sight) tree = subst (λ (g : Shape). IsExp g tree) (c.in-Ok.ensures.names ∙ declared c.args.store.now c.requires.whole) c.in-Ok-check_exp.ensures.well_formed in
+    let stands : flat.exp_of c.args.store.now.names c.in-Ok-flat_exp.flat ≡ tree = subst (λ (xs : List Name). flat.exp_of xs c.in-Ok-flat_exp.flat ≡ tree) c.names.ensures.names c.in-Ok-flat_exp.ensures.tree in
     record {
       tree = exp_view c.args.exp.now;
       is_tree = has;
       formed = formed;
-      evaluated = ap (λ (e : Exp). value e c.args.store.now.sight) (sym c.in-Ok-flat_exp.ensures.tree) ∙ sym c.in-Err-value.ensures ∙ sym (ap (λ f. Bad f) c.from.ensures);
+      evaluated = ap (λ (e : Exp). value e c.args.store.now.sight) (sym stands) ∙ sym c.in-Err-value.ensures ∙ sym (ap (λ f. Bad f) c.from.ensures);
     }

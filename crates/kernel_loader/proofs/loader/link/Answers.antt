@@ -5,10 +5,8 @@ use Rattle.janus_check.specs.Checked.{cell_in}
 use Rattle.janus_code.specs.Met.{MeetsBlk}
 use Rattle.janus_machine.specs.Bodies.{AreBelow}
 use Rattle.janus_machine.specs.Procedures.{kept_in}
-use Rattle.kernel_runner.specs.Program.{cell_of_program, tree_of}
 use Rattle.kernel_runner.specs.declared.program.Program.{Program}
 use Rattle.kernel_loader.specs.Met.{AreProceduresMet}
-use Rattle.kernel_loader.proofs.Entries.{same_cell}
 use Rattle.kernel_loader.proofs.Made.{all_kept, shows_more, bodies_within, cell_met, ready_made}
 use Rattle.kernel_loader.proofs.loader.link.Goals as goal
 
@@ -29,8 +27,7 @@ keep_and_link-requires-clause-procedures g c =
 pub returns-in-Ok-clause-ready : goal.returns-in-Ok-clause-ready
 returns-in-Ok-clause-ready g c =
     let program : Program = record { book = c.in-Ok.book; checked = c.args.checked.now; first = c.len-first.result } in
-    let meant : cell_of_program program ≡ plain_cell (tree_of program) = same_cell program c.in-Ok.ensures.block in
-    ready_made c.meet_cell-met.new.store.names c.names-names.result.now c.args.runner.now.procedures c.keep_and_link.new.kept program meant c.names-names.ensures.names c.in-Ok.ensures.numbered c.len-first.ensures c.in-Ok.ensures.bodies c.in-Ok.ensures.count
+    ready_made c.meet_cell-met.new.store.names c.names-names.result.now c.args.runner.now.procedures c.keep_and_link.new.kept program c.in-Ok.ensures.block c.names-names.ensures.names c.in-Ok.ensures.numbered c.len-first.ensures c.in-Ok.ensures.bodies c.in-Ok.ensures.count
 
 pub returns-in-Ok-clause-shown : goal.returns-in-Ok-clause-shown
 returns-in-Ok-clause-shown g c = λ shown h.

@@ -1,6 +1,4 @@
-use Rattle.std.proofs.Common.{sym, subst}
-use Rattle.janus_meaning.specs.World.{World, Cell}
-use Rattle.kernel_machine.specs.Text.{Accepts}
+use Rattle.janus_meaning.specs.World.{World}
 use Rattle.kernel_machine.proofs.Texts.{accepted_formed}
 use Rattle.kernel_runner.specs.Runner.{world_of, over}
 use Rattle.kernel_loader.specs.Defined.{in_a_row}
@@ -26,5 +24,4 @@ link-requires g c =
     )
 
 pub returns-in-Ok-clause-accepts : goal.returns-in-Ok-clause-accepts
-returns-in-Ok-clause-accepts g c =
-    subst (λ (cell : Cell). Accepts (world_of (in_a_row c.args.procedures.now) c.args.runner.now) c.args.text.now cell) (sym c.in-Ok.ensures.ready.meant) c.in_ok-checked.ensures.accepts
+returns-in-Ok-clause-accepts g c = c.in_ok-checked.ensures.accepts

@@ -1,4 +1,4 @@
-use Rattle.std.proofs.Common.{◌≡◌, ◌++◌, ◌∷◌, [], map, string_bytes, ap, ◌∙◌, sym, subst}
+use Rattle.std.proofs.Common.{◌++◌, ◌∷◌, [], map, string_bytes, ap, ◌∙◌, sym, subst}
 use Rattle.janus_names.specs.Numbers.{IsUnmet, HaveOneNumber}
 use Rattle.janus_names.proofs.Places.{one_more, inserted_last}
 use Rattle.janus_names.proofs.names.Names.add_new.Goals as goal

@@ -1,4 +1,4 @@
-use Rattle.std.proofs.Common.{IfSome, ap, ◌∙◌, sym, subst}
+use Rattle.std.proofs.Common.{IfSome, ◌∙◌, sym, subst}
 use Rattle.janus_names.specs.Numbers.{IsNumbered, IsUnmet}
 use Rattle.janus_names.proofs.Places.{if_numbered, unmet_there}
 use Rattle.janus_names.proofs.names.Names.number.Goals as goal

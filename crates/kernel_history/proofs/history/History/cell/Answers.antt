@@ -20,5 +20,5 @@ returns-clause-some g c =
     subst (λ (s : State). IsTreeAt s.past n (cell_view c.cell.result.now)) c.self.view_is (record {
       below_root = above;
       known = omega arith;
-      meant = sym (cell_there cells n c.content.result.now at) ∙ (c.self.invariant.kept.ready n c.content.result.now at).meant ∙ ap (λ (t : tree.Cell). plain_cell t) (sym c.cell.ensures);
+      meant = sym (cell_there cells n c.content.result.now at) ∙ ap (λ (t : tree.Cell). plain_cell t) (sym c.cell.ensures);
     })

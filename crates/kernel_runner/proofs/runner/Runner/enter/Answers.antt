@@ -18,4 +18,4 @@ returns-clause-ok g c = λ from can.
     (becomes_same _ _ _ _ (ap (λ l. declare l c.args.self.now.store.sight) c.declarations.ensures) c.in_ok-declare.ensures.ok)
     c.define_all.ensures.kept
     (subst (λ (n : ℕ). AreDefined c.define_all.new.self (onto c.args.program.now.first n from.bodies)) (sym same) (c.define_all.ensures.defined from.bodies can.is.0.defined.defined can.behind))
-    (record { stands = c.enter.ensures.stands; place = c.enter.ensures.place; counts = c.enter.ensures.counts })
+    (record { stands = c.enter.ensures.stands; place = c.enter.ensures.place c.declare.new.store.names; counts = c.enter.ensures.counts })
