@@ -18,6 +18,7 @@ pub mod Pulls
 pub mod Turning
 pub mod Turned
 pub mod OpenTotals
+pub mod Laid
 pub mod Leaping
 pub mod Paths
 pub mod Over

@@ -8,7 +8,8 @@
 //! defines it step by step.
 //!
 //! The modules, in the order in which a reader needs them:
-//! - `book`: the code of a cell or of a body, both ways, and what is laid of its rows to run whole statements.
+//! - `scopes`, `laid_rows`: the names in sight in the first scopes of a row, and what is laid of rows over them to run whole statements.
+//! - `book`: the code of a cell or of a body, both ways, and what is laid of its rows.
 //! - `linked_procedure`, `procedures`: a procedure as it runs, and all bodies with those that are in effect.
 //! - `cursor`, `running`: a place in code with the open calls and the count of steps, and the book in whose row it stands.
 //! - `fault`: why a step is not taken.
@@ -33,12 +34,14 @@ mod book;
 mod call;
 mod cursor;
 mod fault;
+mod laid_rows;
 pub mod laws;
 mod linked_procedure;
 mod local;
 mod machine;
 mod procedures;
 mod running;
+mod scopes;
 mod statement;
 
 pub use crate::book::Book;

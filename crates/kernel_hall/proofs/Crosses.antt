@@ -32,6 +32,7 @@ use Rattle.janus_flat.specs.contracts.code.Primitive as Primitive
 use Rattle.janus_flat.specs.contracts.statements.Head as Head
 use Rattle.janus_laying.specs.contracts.frame_names.FrameNames as FrameNames
 use Rattle.janus_laying.specs.contracts.row.FlatRow as FlatRow
+use Rattle.janus_machine.specs.contracts.laid_rows.LaidRows as LaidRows
 use Rattle.janus_machine.specs.contracts.book.Book as Book
 use Rattle.janus_store.specs.contracts.store.Store as Store
 use Rattle.janus_store.specs.contracts.writes.Writes as Writes
@@ -90,8 +91,11 @@ Head-send = search (crosses, sendable) depth 60 fits 20000
 FlatRow-send : IsSend (FlatRow.the_field).row
 FlatRow-send = search (crosses, Primitive-send, Head-send, sendable) depth 60 fits 20000
 
+LaidRows-send : IsSend (LaidRows.the_field).row
+LaidRows-send = search (crosses, FrameNames-send, FlatRow-send, sendable) depth 60 fits 20000
+
 Book-send : IsSend (Book.the_field).row
-Book-send = search (crosses, Linear-send, FrameNames-send, FlatRow-send, sendable) depth 60 fits 20000
+Book-send = search (crosses, Linear-send, LaidRows-send, sendable) depth 60 fits 20000
 
 TreeExp-send : IsSend (TreeExp.the_field).row
 TreeExp-send = search (crosses, tree_exp_crosses, sendable) depth 60 fits 20000
