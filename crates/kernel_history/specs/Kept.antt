@@ -1,4 +1,4 @@
--- What a history keeps of its fields, and where a cell has come to its end. A map of what is kept, in reading order:
+-- What a history keeps of its fields, what a slice leaves, and where a cell has come to its end. A map of what is kept, in reading order:
 --
 -- of the tree             `IsLegal` (`kernel_machine`, specs/Legal): parents stand before their children, and each node's world is that of its cell
 --                         `AreInOrder` (Bodies): the bodies of nodes are kept in the order of the nodes
@@ -14,11 +14,12 @@
 -- of tree and open job    `IsInTimeAt` (`kernel_machine`, specs/Legal): it has steps to take
 -- of all three            `HasIndex` (Index): each entry of the index is the body that the entered cell defines, where it was posted or a move goes
 --                         down to it, else the one of the nearest node that defines its name from the position up to the root, or none
-use Rattle.std.specs.Prelude.{◌≡◌, ℕ, ◌<◌, ◌≤◌, length, slice_index}
+use Rattle.std.specs.Prelude.{◌≡◌, ℕ, ◌+◌, ◌<◌, ◌≤◌, length, slice_index}
 use Rattle.janus_store.specs.StoreState.{IsWhole}
 use Rattle.janus_meaning.specs.World.{World}
 use Rattle.kernel_machine.specs.Slices.{HasEnded, Settles}
 use Rattle.kernel_machine.specs.declared.outcome.Sliced.{Sliced}
+use Rattle.kernel_machine.specs.declared.outcome.Sliced.TheVariants as sliced
 use Rattle.kernel_machine.specs.State.{State, ancestor}
 use Rattle.kernel_machine.specs.declared.travel.Aim.{Aim}
 use Rattle.kernel_machine.specs.declared.travel.Aim.TheVariants.{Undo, Redo, Goto}
@@ -30,6 +31,7 @@ use Rattle.kernel_runner.specs.declared.runner.Runner.{Runner}
 use Rattle.kernel_history.specs.declared.tree.HistoryTree.{HistoryTree}
 use Rattle.kernel_history.specs.declared.job.Work.{Work}
 use Rattle.kernel_history.specs.declared.job.Work.TheVariants.{Cell as RunCell, Move}
+use Rattle.kernel_history.specs.declared.job.Entered.{Entered}
 use Rattle.kernel_history.specs.declared.job.Open.{Open}
 use Rattle.kernel_history.specs.declared.job.Open.TheVariants.{Idle, Border, Inside}
 use Rattle.kernel_history.specs.Bodies.{procedures_in, NodesAreReady, AreInOrder, IsBehindAt}
@@ -83,6 +85,16 @@ pub record IsKept {L : Type 0} (tree : HistoryTree) (runner : Runner L) (job : O
   pub in_time : IsInTimeAt (past_of tree) (job_of job)
   pub index : HasIndex tree job runner
 
+-- ---- what a slice leaves
+
+-- the job that steps leave which did not settle a cell well, where they told this: none where the job has ended, else the cell as it now is
+abbrev pub left_by : Sliced → Entered → Open
+left_by sliced.Nothing e = Inside e
+left_by sliced.Going e = Inside e
+left_by sliced.Border e = Inside e
+left_by sliced.Backing e = Inside e
+left_by (sliced.Ended outcome) e = Idle
+
 -- ---- where a cell has come to its end
 
 -- the world to which the work's code has led, as the runner shows it there
@@ -98,3 +110,21 @@ pub record HasCome {L : Type 0} (tree : HistoryTree) (runner : Runner L) (work :
 -- the cell settles well, in n steps and in the world to which its code has led: this is told, and the machine is here then
 abbrev pub SettlesFrom : {L : Type 0} → HistoryTree → Runner L → Work → ℕ → Sliced → State → Type 0
 SettlesFrom tree runner work n told new = Settles (past_of tree) (work_of work) n (reached tree runner work) told new
+
+-- the code of the open job's cell has come to its end, in as many steps as the job counts
+abbrev pub HasComeAt : {L : Type 0} → HistoryTree → Runner L → Open → Type 0
+HasComeAt tree runner Idle = ⊥
+HasComeAt tree runner (Border travel) = ⊥
+HasComeAt tree runner (Inside e) = HasCome tree runner e.work e.count
+
+-- that cell settles well, with this count
+abbrev pub SettlesAt : {L : Type 0} → HistoryTree → Runner L → Open → Sliced → State → Type 0
+SettlesAt tree runner Idle told new = ⊥
+SettlesAt tree runner (Border travel) told new = ⊥
+SettlesAt tree runner (Inside e) told new = SettlesFrom tree runner e.work e.count told new
+
+-- the code of the cell ends within m steps of the old count, and the runner stands there; the new count is that of the end
+pub record ComesToEnd {L : Type 0} (tree : HistoryTree) (runner : Runner L) (old : Entered) (m : ℕ) (new : Entered) : Type 0 where
+  pub work : new.work ≡ old.work
+  pub within : new.count ≤ old.count + m
+  pub come : HasCome tree runner old.work new.count

@@ -25,7 +25,7 @@ ghost use Rattle.kernel_history.specs.Kept.{HasPath, Kept, IsKept};
 use crate::defined::procedures_here;
 use crate::extent::extent_of;
 use crate::job::{Entered, Open, Stage, Work};
-use crate::settle::{finished, go_back, go_on, turn_back};
+use crate::settle::{finished, slice_job};
 use crate::tree::{HistoryTree, below, can_go_down, can_go_up, find_way, is_full};
 use crate::view::View;
 use cell_tree::Tree as Cells;
@@ -33,12 +33,11 @@ use janus_machine::{Store, Writes};
 use janus_syntax::tree::Cell;
 use kernel_loader::load;
 use kernel_machine::{
-    Aim, Begun, Extent, Heading, Outcome, Refusal, Sliced, Travel, TravelEnd, Way, Why,
+    Aim, Begun, Extent, Heading, Outcome, Refusal, Sliced, Travel, TravelEnd, Way,
 };
 use kernel_runner::{Program, Runner};
 use std::alloc::{AllocError, Global};
 use std::marker::Model;
-use std::mem;
 use std::sync::ledger::Ledger;
 
 /// The tree, the runner with the one store, and the open job.
@@ -302,33 +301,13 @@ impl<L: Ledger> History<L> {
         ensures slice { IsSlice self.old m asked result self.new }
         ensures written { WritesOnSlice self.old m asked writes.old writes.new }
     {
-        match mem::replace(&mut self.job, Open::Idle) {
-            Open::Idle => Sliced::Nothing,
-            Open::Border(travel) => {
-                self.job = Open::Border(travel);
-                Sliced::Nothing
-            }
-            Open::Inside(entered) => {
-                let Entered {
-                    work,
-                    count,
-                    heading,
-                } = entered;
-                let (job, told) = match heading {
-                    Heading::GoesBack(why) => {
-                        go_back(&self.tree, &mut self.runner, writes, work, count, why, m)
-                    }
-                    Heading::GoesOn if asked => {
-                        let why = Why::WasAsked(count);
-                        turn_back(&self.tree, &mut self.runner, writes, work, count, why, m)
-                    }
-                    Heading::GoesOn => {
-                        go_on(&mut self.tree, &mut self.runner, writes, work, count, m)
-                    }
-                };
-                self.job = job;
-                told
-            }
-        }
+        slice_job(
+            &mut self.tree,
+            &mut self.runner,
+            writes,
+            &mut self.job,
+            m,
+            asked,
+        )
     }
 }

@@ -10,7 +10,7 @@
 //! The code, in reading order; `cell_tree` keeps the nodes, `kernel_loader` loads a cell's text, and `kernel_runner` runs it:
 //!
 //! - `tree`: the tree of cells with the position, and what is asked of it; `job`: the open job.
-//! - `history`: the tree, the runner and the open job in one, and how jobs begin. `settle`: the parts of a slice, and what comes at the end of a cell.
+//! - `history`: the tree, the runner and the open job in one, and how jobs begin. `settle`: a slice and its parts, and what comes at the end of a cell.
 //! - `defined`: the procedures of a world; `view`: the shown world, lent; `extent`: how far an undo and a redo can go.
 //!
 //! The definitions, in specs/, in reading order:
@@ -18,7 +18,7 @@
 //! - `Fields`: the types of the code read as the machine's. `NodeTrees`: the tree of a node's cell.
 //! - `Bodies`: which program a node has and a job runs, and which bodies are defined where. `Index`: what the index of bodies tells of the tree.
 //! - `Standing`: where the runner stands.
-//! - `Kept`: what a history keeps of its fields, with a map of it, and where a cell has come to its end.
+//! - `Kept`: what a history keeps of its fields, with a map of it, what a slice leaves, and where a cell has come to its end.
 #![tactic(auto)]
 
 mod defined;

@@ -1,19 +1,20 @@
-//! The parts of a slice: steps onward and back, and what comes at the end of a cell. None of them takes memory.
-ghost use Rattle.std.specs.Prelude.{◌≡◌, ◌-◌};
+//! A slice and its parts: steps onward and back, and what comes at the end of a cell. None of them takes memory, and none moves the program of
+//! the open job before the end of its cell.
+ghost use Rattle.std.specs.Prelude.{◌≡◌, ◌-◌, IfSome, IfNone, false};
 ghost use Rattle.kernel_machine.specs.State.{Past};
 ghost use Rattle.kernel_machine.specs.declared.travel.Way.TheVariants.{Up, Down};
 ghost use Rattle.kernel_machine.specs.Travel.{next_way};
 ghost use Rattle.kernel_history.specs.Fields.{past_of, state_of, work_of, job_of};
 ghost use Rattle.kernel_machine.specs.Legal.{IsLegal, IsPossibleWork};
-ghost use Rattle.kernel_machine.specs.Slices.{finished as the_finished, turned as the_turned, Backs, cells, Arrives, Goes};
+ghost use Rattle.kernel_machine.specs.Slices.{finished as the_finished, turned as the_turned, Backs, cells, Arrives, Goes, IsSlice};
 ghost use Rattle.janus_machine.specs.Counts.{IsWritten};
-ghost use Rattle.kernel_machine.specs.StepsOfSlices.{steps_back, WritesOn};
+ghost use Rattle.kernel_machine.specs.StepsOfSlices.{steps_back, WritesOn, WritesOnSlice};
 ghost use Rattle.janus_names.specs.Numbers.{GoOn};
 ghost use Rattle.janus_store.specs.StoreState.{IsWhole};
 ghost use Rattle.kernel_runner.specs.Runner.{Is, Between};
 ghost use Rattle.kernel_history.specs.Bodies.{IsProgramOf, NodesAreReady};
 ghost use Rattle.kernel_history.specs.Standing.{shown_here};
-ghost use Rattle.kernel_history.specs.Kept.{Kept, HasCome, HasPathFor, SettlesFrom};
+ghost use Rattle.kernel_history.specs.Kept.{Kept, left_by, HasCome, HasComeAt, ComesToEnd, HasPathFor, SettlesFrom, SettlesAt};
 
 use crate::job::{Entered, Open, Work};
 use crate::tree::{EndedCell, HistoryTree, below};
@@ -21,6 +22,7 @@ use cell_tree::Node;
 use janus_machine::Writes;
 use kernel_machine::{Aim, Heading, Outcome, Progress, Sliced, Travel, TravelEnd, Way, Why};
 use kernel_runner::{Program, Runner};
+use std::mem;
 use std::sync::ledger::Ledger;
 
 /// The program that the work runs: forward, or for an undo backward.
@@ -83,56 +85,48 @@ fn settle_back<L: Ledger>(tree: &HistoryTree, runner: &mut Runner<L>, work: &Wor
 }
 
 /// Goes back `m` steps, and settles as not done at the count 0.
-pub fn go_back<L: Ledger>(
+fn go_back<L: Ledger>(
     tree: &HistoryTree,
     runner: &mut Runner<L>,
     writes: &mut Writes<L>,
-    work: Work,
-    count: u64,
+    entered: &mut Entered,
     why: Why,
     m: u64,
-) -> (Open, Sliced)
-    requires { Kept tree.now runner.old (Open.Inside (record { work = work; count = count; heading = Heading.GoesBack why })) }
-    ensures step { Backs (past_of tree.now) (work_of work) why (count - m) result.1 (state_of tree.now result.0) }
-    ensures kept { Kept tree.now runner.new result.0 }
-    ensures written { IsWritten (steps_back count m) writes.old writes.new }
+) -> Sliced
+    requires { Kept tree.now runner.old (Open.Inside (record { work = entered.old.work; count = entered.old.count; heading = Heading.GoesBack why })) }
+    ensures step { Backs (past_of tree.now) (work_of entered.old.work) why (entered.old.count - m) result (state_of tree.now (left_by result entered.new)) }
+    ensures kept { Kept tree.now runner.new (left_by result entered.new) }
+    ensures written { IsWritten (steps_back entered.old.count m) writes.old writes.new }
 {
-    runner.back(program_of(tree, &work), writes, m);
-    let left = count.saturating_sub(m);
+    runner.back(program_of(tree, &entered.work), writes, m);
+    let left = entered.count.saturating_sub(m);
+    entered.count = left;
+    entered.heading = Heading::GoesBack(why);
     if left == 0 {
-        settle_back(tree, runner, &work);
-        let outcome = turned(&work, why);
-        (Open::Idle, Sliced::Ended(outcome))
+        settle_back(tree, runner, &entered.work);
+        let outcome = turned(&entered.work, why);
+        Sliced::Ended(outcome)
     } else {
-        let heading = Heading::GoesBack(why);
-        (
-            Open::Inside(Entered {
-                work,
-                count: left,
-                heading,
-            }),
-            Sliced::Backing,
-        )
+        Sliced::Backing
     }
 }
 
 /// Turns to going back, and goes back `m` steps.
-pub fn turn_back<L: Ledger>(
+fn turn_back<L: Ledger>(
     tree: &HistoryTree,
     runner: &mut Runner<L>,
     writes: &mut Writes<L>,
-    work: Work,
-    count: u64,
+    entered: &mut Entered,
     why: Why,
     m: u64,
-) -> (Open, Sliced)
-    requires { Kept tree.now runner.old (Open.Inside (record { work = work; count = count; heading = Heading.GoesOn })) }
-    ensures step { Backs (past_of tree.now) (work_of work) why (count - m) result.1 (state_of tree.now result.0) }
-    ensures kept { Kept tree.now runner.new result.0 }
-    ensures written { IsWritten (steps_back count m) writes.old writes.new }
+) -> Sliced
+    requires { Kept tree.now runner.old (Open.Inside (record { work = entered.old.work; count = entered.old.count; heading = Heading.GoesOn })) }
+    ensures step { Backs (past_of tree.now) (work_of entered.old.work) why (entered.old.count - m) result (state_of tree.now (left_by result entered.new)) }
+    ensures kept { Kept tree.now runner.new (left_by result entered.new) }
+    ensures written { IsWritten (steps_back entered.old.count m) writes.old writes.new }
 {
-    runner.turn(program_of(tree, &work));
-    go_back(tree, runner, writes, work, count, why, m)
+    runner.turn(program_of(tree, &entered.work));
+    go_back(tree, runner, writes, entered, why, m)
 }
 
 /// A cell of the travel is done, and these are left.
@@ -220,32 +214,105 @@ fn settle<L: Ledger>(
     }
 }
 
-/// Goes on for `m` steps, or to the end of the cell, or to its stop.
-pub fn go_on<L: Ledger>(
+/// A cell came to its end: the job is taken out, and its cell settles.
+fn settle_job<L: Ledger>(tree: &mut HistoryTree, runner: &mut Runner<L>, job: &mut Open) -> Sliced
+    requires { HasComeAt tree.old runner.old job.old }
+    ensures step { SettlesAt tree.old runner.old job.old result (state_of tree.new job.new) }
+    ensures kept { Kept tree.new runner.new job.new }
+{
+    let Open::Inside(entered) = mem::replace(job, Open::Idle) else {
+        unreachable!()
+    };
+    let Entered { work, count, .. } = entered;
+    let (left, told) = settle(tree, runner, work, count);
+    *job = left;
+    told
+}
+
+/// Goes on for `m` steps, or to the stop of the cell's code. The answer is none where the cell has come to its end, which is not settled yet.
+fn go_on<L: Ledger>(
+    tree: &HistoryTree,
+    runner: &mut Runner<L>,
+    writes: &mut Writes<L>,
+    entered: &mut Entered,
+    m: u64,
+) -> Option<Sliced>
+    requires kept { Kept tree.now runner.old (Open.Inside entered.old) }
+    requires onward { entered.old.heading ≡ Heading.GoesOn }
+    ensures step { IfSome result
+        (λ told. Goes (past_of tree.now) (work_of entered.old.work) entered.old.count m told (state_of tree.now (left_by told entered.new))) }
+    ensures kept { IfSome result (λ told. Kept tree.now runner.new (left_by told entered.new)) }
+    ensures end { IfNone result (ComesToEnd tree.now runner.new entered.old m entered.new) }
+    ensures written { WritesOn (past_of tree.now) (work_of entered.old.work) entered.old.count m writes.old writes.new }
+{
+    match runner.run(program_of(tree, &entered.work), writes, m) {
+        Progress::Went => {
+            entered.count = runner.count();
+            Some(Sliced::Going)
+        }
+        Progress::Ended(n) => {
+            entered.count = n;
+            None
+        }
+        Progress::Stopped(j, fault) => {
+            entered.count = j;
+            let why = Why::Faulted(fault, j);
+            Some(turn_back(tree, runner, writes, entered, why, 0))
+        }
+    }
+}
+
+/// A slice of up to `m` steps inside a cell. The answer is none where the cell has come to its end, which is not settled yet.
+fn slice_inside<L: Ledger>(
+    tree: &HistoryTree,
+    runner: &mut Runner<L>,
+    writes: &mut Writes<L>,
+    entered: &mut Entered,
+    m: u64,
+    asked: bool,
+) -> Option<Sliced>
+    requires { Kept tree.now runner.old (Open.Inside entered.old) }
+    ensures step { IfSome result (λ told. IsSlice (state_of tree.now (Open.Inside entered.old)) m asked told (state_of tree.now (left_by told entered.new))) }
+    ensures kept { IfSome result (λ told. Kept tree.now runner.new (left_by told entered.new)) }
+    ensures end { IfNone result (ComesToEnd tree.now runner.new entered.old m entered.new) }
+    // No other slice comes there.
+    ensures onward { IfNone result (entered.old.heading ≡ Heading.GoesOn) }
+    ensures unasked { IfNone result (asked ≡ false) }
+    ensures written { WritesOnSlice (state_of tree.now (Open.Inside entered.old)) m asked writes.old writes.new }
+{
+    match entered.heading {
+        Heading::GoesBack(why) => Some(go_back(tree, runner, writes, entered, why, m)),
+        Heading::GoesOn if asked => {
+            let why = Why::WasAsked(entered.count);
+            Some(turn_back(tree, runner, writes, entered, why, m))
+        }
+        Heading::GoesOn => go_on(tree, runner, writes, entered, m),
+    }
+}
+
+/// A slice of up to `m` steps of the open job. The job is moved at the end of its cell alone.
+pub fn slice_job<L: Ledger>(
     tree: &mut HistoryTree,
     runner: &mut Runner<L>,
     writes: &mut Writes<L>,
-    work: Work,
-    count: u64,
+    job: &mut Open,
     m: u64,
-) -> (Open, Sliced)
-    requires { Kept tree.old runner.old (Open.Inside (record { work = work; count = count; heading = Heading.GoesOn })) }
-    ensures step { Goes (past_of tree.old) (work_of work) count m result.1 (state_of tree.new result.0) }
-    ensures kept { Kept tree.new runner.new result.0 }
-    ensures written { WritesOn (past_of tree.old) (work_of work) count m writes.old writes.new }
+    asked: bool,
+) -> Sliced
+    requires { Kept tree.old runner.old job.old }
+    ensures slice { IsSlice (state_of tree.old job.old) m asked result (state_of tree.new job.new) }
+    ensures kept { Kept tree.new runner.new job.new }
+    ensures written { WritesOnSlice (state_of tree.old job.old) m asked writes.old writes.new }
 {
-    match runner.run(program_of(tree, &work), writes, m) {
-        Progress::Went => (
-            Open::Inside(Entered {
-                work,
-                count: runner.count(),
-                heading: Heading::GoesOn,
-            }),
-            Sliced::Going,
-        ),
-        Progress::Ended(n) => settle(tree, runner, work, n),
-        Progress::Stopped(j, fault) => {
-            turn_back(tree, runner, writes, work, j, Why::Faulted(fault, j), 0)
-        },
+    let Open::Inside(entered) = job else {
+        return Sliced::Nothing;
+    };
+    match slice_inside(tree, runner, writes, entered, m, asked) {
+        Some(Sliced::Ended(outcome)) => {
+            *job = Open::Idle;
+            Sliced::Ended(outcome)
+        }
+        Some(told) => told,
+        None => settle_job(tree, runner, job),
     }
 }

@@ -20,7 +20,7 @@ fn assignment(number: usize) -> Statement {
 }
 
 /// What is laid of the statement of this number.
-fn tell_of(statements: [Statement; 2], number: usize, sheet: &mut Sheet) {
+fn tell_of(statements: [Statement; 2], number: u32, sheet: &mut Sheet) {
     let mut names = FrameNames::new(sheet.alloc());
     match names.add_number(0) {
         Ok(_) => tell_over(&names, &statements, number, sheet),
@@ -29,7 +29,7 @@ fn tell_of(statements: [Statement; 2], number: usize, sheet: &mut Sheet) {
 }
 
 /// What is laid of the statement of this number over these names.
-fn tell_over(names: &FrameNames, statements: &[Statement], number: usize, sheet: &mut Sheet) {
+fn tell_over(names: &FrameNames, statements: &[Statement], number: u32, sheet: &mut Sheet) {
     let alloc = sheet.alloc();
     let instructions = [
         Instruction::Enter(9),

@@ -9,72 +9,87 @@ use Rattle.kernel_runner.specs.declared.runner.Runner.{Runner}
 use Rattle.kernel_runner.specs.declared.program.Program.{Program}
 use Rattle.kernel_history.specs.declared.tree.HistoryTree.{HistoryTree}
 use Rattle.kernel_history.specs.declared.job.Work.{Work}
-use Rattle.kernel_machine.specs.State as state
 use Rattle.kernel_machine.specs.State.{here, code_of}
+use Rattle.kernel_machine.specs.declared.heading.Heading.{Heading}
 use Rattle.kernel_machine.specs.declared.heading.Heading.TheVariants.{GoesOn}
 use Rattle.kernel_machine.specs.declared.heading.Why.TheVariants.{Faulted}
-use Rattle.kernel_history.specs.Kept.{Kept}
+use Rattle.kernel_history.specs.Kept.{Kept, left_by}
+use Rattle.kernel_history.specs.declared.job.Entered.{Entered}
 use Rattle.kernel_history.specs.declared.job.Open.TheVariants.{Inside}
 use Rattle.kernel_history.specs.Fields.{past_of, work_of, state_of}
 use Rattle.kernel_machine.specs.Slices.{Backs}
 use Rattle.kernel_runner.specs.Runner.{world_of}
 use Rattle.kernel_machine.specs.declared.progress.Progress.TheVariants.{Went, Stopped, Ended}
-use Rattle.kernel_machine.specs.declared.heading.Heading.TheVariants.{GoesOn}
 use Rattle.kernel_runner.proofs.Growing.{same_more}
 use Rattle.kernel_history.proofs.Standing.{stands_with, inside_with, kept_at}
-use Rattle.kernel_history.proofs.settle.go_on.Given as given
 use Rattle.kernel_history.proofs.settle.go_on.Goals as goal
 
-pub run-requires : goal.run-requires
-run-requires g c = inside_with c.args.tree.now c.args.work c.args.count GoesOn c.args.runner.now c.program_of.result.now c.requires c.program_of.ensures
+-- what is kept of a job that goes on
+onward : {L : Type 0} (tree : HistoryTree) (runner : Runner L) (e : Entered) → Kept tree runner (Inside e) → e.heading ≡ GoesOn → Kept tree runner (Inside (record { work = e.work; count = e.count; heading = GoesOn }))
+onward tree runner e kept on = subst (λ (h : Heading). Kept tree runner (Inside (record { work = e.work; count = e.count; heading = h }))) on kept
 
-pub settle-requires : goal.settle-requires
-settle-requires g c =
-    let stands = stands_with c.args.tree.now c.args.work c.args.count false c.args.runner.now c.program_of.result.now c.program_of.ensures c.requires.stands in
+pub run-requires : goal.run-requires
+run-requires g c =
+    let kept = onward c.args.tree.now c.args.runner.now c.args.entered.now c.requires.kept c.requires.onward in
+    inside_with c.args.tree.now c.args.entered.now.work c.args.entered.now.count GoesOn c.args.runner.now c.program_of.result.now kept c.program_of.ensures
+
+pub returns-in-Ended-clause-end : goal.returns-in-Ended-clause-end
+returns-in-Ended-clause-end g c =
+    let kept = onward c.args.tree.now c.args.runner.now c.args.entered.now c.requires.kept c.requires.onward in
+    let stands = stands_with c.args.tree.now c.args.entered.now.work c.args.entered.now.count false c.args.runner.now c.program_of.result.now c.program_of.ensures kept.stands in
     let came = c.in-Ended.ensures.runs _ stands in
     record {
-      kept =
-          kept_at c.args.tree.now c.args.work c.args.count c.in-Ended.n GoesOn GoesOn c.args.runner.now c.run.new.self c.program_of.result.now c.requires (same_more c.args.runner.now.store.names c.run.new.self.store.names c.run.ensures.names)
-          (ap (λ (t : Procedures). kept_in t) c.run.ensures.procedures) c.program_of.ensures came.is;
-      ended = came.reaches.0;
-      whole = came.whole;
+      work = refl;
+      within = came.reaches.1;
+      come = record {
+        kept =
+            kept_at c.args.tree.now c.args.entered.now.work c.args.entered.now.count c.in-Ended.n GoesOn GoesOn c.args.runner.now c.run.new.self c.program_of.result.now kept (same_more c.args.runner.now.store.names c.run.new.self.store.names c.run.ensures.names)
+            (ap (λ (t : Procedures). kept_in t) c.run.ensures.procedures) c.program_of.ensures came.is;
+        ended = came.reaches.0;
+        whole = came.whole;
+      };
     }
 
 pub turn_back-requires : goal.turn_back-requires
 turn_back-requires g c =
-    kept_at c.args.tree.now c.args.work c.args.count c.in-Stopped.j GoesOn GoesOn c.args.runner.now c.run.new.self c.program_of.result.now c.requires (same_more c.args.runner.now.store.names c.run.new.self.store.names c.run.ensures.names) (ap (λ (t : Procedures). kept_in t) c.run.ensures.procedures) c.program_of.ensures
-    ((c.in-Stopped.ensures.runs _ (stands_with c.args.tree.now c.args.work c.args.count false c.args.runner.now c.program_of.result.now c.program_of.ensures c.requires.stands)).is)
+    let kept = onward c.args.tree.now c.args.runner.now c.args.entered.now c.requires.kept c.requires.onward in
+    kept_at c.args.tree.now c.args.entered.now.work c.args.entered.now.count c.in-Stopped.j GoesOn GoesOn c.args.runner.now c.run.new.self c.program_of.result.now kept (same_more c.args.runner.now.store.names c.run.new.self.store.names c.run.ensures.names) (ap (λ (t : Procedures). kept_in t) c.run.ensures.procedures) c.program_of.ensures
+    ((c.in-Stopped.ensures.runs _ (stands_with c.args.tree.now c.args.entered.now.work c.args.entered.now.count false c.args.runner.now c.program_of.result.now c.program_of.ensures kept.stands)).is)
+
+-- an entered cell at another count, which goes on
+moved_to : (e : Entered) (count c : ℕ) → count ≡ c → e.heading ≡ GoesOn → record e { count = count } ≡ record { work = e.work; count = c; heading = GoesOn }
+moved_to e count c same on = cc
 
 -- the cursor counts the steps that were taken
-went : (g : given.Over) (c : goal.After-count g) → c.count.result ≡ c.args.count + c.args.m
-went g c =
-    let stands = (c.in-Went.ensures.runs _ (stands_with c.args.tree.now c.args.work c.args.count false c.args.runner.now c.program_of.result.now c.program_of.ensures c.requires.stands)).is in
-    c.count.ensures ∙ stands.counted
-
 pub returns-in-Went-clause-step : goal.returns-in-Went-clause-step
 returns-in-Went-clause-step g c =
-    let reaches = (c.in-Went.ensures.runs _ (stands_with c.args.tree.now c.args.work c.args.count false c.args.runner.now c.program_of.result.now c.program_of.ensures c.requires.stands)).reaches in
-    (Went, world_of (start_of (code_of (past_of c.args.tree.now) (work_of c.args.work)) (here (past_of c.args.tree.now))).procedures c.run.new.self, reaches, (refl, ap (λ (n : ℕ). record { past = past_of c.args.tree.now; job = state.Inside (record { work = work_of c.args.work; count = n; heading = GoesOn }) }) (went g c)))
+    let kept = onward c.args.tree.now c.args.runner.now c.args.entered.now c.requires.kept c.requires.onward in
+    let came = c.in-Went.ensures.runs _ (stands_with c.args.tree.now c.args.entered.now.work c.args.entered.now.count false c.args.runner.now c.program_of.result.now c.program_of.ensures kept.stands) in
+    let went = moved_to c.args.entered.now _ _ (c.count-entered.ensures ∙ came.is.counted) c.requires.onward in (
+      Went,
+      world_of (start_of (code_of (past_of c.args.tree.now) (work_of c.args.entered.now.work)) (here (past_of c.args.tree.now))).procedures c.run.new.self,
+      came.reaches,
+      (refl, ap (λ (e : Entered). state_of c.args.tree.now (Inside e)) went),
+    )
 
 pub returns-in-Went-clause-kept : goal.returns-in-Went-clause-kept
 returns-in-Went-clause-kept g c =
-    subst (λ (n : ℕ). Kept c.args.tree.now c.run.new.self (Inside (record { work = c.args.work; count = n; heading = GoesOn }))) (sym (went g c))
-    (kept_at c.args.tree.now c.args.work c.args.count (c.args.count + c.args.m) GoesOn GoesOn c.args.runner.now c.run.new.self c.program_of.result.now c.requires (same_more c.args.runner.now.store.names c.run.new.self.store.names c.run.ensures.names) (ap (λ (t : Procedures). kept_in t) c.run.ensures.procedures) c.program_of.ensures
-    ((c.in-Went.ensures.runs _ (stands_with c.args.tree.now c.args.work c.args.count false c.args.runner.now c.program_of.result.now c.program_of.ensures c.requires.stands)).is))
-
-pub returns-in-Ended-clause-step : goal.returns-in-Ended-clause-step
-returns-in-Ended-clause-step g c =
-    let reaches = (c.in-Ended.ensures.runs _ (stands_with c.args.tree.now c.args.work c.args.count false c.args.runner.now c.program_of.result.now c.program_of.ensures c.requires.stands)).reaches in
-    (Ended c.in-Ended.n, world_of (start_of (code_of (past_of c.args.tree.now) (work_of c.args.work)) (here (past_of c.args.tree.now))).procedures c.run.new.self, reaches, c.settle.ensures.step)
+    let kept = onward c.args.tree.now c.args.runner.now c.args.entered.now c.requires.kept c.requires.onward in
+    let came = c.in-Went.ensures.runs _ (stands_with c.args.tree.now c.args.entered.now.work c.args.entered.now.count false c.args.runner.now c.program_of.result.now c.program_of.ensures kept.stands) in
+    let went = moved_to c.args.entered.now _ _ (c.count-entered.ensures ∙ came.is.counted) c.requires.onward in
+    subst (λ (e : Entered). Kept c.args.tree.now c.run.new.self (Inside e)) (sym went)
+    (kept_at c.args.tree.now c.args.entered.now.work c.args.entered.now.count (c.args.entered.now.count + c.args.m) GoesOn GoesOn c.args.runner.now c.run.new.self c.program_of.result.now kept (same_more c.args.runner.now.store.names c.run.new.self.store.names c.run.ensures.names)
+    (ap (λ (t : Procedures). kept_in t) c.run.ensures.procedures) c.program_of.ensures came.is)
 
 pub returns-in-Stopped-clause-step : goal.returns-in-Stopped-clause-step
 returns-in-Stopped-clause-step g c =
-    let reaches = (c.in-Stopped.ensures.runs _ (stands_with c.args.tree.now c.args.work c.args.count false c.args.runner.now c.program_of.result.now c.program_of.ensures c.requires.stands)).reaches in
+    let kept = onward c.args.tree.now c.args.runner.now c.args.entered.now c.requires.kept c.requires.onward in
+    let reaches = (c.in-Stopped.ensures.runs _ (stands_with c.args.tree.now c.args.entered.now.work c.args.entered.now.count false c.args.runner.now c.program_of.result.now c.program_of.ensures kept.stands)).reaches in
     let e : c.in-Stopped.j - 0 ≡ c.in-Stopped.j = omega arith in (
       Stopped c.in-Stopped.j c.in-Stopped.fault,
-      world_of (start_of (code_of (past_of c.args.tree.now) (work_of c.args.work)) (here (past_of c.args.tree.now))).procedures c.run.new.self,
+      world_of (start_of (code_of (past_of c.args.tree.now) (work_of c.args.entered.now.work)) (here (past_of c.args.tree.now))).procedures c.run.new.self,
       reaches,
-      subst (λ (n : ℕ). Backs (past_of c.args.tree.now) (work_of c.args.work) (Faulted c.in-Stopped.fault c.in-Stopped.j) n c.turn_back.result.1 (state_of c.args.tree.now c.turn_back.result.0)) e c.turn_back.ensures.step,
+      subst (λ (n : ℕ). Backs (past_of c.args.tree.now) (work_of c.args.entered.now.work) (Faulted c.in-Stopped.fault c.in-Stopped.j) n c.turn_back.result (state_of c.args.tree.now (left_by c.turn_back.result c.turn_back.new.entered))) e c.turn_back.ensures.step,
     )
 
 -- the runner's count is that of the work
@@ -83,19 +98,22 @@ counted tree work count runner program p s = (stands_with tree work count false 
 
 pub returns-in-Went-clause-written : goal.returns-in-Went-clause-written
 returns-in-Went-clause-written g c =
-    let reaches = (c.in-Went.ensures.runs _ (stands_with c.args.tree.now c.args.work c.args.count false c.args.runner.now c.program_of.result.now c.program_of.ensures c.requires.stands)).reaches in
-    (c.args.m, (Went, world_of (start_of (code_of (past_of c.args.tree.now) (work_of c.args.work)) (here (past_of c.args.tree.now))).procedures c.run.new.self, reaches, refl), c.in-Went.ensures.written)
+    let kept = onward c.args.tree.now c.args.runner.now c.args.entered.now c.requires.kept c.requires.onward in
+    let reaches = (c.in-Went.ensures.runs _ (stands_with c.args.tree.now c.args.entered.now.work c.args.entered.now.count false c.args.runner.now c.program_of.result.now c.program_of.ensures kept.stands)).reaches in
+    (c.args.m, (Went, world_of (start_of (code_of (past_of c.args.tree.now) (work_of c.args.entered.now.work)) (here (past_of c.args.tree.now))).procedures c.run.new.self, reaches, refl), c.in-Went.ensures.written)
 
 pub returns-in-Ended-clause-written : goal.returns-in-Ended-clause-written
 returns-in-Ended-clause-written g c =
-    let reaches = (c.in-Ended.ensures.runs _ (stands_with c.args.tree.now c.args.work c.args.count false c.args.runner.now c.program_of.result.now c.program_of.ensures c.requires.stands)).reaches in
-    let is = counted c.args.tree.now c.args.work c.args.count c.args.runner.now c.program_of.result.now c.program_of.ensures c.requires.stands in
-    (c.in-Ended.n - c.args.count, (Ended c.in-Ended.n, world_of (start_of (code_of (past_of c.args.tree.now) (work_of c.args.work)) (here (past_of c.args.tree.now))).procedures c.run.new.self, reaches, refl), subst (λ (i : ℕ). IsWritten (c.in-Ended.n - i) c.args.writes.now c.run.new.writes) is c.in-Ended.ensures.written)
+    let kept = onward c.args.tree.now c.args.runner.now c.args.entered.now c.requires.kept c.requires.onward in
+    let reaches = (c.in-Ended.ensures.runs _ (stands_with c.args.tree.now c.args.entered.now.work c.args.entered.now.count false c.args.runner.now c.program_of.result.now c.program_of.ensures kept.stands)).reaches in
+    let is = counted c.args.tree.now c.args.entered.now.work c.args.entered.now.count c.args.runner.now c.program_of.result.now c.program_of.ensures kept.stands in
+    (c.in-Ended.n - c.args.entered.now.count, (Ended c.in-Ended.n, world_of (start_of (code_of (past_of c.args.tree.now) (work_of c.args.entered.now.work)) (here (past_of c.args.tree.now))).procedures c.run.new.self, reaches, refl), subst (λ (i : ℕ). IsWritten (c.in-Ended.n - i) c.args.writes.now c.run.new.writes) is c.in-Ended.ensures.written)
 
 pub returns-in-Stopped-clause-written : goal.returns-in-Stopped-clause-written
 returns-in-Stopped-clause-written g c =
-    let reaches = (c.in-Stopped.ensures.runs _ (stands_with c.args.tree.now c.args.work c.args.count false c.args.runner.now c.program_of.result.now c.program_of.ensures c.requires.stands)).reaches in
-    let is = counted c.args.tree.now c.args.work c.args.count c.args.runner.now c.program_of.result.now c.program_of.ensures c.requires.stands in
+    let kept = onward c.args.tree.now c.args.runner.now c.args.entered.now c.requires.kept c.requires.onward in
+    let reaches = (c.in-Stopped.ensures.runs _ (stands_with c.args.tree.now c.args.entered.now.work c.args.entered.now.count false c.args.runner.now c.program_of.result.now c.program_of.ensures kept.stands)).reaches in
+    let is = counted c.args.tree.now c.args.entered.now.work c.args.entered.now.count c.args.runner.now c.program_of.result.now c.program_of.ensures kept.stands in
     let first = subst (λ (i : ℕ). IsWritten (c.in-Stopped.j - i) c.args.writes.now c.run.new.writes) is c.in-Stopped.ensures.written in
     let then = c.turn_back.ensures.written in
-    (c.in-Stopped.j - c.args.count, (Stopped c.in-Stopped.j c.in-Stopped.fault, world_of (start_of (code_of (past_of c.args.tree.now) (work_of c.args.work)) (here (past_of c.args.tree.now))).procedures c.run.new.self, reaches, refl), (omega (arith, first.0, then.0), omega (arith, first.1, then.1)))
+    (c.in-Stopped.j - c.args.entered.now.count, (Stopped c.in-Stopped.j c.in-Stopped.fault, world_of (start_of (code_of (past_of c.args.tree.now) (work_of c.args.entered.now.work)) (here (past_of c.args.tree.now))).procedures c.run.new.self, reaches, refl), (omega (arith, first.0, then.0), omega (arith, first.1, then.1)))

@@ -1,0 +1,8 @@
+use Rattle.std.proofs.Common.{refl}
+use Rattle.kernel_history.proofs.settle.slice_inside.Goals as goal
+
+pub returns-in-GoesBack-clause-written : goal.returns-in-GoesBack-clause-written
+returns-in-GoesBack-clause-written g c = rw c.in-GoesBack.is (_, refl, c.go_back.ensures.written)
+
+pub returns-in-GoesOn-clause-written : goal.returns-in-GoesOn-clause-written
+returns-in-GoesOn-clause-written g c = rw (c.in-GoesOn.is, c.if-asked.true) (_, refl, c.turn_back.ensures.written)
