@@ -24,7 +24,7 @@ impl LinkedProcedure {
     ghost use Rattle.janus_machine.specs.Places.{block_in, KeepsNumbers};
     ghost use Rattle.janus_machine.specs.declared.book.Direction.TheVariants.{Forward};
 
-    /// The procedure of flat code; an error for want of memory.
+    /// The procedure of flat code; an error for want of memory. A body of more statements or places than 32 bits count is refused as if there were none.
     pub fn new(
         alloc: Global,
         flat: janus_code::FlatProcedure,

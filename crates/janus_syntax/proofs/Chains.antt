@@ -12,7 +12,7 @@ use Rattle.janus_syntax.specs.Forms.{Part, Level, Chain, Form, done, part, Rule}
 use Rattle.janus_syntax.specs.Table.{rule, operand, chains, chain_rule}
 use Rattle.janus_syntax.specs.Grammar.{Count, all, entered, fits, depth_limit, operator_limit, Refusal, TooNested}
 use Rattle.janus_syntax.specs.Reader.{Stack, waits, State, at, Stuck, TooMany, go_if, enter, at_form, hand, follow, run, wanted, next, Nested}
-use Rattle.janus_syntax.specs.Reading.{begun, begin, count, IsExp, FailsExp, seen_operator, IsOperator}
+use Rattle.janus_syntax.specs.Reading.{begun, begin, count, IsExp, FailsExp, IsSeen, seen_operator, IsOperator}
 use Rattle.janus_syntax.proofs.SoFar.{IsSoFar, IsChain}
 use Rattle.janus_syntax.proofs.Agrees.{run_hands, run_alike, steps_over, wants_behind}
 
@@ -188,3 +188,32 @@ pub chain_ends_there : {level weakest depth used : ℕ} {e : Exp} {total : ℕ} 
 chain_ends_there {level} {weakest} {depth} {used} {e} {total} {from} {rest} n s =
     let same : suc level ≡ level + 1 = omega arith in
     subst (λ l. IsSoFar l weakest depth used e total from rest) same (chain_ends (λ op is k. n op is (k ∙ same)) s)
+
+-- levels are passed over
+
+some_same : {a b : Infix} → Some a ≡ Some b → a ≡ b
+some_same e = cc
+
+-- no operator of the levels behind `level` up to `to` stands here
+passed : (n : ℕ) {level to weakest depth used : ℕ} {e : Exp} {total : ℕ} {from rest : List Token} → level + n ≡ to → to ≤ weakest →
+    ((op : Infix) → seen_operator (next rest) ≡ Some op → level < op.level → op.level ≤ to → ⊥) → IsSoFar level weakest depth used e total from rest → IsSoFar to weakest depth used e total from rest
+passed zero {level} {to} {weakest} {depth} {used} {e} {total} {from} {rest} is h none s =
+    let same : level ≡ to = omega (arith, is) in
+    subst (λ l. IsSoFar l weakest depth used e total from rest) same s
+passed (suc n) {level} {to} is h none s =
+    let ended = chain_ends (λ op seen is_next. none op seen (omega (arith, is_next)) (omega (arith, is_next, is))) (chain_begins (omega (arith, is, h)) s) in
+    passed n (omega (arith, is)) h (λ op seen low high. none op seen (omega (arith, low)) high) ended
+
+-- the next operator's level begins
+pub level_begins : {level stronger weakest depth used : ℕ} {e : Exp} {total : ℕ} {from rest : List Token} → IsSeen level rest → stronger < level → level ≤ weakest →
+    IsSoFar stronger weakest depth used e total from rest → IsChain (level - 1) weakest depth used e total from rest
+level_begins {level} {stronger} {weakest} seen low high s =
+    chain_begins (omega (arith, low, high)) (passed (level - 1 - stronger) (omega (arith, low)) (omega (arith, high))
+    (λ op is above below. let same = ap (λ o. o.level) (some_same (sym is ∙ seen.is)) in let k = seen.level_is in absurd (omega (arith, same, k, below, low))) s)
+
+pub levels_end : {stronger weakest depth used : ℕ} {e : Exp} {total : ℕ} {from rest : List Token} →
+    ((op : Infix) → seen_operator (next rest) ≡ Some op → stronger < op.level → op.level ≤ weakest → ⊥) →
+    IsSoFar stronger weakest depth used e total from rest → IsExp weakest depth used e total from rest
+levels_end {stronger} {weakest} none s =
+    let k = s.levels in
+    so_far_ends (omega arith) (passed (weakest - stronger) (omega (arith, k)) (omega arith) none s)

@@ -5,11 +5,12 @@ use Rattle.std.proofs.lemmas.List.{append-nil}
 use Rattle.janus_syntax.specs.declared.token.Span.{Span}
 use Rattle.janus_syntax.specs.declared.token.Sign.TheVariants as sign
 use Rattle.janus_syntax.specs.declared.token.Keyword.TheVariants as keyword
-use Rattle.janus_syntax.specs.declared.token.Token as code_token
+use Rattle.janus_syntax.specs.declared.text_token.TextToken as code_token
 use Rattle.janus_syntax.specs.declared.fault.What.TheVariants as what
 use Rattle.janus_syntax.specs.declared.tree.Declaration as code_declaration
 use Rattle.janus_syntax.specs.declared.tree.Stm as code_stm
-use Rattle.janus_syntax.specs.Tokens.{Token, Name, Number, Sign_of, Keyword_of, views}
+use Rattle.janus_syntax.specs.Tokens.{Token, Name, Number, Sign_of, Keyword_of}
+use Rattle.janus_syntax.specs.TextTokens.{views}
 use Rattle.janus_syntax.specs.Tree.{Name as Named, Exp, Block, Declaration, Int, Array, StackOf, Cell, cell_of, declaration_view, declarations_view, block_view}
 use Rattle.janus_syntax.specs.Forms.{Part, A_cell, Declarations, Statements, Procedures, Bound, Whole, Tree, The_sign, A_name, A_number, Form, done, take, part}
 use Rattle.janus_syntax.specs.Table.{rule, declared, sign_then, is_bare}
@@ -206,11 +207,11 @@ declared_ends {ds} {from} {rest} a n =
 
 -- ---- the end of the tokens
 
-pub no_more : (ts : List code_token.Token) → true ≡ (length ts == 0) → views ts ≡ []
+pub no_more : (ts : List code_token.TextToken) → true ≡ (length ts == 0) → views ts ≡ []
 no_more [] e = refl
 no_more (t ∷ ts) e = absurd (omega (arith, eqb-true (length (t ∷ ts)) 0 (sym e)))
 
-pub some_more : (ts : List code_token.Token) → false ≡ (length ts == 0) → 0 < length (views ts)
+pub some_more : (ts : List code_token.TextToken) → false ≡ (length ts == 0) → 0 < length (views ts)
 some_more [] e = absurd cc
 some_more (t ∷ ts) e = omega arith
 

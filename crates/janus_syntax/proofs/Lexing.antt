@@ -1,14 +1,18 @@
 -- The lexer's steps: one more item, and that a text has one list of tokens.
-use Rattle.std.proofs.Common.{◌≡◌, ℕ, ◌+◌, ◌-◌, ◌<◌, ◌≤◌, List, [], ◌∷◌, ◌++◌, length, take, drop, take-append-drop, Result, Ok, Err, Vec, true, ◌==◌, refl, ap, sym, subst, ◌∙◌, arith, IsUtf8, length-drop}
+use Rattle.std.proofs.Common.{◌≡◌, ℕ, ◌+◌, ◌-◌, ◌<◌, ◌≤◌, List, [], ◌∷◌, ◌++◌, length, get_or, suc, take, drop, drop-cons, append_assoc, take-append-drop, Result, Ok, Err, Vec, true, ◌==◌, refl, ap, sym, subst, ◌∙◌, arith, IsUtf8, length-drop}
+use Rattle.std.proofs.lemmas.List.{append-nil, drop_all}
 use Rattle.std.proofs.lemmas.Str.{IsUtf8-drop}
 use Rattle.std.specs.Str.{IsCharBoundary}
 use Rattle.std.proofs.lemmas.Bool.{eqb-true}
 use Rattle.janus_syntax.specs.declared.token.Span.{Span}
-use Rattle.janus_syntax.specs.declared.token.Token as code_token
+use Rattle.janus_syntax.specs.declared.text_token.TextToken as code_token
 use Rattle.janus_syntax.specs.declared.lexer.Front.{Front}
-use Rattle.janus_syntax.specs.Tokens.{Token, token_view, views}
+use Rattle.janus_syntax.specs.Tokens.{Token}
+use Rattle.janus_syntax.specs.declared.token.Token as kept_token
+use Rattle.janus_syntax.specs.Tokens as kept
+use Rattle.janus_syntax.specs.TextTokens.{token_view, views}
 use Rattle.janus_syntax.specs.Lexical.{Item, Gap, IsSpelled, NoLonger, IsFront, IsToken, between, Lexes, none, gap, token, AreTokens, NoItem, IsBadToken, IsTooLarge, A_number, largest_number}
-use Rattle.janus_syntax.specs.Scan.{IsFrontOf, IsFirstChar, IsKindOf}
+use Rattle.janus_syntax.specs.Scan.{IsFrontOf, IsFirstChar, IsKindOf, IsTextLexed, IsTextOnly}
 use Rattle.janus_syntax.specs.Text.{IsLexed, IsOnly}
 use Rattle.janus_syntax.specs.declared.fault.SyntaxFault.{SyntaxFault}
 use Rattle.janus_syntax.specs.declared.fault.SyntaxFault.TheVariants as fault
@@ -30,7 +34,7 @@ one_token t none f k = token f k none
 one_token t (gap g l) f k = gap g (one_token t l f k)
 one_token t (token g h l) f k = token g h (one_token t l f k)
 
-pub views_push : (ts : List code_token.Token) (t : code_token.Token) → views (ts ++ t ∷ []) ≡ views ts ++ token_view t ∷ []
+pub views_push : (ts : List code_token.TextToken) (t : code_token.TextToken) → views (ts ++ t ∷ []) ≡ views ts ++ token_view t ∷ []
 views_push [] t = refl
 views_push (u ∷ ts) t = ap (λ r. token_view u ∷ r) (views_push ts t)
 
@@ -75,7 +79,7 @@ lexed_one text ts t rest part after start n f i k h cut p a s is =
     behind text ts (ts ++ t ∷ []) rest part after start n f k h cut a
     (one_token t k.lexes (front_is f i n rest part after h p a s) (subst (λ at. IsToken i at t) (place_is text rest after n start k.start_is h.in_range a) is))
 
-pub lexed_token : (text : List ℕ) (ts : List code_token.Token) (t : code_token.Token) (rest part after : List ℕ) (start n : ℕ) (f : Front) (i : Item) → IsLexedTo text (views ts) rest start → IsFrontOf f n rest → IsCharBoundary rest n → part ≡ take n rest → after ≡ drop n rest →
+pub lexed_token : (text : List ℕ) (ts : List code_token.TextToken) (t : code_token.TextToken) (rest part after : List ℕ) (start n : ℕ) (f : Front) (i : Item) → IsLexedTo text (views ts) rest start → IsFrontOf f n rest → IsCharBoundary rest n → part ≡ take n rest → after ≡ drop n rest →
     IsSpelled i part → IsToken i (place start (start + n)) (token_view t) → IsLexedTo text (views (ts ++ t ∷ [])) after (start + n)
 lexed_token text ts t rest part after start n f i k h cut p a s is =
     subst (λ us. IsLexedTo text us after (start + n)) (sym (views_push ts t)) (lexed_one text (views ts) (token_view t) rest part after start n f i k h cut p a s is)
@@ -111,7 +115,7 @@ too_large text ts rest part after start n f at k h p a (number, s, large, e) =
 -- a part that is no token
 
 pub part_fails : (Z : Type 0) (text part : List ℕ) (at end : Span) (e : SyntaxFault) → IsKindOf part at (Err e) → at ≡ end →
-    ((number : ℕ) × IsSpelled (A_number number) part × (largest_number < number) × (at ≡ end) → IsTooLarge text at) → IsLexed {Z = Z} text (Err e)
+    ((number : ℕ) × IsSpelled (A_number number) part × (largest_number < number) × (at ≡ end) → IsTooLarge text at) → IsTextLexed {Z = Z} text (Err e)
 part_fails Z text part at end (fault.NumberTooLarge q) (number, s, large, same) here large_at = subst (λ x. IsTooLarge text x) (sym same) (large_at (number, s, large, here))
 part_fails Z text part at end fault.Memory h here large_at = tt
 part_fails Z text part at end (fault.BadToken q) h here large_at = absurd h
@@ -119,14 +123,54 @@ part_fails Z text part at end (fault.Expected w q) h here large_at = absurd h
 part_fails Z text part at end (fault.TooNested q) h here large_at = absurd h
 part_fails Z text part at end (fault.DelocalName q) h here large_at = absurd h
 
-pub only_lexed : (text : List ℕ) {Z : Type 0} (r : Result (Vec code_token.Token Z) SyntaxFault) → IsLexed text r → (ts : List Token) → AreTokens text ts → IsOnly ts r
-only_lexed text (Ok found) h ts q = only_tokens text (views found.items) ts h q
+pub only_lexed : (text : List ℕ) {Z : Type 0} (r : Result (Vec kept_token.Token Z) SyntaxFault) → IsLexed text r → (ts : List Token) → AreTokens text ts → IsOnly ts r
+only_lexed text (Ok found) h ts q = only_tokens text (kept.views found.items) ts h q
 only_lexed text (Err (fault.BadToken at)) h ts q = absurd (not_bad text at ts h q)
 only_lexed text (Err (fault.NumberTooLarge at)) h ts q = absurd (not_large text at ts h q)
 only_lexed text (Err fault.Memory) h ts q = tt
 only_lexed text (Err (fault.Expected w at)) h ts q = absurd h
 only_lexed text (Err (fault.TooNested at)) h ts q = absurd h
 only_lexed text (Err (fault.DelocalName at)) h ts q = absurd h
+
+pub only_text : (text : List ℕ) {Z : Type 0} (r : Result (Vec code_token.TextToken Z) SyntaxFault) → IsTextLexed text r → (ts : List Token) → AreTokens text ts → IsTextOnly ts r
+only_text text (Ok found) h ts q = only_tokens text (views found.items) ts h q
+only_text text (Err (fault.BadToken at)) h ts q = absurd (not_bad text at ts h q)
+only_text text (Err (fault.NumberTooLarge at)) h ts q = absurd (not_large text at ts h q)
+only_text text (Err fault.Memory) h ts q = tt
+only_text text (Err (fault.Expected w at)) h ts q = absurd h
+only_text text (Err (fault.TooNested at)) h ts q = absurd h
+only_text text (Err (fault.DelocalName at)) h ts q = absurd h
+
+-- ---- names kept
+
+-- a refusal is the same, whether names are kept or not
+pub fails_alike : (Y Z : Type 0) (text : List ℕ) (e : SyntaxFault) → IsTextLexed {Z = Y} text (Err e) → IsLexed {Z = Z} text (Err e)
+fails_alike Y Z text (fault.BadToken at) h = h
+fails_alike Y Z text (fault.NumberTooLarge at) h = h
+fails_alike Y Z text fault.Memory h = tt
+fails_alike Y Z text (fault.Expected w at) h = absurd h
+fails_alike Y Z text (fault.TooNested at) h = absurd h
+fails_alike Y Z text (fault.DelocalName at) h = absurd h
+
+-- one more token is kept
+pub kept_push : (ts : List kept_token.Token) (t : kept_token.Token) → kept.views (ts ++ t ∷ []) ≡ kept.views ts ++ kept.token_view t ∷ []
+kept_push [] t = refl
+kept_push (u ∷ ts) t = ap (λ r. kept.token_view u ∷ r) (kept_push ts t)
+
+-- one more token of those found is kept, and the rest is still to come
+pub one_kept : (found : List code_token.TextToken) (ts : List kept_token.Token) (t : kept_token.Token) (i : ℕ) (d : code_token.TextToken) → i < length found →
+    kept.views ts ++ views (drop i found) ≡ views found → kept.token_view t ≡ token_view (get_or found i d) → kept.views (ts ++ t ∷ []) ++ views (drop (suc i) found) ≡ views found
+one_kept found ts t i d h before same =
+    ap (λ l. l ++ views (drop (suc i) found)) (kept_push ts t)
+    ∙ append_assoc (kept.views ts) (kept.token_view t ∷ []) (views (drop (suc i) found))
+    ∙ ap (λ u. kept.views ts ++ u ∷ views (drop (suc i) found)) same
+    ∙ ap (λ l. kept.views ts ++ views l) (sym (drop-cons found i d h))
+    ∙ before
+
+pub all_kept : (text : List ℕ) (found : List code_token.TextToken) (ts : List kept_token.Token) (i : ℕ) → length found ≤ i → kept.views ts ++ views (drop i found) ≡ views found →
+    AreTokens text (views found) → AreTokens text (kept.views ts)
+all_kept text found ts i h before read =
+    subst (λ us. AreTokens text us) (sym before ∙ ap (λ l. kept.views ts ++ views l) (drop_all i found h) ∙ append-nil (kept.views ts)) read
 
 none_there : (xs : List ℕ) → true ≡ (length xs == 0) → xs ≡ []
 none_there [] e = refl

@@ -1,4 +1,5 @@
 pub mod Scanning
+pub mod Signs
 pub mod Fronts
 pub mod Longest
 pub mod Lexing

@@ -1,5 +1,7 @@
 -- The parser's locals, over plain lists.
 use Rattle.std.proofs.Common.{◌≡◌, ℕ, suc, ◌+◌, ◌<◌, ◌≤◌, List, [], ◌∷◌, length, Some, None, true, false, refl, ap, sym, subst, ◌∙◌, arith}
+use Rattle.std.specs.Str.{bytes_eq}
+use Rattle.std.specs.Prelude.{nat_eq, ◌&&◌}
 use Rattle.janus_meaning.specs.Store.{same_name}
 use Rattle.janus_syntax.specs.declared.fault.What.TheVariants as what
 use Rattle.janus_syntax.specs.declared.token.Span.{Span}
@@ -47,6 +49,13 @@ kind_differs j i w place rest e n = token_differs (Same_kind j) i (Keyword_of w 
 
 pub no_kind : (j : LocalKind) (w : Keyword) (place : Span) (rest : List Token) → keyword_kind w ≡ None → TokenFails (Same_kind j) (Keyword_of w place ∷ rest) (Expected what.Kind (suc (length rest)))
 no_kind j w place rest e = token_fails (Same_kind j) (Keyword_of w place) rest e
+
+-- names are the same where their octets are
+pub same_octets : (x y : List ℕ) → same_name x y ≡ bytes_eq x y
+same_octets [] [] = refl
+same_octets [] (d ∷ y) = refl
+same_octets (c ∷ x) [] = refl
+same_octets (c ∷ x) (d ∷ y) = ap (λ b. nat_eq c d && b) (same_octets x y)
 
 pub name_goes : (x y : List ℕ) (there place : Span) (rest : List Token) → same_name x y ≡ true → TokenGoes (Same_name (named x there)) (named y place) (Name y place ∷ rest) rest
 name_goes x y there place rest e = token_goes (Same_name (named x there)) (named y place) (Name y place) rest refl e

@@ -18,10 +18,10 @@ use Rattle.janus_syntax.proofs.Agrees.{run_hands, left_behind}
 use Rattle.janus_syntax.proofs.LeftOut.{not_index}
 use Rattle.std.specs.Prelude.{Result, Ok, Err}
 use Rattle.std.specs.Borrow.{Bor}
-use Rattle.janus_syntax.specs.declared.token.Token as code_token
+use Rattle.janus_syntax.specs.declared.text_token.TextToken as code_token
 use Rattle.janus_syntax.specs.declared.tree.Exp.{Exp as code_exp}
 use Rattle.janus_syntax.specs.declared.problem.Problem.{Problem}
-use Rattle.janus_syntax.specs.Tokens.{views}
+use Rattle.janus_syntax.specs.TextTokens.{views}
 use Rattle.janus_syntax.specs.Tree.{exp_view}
 use Rattle.janus_syntax.specs.Reading.{Reads}
 use Rattle.janus_syntax.proofs.Steps.{passes_on, no_opening}
@@ -166,7 +166,7 @@ no_index_is x d u from k h =
     record { goes = λ g p j S. left_behind Index (λ i. j (variable x i)) S (count d u) None from refl (λ t e. not_index t (no_opening from h t e)); within = k; shorter = omega arith }
 
 -- a name with what stands behind it, read or failed
-pub name_result : (x : List ℕ) (place : Span) (d u : ℕ) (rest : List Token) (r : Result (code_exp × ℕ × Bor (List code_token.Token)) Problem) → d ≤ depth_limit → u ≤ operator_limit →
+pub name_result : (x : List ℕ) (place : Span) (d u : ℕ) (rest : List Token) (r : Result (code_exp × ℕ × Bor (List code_token.TextToken)) Problem) → d ≤ depth_limit → u ≤ operator_limit →
     Reads (λ y. IsIndexed d u (named x place) (exp_view y.0) y.1 rest (views y.2.now)) (FailsIndexed d u (named x place) rest) r →
     Reads (λ y. IsExp 0 d u (exp_view y.0) y.1 (Name x place ∷ rest) (views y.2.now)) (FailsExp 0 d u (Name x place ∷ rest)) r
 name_result x place d u rest (Ok y) h k i = name_is x place d u h k i

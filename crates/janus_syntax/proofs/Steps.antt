@@ -7,12 +7,13 @@ use Rattle.janus_syntax.specs.declared.token.Sign.{Sign}
 use Rattle.janus_syntax.specs.declared.token.Sign.TheVariants as sign
 use Rattle.janus_syntax.specs.declared.token.Keyword.{Keyword}
 use Rattle.janus_syntax.specs.declared.token.Keyword.TheVariants as keyword
-use Rattle.janus_syntax.specs.declared.token.Token as code_token
-use Rattle.janus_syntax.specs.declared.token.TokenKind.{TokenKind}
+use Rattle.janus_syntax.specs.declared.text_token.TextToken as code_token
+use Rattle.janus_syntax.specs.declared.text_token.TextKind.{TextKind}
 use Rattle.janus_syntax.specs.declared.fault.What.TheVariants as what
 use Rattle.janus_syntax.specs.declared.problem.Problem.{Problem}
 use Rattle.janus_syntax.specs.declared.problem.Problem.TheVariants as problem
-use Rattle.janus_syntax.specs.Tokens.{Token, Name, Number, Sign_of, Keyword_of, token_of, views}
+use Rattle.janus_syntax.specs.Tokens.{Token, Name, Number, Sign_of, Keyword_of}
+use Rattle.janus_syntax.specs.TextTokens.{token_of, views}
 use Rattle.janus_syntax.specs.Forms.{The_keyword, The_sign, Class, Seen, seen, agrees, keyword_number, sign_number, what_of, take}
 use Rattle.janus_syntax.specs.Grammar.{all, Refusal, Expected, TooNested, DelocalName}
 use Rattle.janus_syntax.specs.Reader.{at, follow, run, next, taken}
@@ -22,7 +23,7 @@ use Rattle.janus_syntax.proofs.Follow.{no_swap, no_index}
 use Rattle.janus_syntax.proofs.Keeps.{cond_some}
 
 -- The premise on the lengths is std's, in the fact that 'split_first' gives.
-pub first_token : (tokens rest : List code_token.Token) (first : code_token.Token) (k : TokenKind) → (tokens ≡ first ∷ rest) × (length rest + 1 ≡ length tokens) → first.kind ≡ k → views tokens ≡ token_of k first.span ∷ views rest
+pub first_token : (tokens rest : List code_token.TextToken) (first : code_token.TextToken) (k : TextKind) → (tokens ≡ first ∷ rest) × (length rest + 1 ≡ length tokens) → first.kind ≡ k → views tokens ≡ token_of k first.span ∷ views rest
 first_token tokens rest first k h e = ap views h.0 ∙ ap (λ x. token_of x first.span ∷ views rest) e
 
 -- a failure of a part is a failure of the whole, at the same place; want of memory says nothing

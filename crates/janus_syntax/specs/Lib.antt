@@ -3,6 +3,7 @@ pub mod Tree
 pub mod View
 pub mod Fault
 pub mod Tokens
+pub mod TextTokens
 pub mod Lexical
 pub mod Scan
 pub mod Operators

@@ -3,9 +3,10 @@ use Rattle.std.specs.Prelude.{◌≡◌, ℕ, ◌<◌, ◌≤◌, List, [], ◌�
 use Rattle.std.specs.Borrow.{Bor}
 use Rattle.janus_syntax.specs.declared.fault.What.TheVariants as what
 use Rattle.janus_syntax.specs.declared.token.Keyword.TheVariants as keyword
-use Rattle.janus_syntax.specs.declared.token.Token as code_token
+use Rattle.janus_syntax.specs.declared.text_token.TextToken as code_token
 use Rattle.janus_syntax.specs.declared.tree.Parameter as code_parameter
-use Rattle.janus_syntax.specs.Tokens.{Token, Keyword_of, views}
+use Rattle.janus_syntax.specs.Tokens.{Token, Keyword_of}
+use Rattle.janus_syntax.specs.TextTokens.{views}
 use Rattle.janus_syntax.specs.Tree.{Name as Named, Parameter, Procedure, Declaration, Block, Cell, parameter_view}
 use Rattle.janus_syntax.specs.Forms.{Part, Procedures, A_procedure, Brackets, Form, part}
 use Rattle.janus_syntax.specs.Table.{a_parameter, parameter, behind_name, behind_main}
@@ -37,7 +38,7 @@ pub record FailsParameter (from : List Token) (e : Refusal) : Type 0 where
   pub stops : (goal p : Part) (k : Parameter → Form p) (S : Stack goal p) (u : ℕ) → u ≤ operator_limit → begin_parameter from k S u ≡ outcome_of e
 
 -- a parameter, or none begins here
-abbrev pub IsParameterOrOther : List Token → Option (code_parameter.Parameter × Bor (List code_token.Token)) → Type 0
+abbrev pub IsParameterOrOther : List Token → Option (code_parameter.Parameter × Bor (List code_token.TextToken)) → Type 0
 IsParameterOrOther from None = is_parameter (next from) ≡ false
 IsParameterOrOther from (Some x) = IsParameter (parameter_view x.0) from (views x.1.now)
 

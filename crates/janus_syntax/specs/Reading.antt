@@ -18,7 +18,7 @@ use Rattle.janus_syntax.specs.Forms.{Part, Index, Tree, Class, Seen, Form, take,
 use Rattle.janus_syntax.specs.Table.{stack_then, variable_and_stack_then, operand, chains, variable}
 use Rattle.janus_syntax.specs.Grammar.{Count, all, entered, fits, operator_limit, Refusal, Expected, TooNested, DelocalName}
 use Rattle.janus_syntax.specs.Text.{place_before}
-use Rattle.janus_syntax.specs.Reader.{Stack, at, run, Outcome, Ended, Failed, Nested, outcome_of}
+use Rattle.janus_syntax.specs.Reader.{Stack, at, run, next, Outcome, Ended, Failed, Nested, outcome_of}
 
 -- how tokens are refused, unless memory ran out
 abbrev pub FailsAs : (Refusal → Type 0) → Problem → Type 0
@@ -139,6 +139,12 @@ pub record IsOperator (level : ℕ) (op : Infix) (from rest : List Token) : Type
   pub is : from ≡ token ∷ rest
   pub operator : operator_at token ≡ Some op
   pub level_is : op.level ≡ level
+
+-- an operator of this level at the front
+pub record IsSeen (level : ℕ) (from : List Token) : Type 0 where
+  pub operator : Infix
+  pub is : seen_operator (next from) ≡ Some operator
+  pub level_is : operator.level ≡ level
 
 -- behind a name of an expression: its index, if there is one
 pub record IsIndexed (depth used : ℕ) (x : Named) (e : Exp) (total : ℕ) (from rest : List Token) : Type 0 where

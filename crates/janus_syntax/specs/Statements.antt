@@ -5,12 +5,13 @@ use Rattle.janus_syntax.specs.declared.fault.What.TheVariants as what
 use Rattle.janus_syntax.specs.declared.token.Keyword.{Keyword}
 use Rattle.janus_syntax.specs.declared.token.Keyword.TheVariants as keyword
 use Rattle.janus_syntax.specs.declared.token.Sign.TheVariants as sign
-use Rattle.janus_syntax.specs.declared.token.Token as code_token
+use Rattle.janus_syntax.specs.declared.text_token.TextToken as code_token
 use Rattle.janus_syntax.specs.declared.tree.Name as code_name
 use Rattle.janus_syntax.specs.declared.tree.LocalKind.{LocalKind}
 use Rattle.janus_syntax.specs.declared.tree.Stm as code_stm
 use Rattle.janus_syntax.specs.declared.tree.Declaration as code_declaration
-use Rattle.janus_syntax.specs.Tokens.{Token, Name, Keyword_of, views}
+use Rattle.janus_syntax.specs.Tokens.{Token, Name, Keyword_of}
+use Rattle.janus_syntax.specs.TextTokens.{views}
 use Rattle.janus_syntax.specs.Tree.{Name as Named, Exp, Stm, If, Loop, Block, Empty, More, Declaration, Cell, cell_of, stm_view, declaration_view}
 use Rattle.janus_syntax.specs.Forms.{Part, Body, Statements, Names, Declarations, Bound, Whole, Else_part, Do_part, Loop_part, Swap_partner, Target_index}
 use Rattle.janus_syntax.specs.Forms.{A_name, The_keyword, The_sign, An_update, Form, take, part, close}
@@ -51,7 +52,7 @@ pub record FailsStm (depth : ℕ) (from : List Token) (e : Refusal) : Type 0 whe
   pub stops : (goal p : Part) (k : Stm → Form p) (S : Stack goal p) (u : ℕ) → u ≤ operator_limit → begin_statement from k S depth u ≡ outcome_of e
 
 -- a statement, or none begins here
-abbrev pub IsStmOrOther : ℕ → List Token → Option (code_stm.Stm × Bor (List code_token.Token)) → Type 0
+abbrev pub IsStmOrOther : ℕ → List Token → Option (code_stm.Stm × Bor (List code_token.TextToken)) → Type 0
 IsStmOrOther depth from None = is_statement (next from) ≡ false
 IsStmOrOther depth from (Some x) = IsStm depth (stm_view x.0) from (views x.1.now)
 
@@ -113,7 +114,7 @@ abbrev pub is_name : Option Token → Bool
 is_name (Some (Name x place)) = true
 is_name _ = false
 
-abbrev pub IsNameOrOther : List Token → Option (code_name.Name × Bor (List code_token.Token)) → Type 0
+abbrev pub IsNameOrOther : List Token → Option (code_name.Name × Bor (List code_token.TextToken)) → Type 0
 IsNameOrOther from None = is_name (next from) ≡ false
 IsNameOrOther from (Some x) = from ≡ Name (string_bytes x.0.text) x.0.span ∷ views x.1.now
 
@@ -231,7 +232,7 @@ pub record FailsDeclaration (from : List Token) (e : Refusal) : Type 0 where
   pub begins : is_declaration (next from) ≡ true
   pub stops : (goal p : Part) (k : Declaration → Form p) (S : Stack goal p) (u : ℕ) → u ≤ operator_limit → begin_declaration from k S u ≡ outcome_of e
 
-abbrev pub IsDeclarationOrOther : List Token → Option (code_declaration.Declaration × Bor (List code_token.Token)) → Type 0
+abbrev pub IsDeclarationOrOther : List Token → Option (code_declaration.Declaration × Bor (List code_token.TextToken)) → Type 0
 IsDeclarationOrOther from None = is_declaration (next from) ≡ false
 IsDeclarationOrOther from (Some x) = IsDeclaration (declaration_view x.0) from (views x.1.now)
 

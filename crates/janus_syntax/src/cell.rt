@@ -3,7 +3,7 @@
 ghost use Rattle.std.specs.Prelude.{◌≡◌, []};
 ghost use Rattle.janus_syntax.specs.Tree.{Cell as Tree, Exp as ExpTree, name_view, exp_view, cell_view, declaration_view, declarations_view, block_view};
 ghost use Rattle.janus_syntax.specs.Table.{is_bare};
-ghost use Rattle.janus_syntax.specs.Tokens.{views};
+ghost use Rattle.janus_syntax.specs.TextTokens.{views};
 ghost use Rattle.janus_syntax.specs.Forms.{A_cell, Whole, Declarations};
 ghost use Rattle.janus_syntax.specs.Grammar.{all, IsTree, IsRefused};
 ghost use Rattle.janus_syntax.specs.Reading.{Reads, IsPart, FailsPart};
@@ -12,32 +12,33 @@ ghost use Rattle.janus_syntax.specs.Statements.{IsDeclarationOrOther, FailsDecla
 use crate::expression::whole_expression;
 use crate::fault::What;
 use crate::item::{behind_sign, keyword_at, name, number, sign_at};
-use crate::pair::both;
+use crate::pair::{both, so_far};
 use crate::problem::Problem;
 use crate::procedure::procedures;
 use crate::statement::statements;
-use crate::token::{Keyword, Sign, Token};
+use crate::text_token::Tokens;
+use crate::token::{Keyword, Sign};
 use crate::tree::{Cell, Declaration, Exp, Name, Stm};
 use std::alloc::Global;
 
 /// A declaration and the tokens behind it, if one begins here.
-fn declaration(tokens: &[Token]) -> Result<Option<(Declaration, &[Token])>, Problem>
+fn declaration(alloc: Global, tokens: Tokens) -> Result<Option<(Declaration, Tokens)>, Problem>
     ensures { Reads (IsDeclarationOrOther (views tokens.now)) (FailsDeclaration (views tokens.now)) result }
 {
     if let Some(rest) = keyword_at(Keyword::Int, tokens) {
-        let (name, rest) = name(rest)?;
+        let (name, rest) = name(alloc, rest)?;
         let (declaration, rest) = bound(name, rest)?;
         return Ok(Some((declaration, rest)));
     }
     let Some(rest) = keyword_at(Keyword::Stack, tokens) else {
         return Ok(None);
     };
-    let (stack, rest) = name(rest)?;
+    let (stack, rest) = name(alloc, rest)?;
     Ok(Some((Declaration::Stack(stack), rest)))
 }
 
 /// The declaration of `name`, behind that name: an array, if a length stands here.
-fn bound(name: Name, tokens: &[Token]) -> Result<(Declaration, &[Token]), Problem>
+fn bound(name: Name, tokens: Tokens) -> Result<(Declaration, Tokens), Problem>
     ensures { Reads (λ x. IsBound (name_view name) (declaration_view x.0) (views tokens.now) (views x.1.now))
         (FailsBound (name_view name) (views tokens.now)) result }
 {
@@ -52,14 +53,13 @@ fn bound(name: Name, tokens: &[Token]) -> Result<(Declaration, &[Token]), Proble
 /// All declarations that stand here, and the tokens behind them.
 pub(crate) fn declarations(
     alloc: Global,
-    tokens: &[Token],
-) -> Result<(Vec<Declaration>, &[Token]), Problem>
+    tokens: Tokens,
+) -> Result<(Vec<Declaration>, Tokens), Problem>
     ensures { Reads (λ x. IsPart Declarations 0 (declarations_view x.0.items) (views tokens.now) (views x.1.now))
         (FailsPart Declarations 0 (views tokens.now)) result }
 {
-    let mut declarations = Vec::new(alloc);
-    let mut rest = tokens;
-    'declarations: while let Some((next, after)) = declaration(rest)? {
+    let (mut declarations, mut rest) = so_far(Vec::new(alloc), tokens);
+    'declarations: while let Some((next, after)) = declaration(alloc, rest)? {
         declarations.push(next)?;
         rest = after;
     }
@@ -67,7 +67,7 @@ pub(crate) fn declarations(
 }
 
 /// The end of the tokens.
-fn end(tokens: &[Token]) -> Result<(), Problem>
+fn end(tokens: Tokens) -> Result<(), Problem>
     ensures { Reads (λ u. views tokens.now ≡ []) (AtEnd (views tokens.now)) result }
 {
     if tokens.is_empty() {
@@ -92,7 +92,7 @@ fn is_bare(declarations: &[Declaration], statements: &[Stm]) -> bool
 }
 
 /// The cell that the tokens spell.
-pub(crate) fn cell(alloc: Global, tokens: &[Token]) -> Result<Cell, Problem>
+pub(crate) fn cell(alloc: Global, tokens: Tokens) -> Result<Cell, Problem>
     // What is read is the tokens' tree, and a refusal is the one that the grammar has.
     ensures read { Reads (λ cell. IsTree A_cell all (cell_view cell) (views tokens.now)) (IsRefused A_cell (views tokens.now)) result }
 
@@ -102,7 +102,7 @@ pub(crate) fn cell(alloc: Global, tokens: &[Token]) -> Result<Cell, Problem>
     all_tokens_cell(alloc, tokens)
 }
 
-fn all_tokens_cell(alloc: Global, tokens: &[Token]) -> Result<Cell, Problem>
+fn all_tokens_cell(alloc: Global, tokens: Tokens) -> Result<Cell, Problem>
     ensures { Reads (λ cell. IsTree A_cell all (cell_view cell) (views tokens.now)) (Refused A_cell (views tokens.now)) result }
 {
     let (read, main, rest) = first_parts(alloc, tokens)?;
@@ -112,7 +112,7 @@ fn all_tokens_cell(alloc: Global, tokens: &[Token]) -> Result<Cell, Problem>
 }
 
 /// The cell of the declarations and the statements that stand here, whether `main` may follow, and the tokens behind them.
-fn first_parts(alloc: Global, tokens: &[Token]) -> Result<(Cell, bool, &[Token]), Problem>
+fn first_parts(alloc: Global, tokens: Tokens) -> Result<(Cell, bool, Tokens), Problem>
     ensures { Reads (λ x. AreFirstParts x.1 (cell_view x.0) (views tokens.now) (views x.2.now)) (Refused A_cell (views tokens.now)) result }
 {
     let (declarations, rest) = declarations(alloc, tokens)?;
@@ -127,7 +127,7 @@ fn first_parts(alloc: Global, tokens: &[Token]) -> Result<(Cell, bool, &[Token])
 }
 
 /// The expression that the tokens spell.
-pub(crate) fn only_expression(alloc: Global, tokens: &[Token]) -> Result<Exp, Problem>
+pub(crate) fn only_expression(alloc: Global, tokens: Tokens) -> Result<Exp, Problem>
     // What is read is the tokens' tree, and a refusal is the one that the grammar has.
     ensures read { Reads (λ exp. IsTree Whole all (exp_view exp) (views tokens.now)) (IsRefused Whole (views tokens.now)) result }
 
@@ -137,7 +137,7 @@ pub(crate) fn only_expression(alloc: Global, tokens: &[Token]) -> Result<Exp, Pr
     all_tokens_expression(alloc, tokens)
 }
 
-fn all_tokens_expression(alloc: Global, tokens: &[Token]) -> Result<Exp, Problem>
+fn all_tokens_expression(alloc: Global, tokens: Tokens) -> Result<Exp, Problem>
     ensures { Reads (λ exp. IsTree Whole all (exp_view exp) (views tokens.now)) (Refused Whole (views tokens.now)) result }
 {
     let (exp, rest) = whole_expression(alloc, tokens, 0)?;

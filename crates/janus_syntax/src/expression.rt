@@ -1,21 +1,22 @@
 //! Expressions.
 
-ghost use Rattle.std.specs.Prelude.{◌≡◌, ℕ, ◌≤◌, ◌≢◌, Some, IfSome, IfNone, IfOk};
+ghost use Rattle.std.specs.Prelude.{◌≡◌, ℕ, ◌<◌, ◌≤◌, ◌≢◌, Some, IfSome, IfNone, IfOk};
 ghost use Rattle.janus_syntax.specs.declared.operator.Infix as code;
 ghost use Rattle.janus_syntax.specs.Tree.{exp_view, name_view};
-ghost use Rattle.janus_syntax.specs.Tokens.{views};
+ghost use Rattle.janus_syntax.specs.TextTokens.{views};
 ghost use Rattle.janus_syntax.specs.Operators.{joined};
 ghost use Rattle.janus_syntax.specs.Forms.{Whole};
 ghost use Rattle.janus_syntax.specs.Grammar.{operator_limit, depth_limit};
 ghost use Rattle.janus_syntax.specs.Reader.{next};
-ghost use Rattle.janus_syntax.specs.Reading.{Reads, IsPart, FailsPart, IsExp, FailsExp, IsOperator, seen_operator, IsIndexed, FailsIndexed};
+ghost use Rattle.janus_syntax.specs.Reading.{Reads, IsPart, FailsPart, IsExp, FailsExp, IsOperator, IsSeen, seen_operator, IsIndexed, FailsIndexed};
 
 use crate::fault::What;
 use crate::item::{behind_sign, sign_at, stack};
 use crate::operator::{Infix, Joint, infix_of};
 use crate::pair::both;
 use crate::problem::Problem;
-use crate::token::{Keyword, Sign, Token, TokenKind};
+use crate::text_token::{TextKind, Tokens};
+use crate::token::{Keyword, Sign};
 use crate::tree::{Exp, Name};
 use std::alloc::{AllocError, Global};
 
@@ -45,10 +46,10 @@ fn join(alloc: Global, joint: Joint, left: Exp, right: Exp) -> Result<Exp, Alloc
 #[cycle(expression)]
 fn operand(
     alloc: Global,
-    tokens: &[Token],
+    tokens: Tokens,
     depth: usize,
     used: usize,
-) -> Result<(Exp, usize, &[Token]), Problem>
+) -> Result<(Exp, usize, Tokens), Problem>
     requires room { depth ≤ depth_limit }
     requires few { used ≤ operator_limit }
     ensures { Reads (λ x. IsExp 0 depth used (exp_view x.0) x.1 (views tokens.now) (views x.2.now)) (FailsExp 0 depth used (views tokens.now)) result }
@@ -60,15 +61,15 @@ fn operand(
         });
     };
     match &first.kind {
-        TokenKind::Number(number) => Ok((Exp::Number(*number, first.span), used, rest)),
-        TokenKind::Name(text) => {
+        TextKind::Number(number) => Ok((Exp::Number(*number, first.span), used, rest)),
+        TextKind::Name(text) => {
             let name = Name {
-                text: text.clone()?,
+                text: String::from_str(alloc, text)?,
                 span: first.span,
             };
             index(alloc, name, rest, depth, used)
         }
-        TokenKind::Sign(sign) => match sign {
+        TextKind::Sign(sign) => match sign {
             Sign::Open => {
                 if depth == DEPTH_LIMIT {
                     return Err(Problem::TooNested { left: tokens.len() });
@@ -89,13 +90,13 @@ fn operand(
                 left: tokens.len(),
             }),
         },
-        TokenKind::Keyword(keyword) => match keyword {
+        TextKind::Keyword(keyword) => match keyword {
             Keyword::Empty => {
-                let (stack, rest) = stack(rest)?;
+                let (stack, rest) = stack(alloc, rest)?;
                 Ok((Exp::Empty(stack), used, rest))
             }
             Keyword::Top => {
-                let (stack, rest) = stack(rest)?;
+                let (stack, rest) = stack(alloc, rest)?;
                 Ok((Exp::Top(stack), used, rest))
             }
             _ => Err(Problem::Expected {
@@ -111,10 +112,10 @@ fn operand(
 fn index(
     alloc: Global,
     name: Name,
-    tokens: &[Token],
+    tokens: Tokens,
     depth: usize,
     used: usize,
-) -> Result<(Exp, usize, &[Token]), Problem>
+) -> Result<(Exp, usize, Tokens), Problem>
     requires room { depth ≤ depth_limit }
     requires few { used ≤ operator_limit }
     ensures { Reads (λ x. IsIndexed depth used (name_view name) (exp_view x.0) x.1 (views tokens.now) (views x.2.now))
@@ -132,16 +133,36 @@ fn index(
 }
 
 /// The operator of this level that the tokens begin with, and the tokens behind it.
-fn operator_at(tokens: &[Token], level: u8) -> Option<(Infix, &[Token])>
+fn operator_at(tokens: Tokens, level: u8) -> Option<(Infix, Tokens)>
     ensures found { IfSome result (λ x. IsOperator level x.0 (views tokens.now) (views x.1.now)) }
     ensures none { IfNone result ((op : code.Infix) → seen_operator (next (views tokens.now)) ≡ Some op → op.level ≢ level) }
 {
     let (first, rest) = tokens.split_first()?;
     match &first.kind {
-        TokenKind::Sign(sign) => {
+        TextKind::Sign(sign) => {
             let operator = infix_of(*sign)?;
             if operator.level == level {
                 Some((operator, rest))
+            } else {
+                None
+            }
+        }
+        _ => None,
+    }
+}
+
+/// The level of the operator that the tokens begin with, if it binds weaker than the level `stronger` and not weaker than `weakest`.
+fn level_at(tokens: Tokens, stronger: u8, weakest: u8) -> Option<u8>
+    ensures found { IfSome result (λ level. IsSeen level (views tokens.now)) }
+    ensures between { IfSome result (λ level. (stronger < level) × (level ≤ weakest)) }
+    ensures none { IfNone result ((op : code.Infix) → seen_operator (next (views tokens.now)) ≡ Some op → stronger < op.level → op.level ≤ weakest → ⊥) }
+{
+    let first = tokens.first()?;
+    match &first.kind {
+        TextKind::Sign(sign) => {
+            let level = infix_of(*sign)?.level;
+            if stronger < level && level <= weakest {
+                Some(level)
             } else {
                 None
             }
@@ -156,11 +177,11 @@ fn operator_at(tokens: &[Token], level: u8) -> Option<(Infix, &[Token])>
 #[cycle(expression)]
 fn expression(
     alloc: Global,
-    tokens: &[Token],
+    tokens: Tokens,
     weakest: u8,
     depth: usize,
     used: usize,
-) -> Result<(Exp, usize, &[Token]), Problem>
+) -> Result<(Exp, usize, Tokens), Problem>
     requires room { depth ≤ depth_limit }
     requires few { used ≤ operator_limit }
     requires level { weakest ≤ 8 }
@@ -169,7 +190,9 @@ fn expression(
 {
     let (mut left, mut total, mut rest) = operand(alloc, tokens, depth, used)?;
     let mut stronger: u8 = 0;
-    'levels: while stronger < weakest {
+    // Levels of which no operator stands here are passed over.
+    'levels: while let Some(level) = level_at(rest, stronger, weakest) {
+        stronger = level - 1;
         'operators: while let Some((operator, behind)) = operator_at(rest, stronger + 1) {
             if total == OPERATOR_LIMIT {
                 return Err(Problem::TooNested { left: rest.len() });
@@ -190,9 +213,9 @@ fn expression(
 /// A whole expression at the front, and the tokens behind it, with `depth` constructs open before it.
 pub(crate) fn whole_expression(
     alloc: Global,
-    tokens: &[Token],
+    tokens: Tokens,
     depth: usize,
-) -> Result<(Exp, &[Token]), Problem>
+) -> Result<(Exp, Tokens), Problem>
     requires { depth ≤ depth_limit }
     ensures { Reads (λ x. IsPart Whole depth (exp_view x.0) (views tokens.now) (views x.1.now)) (FailsPart Whole depth (views tokens.now)) result }
 {

@@ -18,7 +18,8 @@
 //!
 //! The code, in reading order:
 //!
-//! - `token`, `lexer`: tokens, and how they are found in a text. `tree`, `operator`: what is read, and the levels of operators.
+//! - `token`, `text_token`, `lexer`: tokens, those of the parser, and how they are found in a text.
+//! - `tree`, `operator`: what is read, and the levels of operators.
 //! - `fault`, `problem`: why a text is refused, and why the reading of its tokens stops.
 //! - `pair`: a part that is kept only if the next is read.
 //! - `item`: single tokens. `expression`, `call`, `statement`, `procedure`, `cell`: how each is read. `parser`: whole texts.
@@ -31,7 +32,7 @@
 //! - `Grammar`: which tokens spell which tree, what is wanted behind a beginning, where tokens are refused.
 //! - `Text`, `Laws`: tokens and text together, and the laws of both. `Fault`: what is shown of a refusal.
 //! - `Printing`: the text of a tree. `View`: the trees as trees of the meaning.
-//! - `Scan`, `Reader`, `Reading`, `Statements`, `Procedures`, `Printed` serve the proofs: no contract of a public function names them.
+//! - `TextTokens`, `Scan`, `Reader`, `Reading`, `Statements`, `Procedures`, `Printed` serve the proofs: no contract of a public function names them.
 //!
 //! A cell here has declarations of numbers, arrays and stacks, then assignments, swaps, `push`, `pop`, `if`, loops, locals, `call`,
 //! `uncall` and `skip`, and then procedures; or it is a program of procedures, one of which is `main`.
@@ -51,6 +52,7 @@ mod printer;
 mod problem;
 mod procedure;
 mod statement;
+mod text_token;
 pub mod token;
 pub mod tree;
 

@@ -2,15 +2,16 @@
 
 ghost use Rattle.std.specs.Prelude.{◌≡◌, ◌≤◌, ◌-◌, length, drop};
 ghost use Rattle.janus_syntax.specs.Tree.{Cell as Tree, Exp as ExpTree};
-ghost use Rattle.janus_syntax.specs.Tokens.{views};
+ghost use Rattle.janus_syntax.specs.TextTokens.{views};
 ghost use Rattle.janus_syntax.specs.Reading.{Within, fault_of};
 ghost use Rattle.janus_syntax.specs.Text.{place_before, HasTree, IsParsed, IsOnlyTree, HasExp, IsParsedExp, IsOnlyExp};
 
 use crate::cell::{cell, only_expression};
 use crate::fault::SyntaxFault;
-use crate::lexer::tokens;
+use crate::lexer::text_tokens;
 use crate::problem::Problem;
-use crate::token::{Span, Token};
+use crate::text_token::Tokens;
+use crate::token::Span;
 use crate::tree::{Cell, Exp};
 use std::alloc::Global;
 
@@ -29,7 +30,7 @@ pub fn parse_cell(alloc: Global, text: &str) -> Result<Cell, SyntaxFault>
     // What has a tree is read as that tree, unless memory runs out.
     ensures only { (tree : Tree) → HasTree text.now tree → IsOnlyTree tree result }
 {
-    let tokens = tokens(alloc, text)?;
+    let tokens = text_tokens(alloc, text)?;
     match cell(alloc, &tokens) {
         Ok(cell) => Ok(cell),
         Err(problem) => Err(fault(problem, &tokens, text.len())),
@@ -45,7 +46,7 @@ pub fn parse_exp(alloc: Global, text: &str) -> Result<Exp, SyntaxFault>
     // What is an expression is read as that one, unless memory runs out.
     ensures only { (tree : ExpTree) → HasExp text.now tree → IsOnlyExp tree result }
 {
-    let tokens = tokens(alloc, text)?;
+    let tokens = text_tokens(alloc, text)?;
     match only_expression(alloc, &tokens) {
         Ok(exp) => Ok(exp),
         Err(problem) => Err(fault(problem, &tokens, text.len())),
@@ -53,7 +54,7 @@ pub fn parse_exp(alloc: Global, text: &str) -> Result<Exp, SyntaxFault>
 }
 
 /// A problem of the tokens as a refusal of their text, which has `end` octets.
-fn fault(problem: Problem, tokens: &[Token], end: usize) -> SyntaxFault
+fn fault(problem: Problem, tokens: Tokens, end: usize) -> SyntaxFault
     requires { Within problem (length tokens.now) }
     ensures { result ≡ fault_of end (views tokens.now) problem }
 {
@@ -66,7 +67,7 @@ fn fault(problem: Problem, tokens: &[Token], end: usize) -> SyntaxFault
 }
 
 /// Where the last `left` tokens of a text begin: at the first of them, or at the text's end.
-fn place(tokens: &[Token], left: usize, end: usize) -> Span
+fn place(tokens: Tokens, left: usize, end: usize) -> Span
     requires { left ≤ length tokens.now }
     ensures { result ≡ place_before end (drop (length tokens.now - left) (views tokens.now)) }
 {

@@ -3,7 +3,8 @@
 ghost use Rattle.std.specs.Prelude.{◌≡◌, ◌<◌, ◌≤◌, ℕ, List, ◌∷◌, true, false};
 ghost use Rattle.janus_syntax.specs.declared.token.Span.{Span};
 ghost use Rattle.janus_syntax.specs.Tree.{name_view, exp_view, stm_view, block_view};
-ghost use Rattle.janus_syntax.specs.Tokens.{Token as AToken, Keyword_of, views};
+ghost use Rattle.janus_syntax.specs.Tokens.{Token as AToken, Keyword_of};
+ghost use Rattle.janus_syntax.specs.TextTokens.{views};
 ghost use Rattle.janus_syntax.specs.Forms.{Body, Local, Statements};
 ghost use Rattle.janus_syntax.specs.Grammar.{depth_limit};
 ghost use Rattle.janus_syntax.specs.Reading.{Reads, IsPart, FailsPart};
@@ -18,19 +19,16 @@ use crate::item::{
     behind_delocal, behind_keyword, behind_sign, keyword_at, name, sign_at, update,
     variable_and_stack,
 };
-use crate::pair::both;
+use crate::pair::{both, so_far};
 use crate::problem::Problem;
-use crate::token::{Keyword, Sign, Token, TokenKind};
+use crate::text_token::{TextKind, Tokens};
+use crate::token::{Keyword, Sign};
 use crate::tree::{Exp, LocalKind, Name, Stm};
 use std::alloc::Global;
 
 /// A statement and the tokens behind it, if one begins here, with `depth` constructs open before it.
 #[cycle(statement)]
-fn statement(
-    alloc: Global,
-    tokens: &[Token],
-    depth: usize,
-) -> Result<Option<(Stm, &[Token])>, Problem>
+fn statement(alloc: Global, tokens: Tokens, depth: usize) -> Result<Option<(Stm, Tokens)>, Problem>
     requires { depth ≤ depth_limit }
     ensures { Reads (IsStmOrOther depth (views tokens.now)) (FailsStm depth (views tokens.now)) result }
 {
@@ -38,15 +36,15 @@ fn statement(
         return Ok(None);
     };
     match &first.kind {
-        TokenKind::Name(text) => {
+        TextKind::Name(text) => {
             let name = Name {
-                text: text.clone()?,
+                text: String::from_str(alloc, text)?,
                 span: first.span,
             };
             let (stm, rest) = swap_or_assignment(alloc, name, rest, depth)?;
             Ok(Some((stm, rest)))
         }
-        TokenKind::Keyword(keyword) => {
+        TextKind::Keyword(keyword) => {
             if opens_construct(*keyword) {
                 if depth == DEPTH_LIMIT {
                     return Err(Problem::TooNested { left: tokens.len() });
@@ -72,13 +70,15 @@ fn opens_construct(keyword: Keyword) -> bool
 }
 
 /// The construct that this keyword begins, behind that keyword, with `depth` constructs open before it, and the tokens behind it.
+// Not inlined, as the next: an assignment would clear the room of their locals too.
 #[cycle(statement)]
+#[inline(never)]
 fn construct(
     alloc: Global,
     keyword: Keyword,
-    tokens: &[Token],
+    tokens: Tokens,
     depth: usize,
-) -> Result<(Stm, &[Token]), Problem>
+) -> Result<(Stm, Tokens), Problem>
     requires opens { opens_construct keyword ≡ true }
     requires room { depth < depth_limit }
     ensures { (place : Span) →
@@ -93,11 +93,12 @@ fn construct(
 }
 
 /// The statement that this keyword begins, behind that keyword, and the tokens behind it, where it is no construct; or none begins.
+#[inline(never)]
 fn plain_statement(
     alloc: Global,
     keyword: Keyword,
-    tokens: &[Token],
-) -> Result<Option<(Stm, &[Token])>, Problem>
+    tokens: Tokens,
+) -> Result<Option<(Stm, Tokens)>, Problem>
     requires { opens_construct keyword ≡ false }
     ensures { (depth : ℕ) (place : Span) → depth ≤ depth_limit →
         Reads (IsStmOrOther depth (Keyword_of keyword place ∷ views tokens.now)) (FailsStm depth (Keyword_of keyword place ∷ views tokens.now)) result }
@@ -105,11 +106,11 @@ fn plain_statement(
     match keyword {
         Keyword::Skip => Ok(Some((Stm::Skip, tokens))),
         Keyword::Push => {
-            let (variable, stack, rest) = variable_and_stack(tokens)?;
+            let (variable, stack, rest) = variable_and_stack(alloc, tokens)?;
             Ok(Some((Stm::Push(variable, stack), rest)))
         }
         Keyword::Pop => {
-            let (variable, stack, rest) = variable_and_stack(tokens)?;
+            let (variable, stack, rest) = variable_and_stack(alloc, tokens)?;
             Ok(Some((Stm::Pop(variable, stack), rest)))
         }
         Keyword::Call => {
@@ -128,9 +129,9 @@ fn plain_statement(
 fn swap_or_assignment(
     alloc: Global,
     target: Name,
-    tokens: &[Token],
+    tokens: Tokens,
     depth: usize,
-) -> Result<(Stm, &[Token]), Problem>
+) -> Result<(Stm, Tokens), Problem>
     requires { depth ≤ depth_limit }
     ensures { Reads (λ x. IsBehindTarget depth (name_view target) (stm_view x.0) (views tokens.now) (views x.1.now))
         (FailsBehindTarget depth (name_view target) (views tokens.now)) result }
@@ -138,7 +139,7 @@ fn swap_or_assignment(
     let Some(rest) = sign_at(Sign::Swap, tokens) else {
         return assignment(alloc, target, tokens, depth);
     };
-    let (partner, rest) = name(rest)?;
+    let (partner, rest) = name(alloc, rest)?;
     Ok((Stm::Swap(target, partner), rest))
 }
 
@@ -146,9 +147,9 @@ fn swap_or_assignment(
 fn assignment(
     alloc: Global,
     name: Name,
-    tokens: &[Token],
+    tokens: Tokens,
     depth: usize,
-) -> Result<(Stm, &[Token]), Problem>
+) -> Result<(Stm, Tokens), Problem>
     requires { depth ≤ depth_limit }
     ensures { Reads (λ x. IsAssignment depth (name_view name) (stm_view x.0) (views tokens.now) (views x.1.now))
         (FailsAssignment depth (name_view name) (views tokens.now)) result }
@@ -170,7 +171,7 @@ fn assignment(
 
 /// An `if`, behind that keyword, and the tokens behind it. It is one of the `depth` open constructs.
 #[cycle(statement)]
-fn behind_if(alloc: Global, tokens: &[Token], depth: usize) -> Result<(Stm, &[Token]), Problem>
+fn behind_if(alloc: Global, tokens: Tokens, depth: usize) -> Result<(Stm, Tokens), Problem>
     requires { depth ≤ depth_limit }
     ensures { Reads (λ x. IsIf depth (stm_view x.0) (views tokens.now) (views x.1.now)) (FailsIf depth (views tokens.now)) result }
 {
@@ -187,9 +188,9 @@ fn end_of_if(
     test: Exp,
     then_part: Vec<Stm>,
     else_part: Vec<Stm>,
-    tokens: &[Token],
+    tokens: Tokens,
     depth: usize,
-) -> Result<(Stm, &[Token]), Problem>
+) -> Result<(Stm, Tokens), Problem>
     requires { depth ≤ depth_limit }
     ensures { (from : List AToken) → IsIfBegun depth (exp_view test) (block_view then_part.items) (block_view else_part.items) from (views tokens.now) →
         Reads (λ x. IsIf depth (stm_view x.0) from (views x.1.now)) (FailsIf depth from) result }
@@ -201,7 +202,7 @@ fn end_of_if(
 
 /// A loop, behind the keyword `from`, and the tokens behind it. It is one of the `depth` open constructs.
 #[cycle(statement)]
-fn behind_from(alloc: Global, tokens: &[Token], depth: usize) -> Result<(Stm, &[Token]), Problem>
+fn behind_from(alloc: Global, tokens: Tokens, depth: usize) -> Result<(Stm, Tokens), Problem>
     requires { depth ≤ depth_limit }
     ensures { Reads (λ x. IsLoop depth (stm_view x.0) (views tokens.now) (views x.1.now)) (FailsLoop depth (views tokens.now)) result }
 {
@@ -223,9 +224,9 @@ fn end_of_loop(
     assertion: Exp,
     do_part: Vec<Stm>,
     loop_part: Vec<Stm>,
-    tokens: &[Token],
+    tokens: Tokens,
     depth: usize,
-) -> Result<(Stm, &[Token]), Problem>
+) -> Result<(Stm, Tokens), Problem>
     requires { depth ≤ depth_limit }
     ensures { (from : List AToken) →
         IsLoopBegun depth (exp_view assertion) (block_view do_part.items) (block_view loop_part.items) from (views tokens.now) →
@@ -238,7 +239,7 @@ fn end_of_loop(
 
 /// A local, behind the keyword `local`, and the tokens behind it. It is one of the `depth` open constructs.
 #[cycle(statement)]
-fn behind_local(alloc: Global, tokens: &[Token], depth: usize) -> Result<(Stm, &[Token]), Problem>
+fn behind_local(alloc: Global, tokens: Tokens, depth: usize) -> Result<(Stm, Tokens), Problem>
     requires { depth ≤ depth_limit }
     ensures { Reads (λ x. IsPart Local depth (stm_view x.0) (views tokens.now) (views x.1.now)) (FailsPart Local depth (views tokens.now)) result }
 {
@@ -258,7 +259,7 @@ fn behind_local(alloc: Global, tokens: &[Token], depth: usize) -> Result<(Stm, &
 
 /// A local number, behind `local int`, and the tokens behind it.
 #[cycle(statement)]
-fn local_int(alloc: Global, tokens: &[Token], depth: usize) -> Result<(Stm, &[Token]), Problem>
+fn local_int(alloc: Global, tokens: Tokens, depth: usize) -> Result<(Stm, Tokens), Problem>
     requires { depth ≤ depth_limit }
     ensures { Reads (λ x. IsLocalInt depth (stm_view x.0) (views tokens.now) (views x.1.now)) (FailsLocalInt depth (views tokens.now)) result }
 {
@@ -268,15 +269,11 @@ fn local_int(alloc: Global, tokens: &[Token], depth: usize) -> Result<(Stm, &[To
 }
 
 /// The name of a local number and what it begins with, and the tokens behind them.
-fn head_of_int(
-    alloc: Global,
-    tokens: &[Token],
-    depth: usize,
-) -> Result<(Name, Exp, &[Token]), Problem>
+fn head_of_int(alloc: Global, tokens: Tokens, depth: usize) -> Result<(Name, Exp, Tokens), Problem>
     requires { depth ≤ depth_limit }
     ensures { Reads (λ x. IsIntHead depth (name_view x.0) (exp_view x.1) (views tokens.now) (views x.2.now)) (FailsLocalInt depth (views tokens.now)) result }
 {
-    let (name, rest) = name(tokens)?;
+    let (name, rest) = name(alloc, tokens)?;
     let rest = behind_sign(Sign::Equals, rest)?;
     let (exp, rest) = whole_expression(alloc, rest, depth)?;
     Ok((name, exp, rest))
@@ -288,35 +285,35 @@ fn end_of_int(
     name: Name,
     exp: Exp,
     statements: Vec<Stm>,
-    tokens: &[Token],
+    tokens: Tokens,
     depth: usize,
-) -> Result<(Stm, &[Token]), Problem>
+) -> Result<(Stm, Tokens), Problem>
     requires { depth ≤ depth_limit }
     ensures { (from start : List AToken) → IsIntHead depth (name_view name) (exp_view exp) from start →
         IsPart Body depth (block_view statements.items) start (views tokens.now) →
         Reads (λ x. IsLocalInt depth (stm_view x.0) from (views x.1.now)) (FailsLocalInt depth from) result }
 {
-    let (exp, (again, rest)) = both(exp, behind_delocal(LocalKind::Int, &name, tokens))?;
+    let (exp, (again, rest)) = both(exp, behind_delocal(alloc, LocalKind::Int, &name, tokens))?;
     let (exp, (test, rest)) = both(exp, whole_expression(alloc, rest, depth))?;
     Ok((Stm::LocalInt(name, exp, statements, again, test), rest))
 }
 
 /// A local stack, behind `local stack`, and the tokens behind it.
 #[cycle(statement)]
-fn local_stack(alloc: Global, tokens: &[Token], depth: usize) -> Result<(Stm, &[Token]), Problem>
+fn local_stack(alloc: Global, tokens: Tokens, depth: usize) -> Result<(Stm, Tokens), Problem>
     requires { depth ≤ depth_limit }
     ensures { Reads (λ x. IsLocalStack depth (stm_view x.0) (views tokens.now) (views x.1.now)) (FailsLocalStack depth (views tokens.now)) result }
 {
-    let (name, rest) = head_of_stack(tokens)?;
+    let (name, rest) = head_of_stack(alloc, tokens)?;
     let (statements, rest) = body(alloc, rest, depth)?;
-    end_of_stack(name, statements, rest)
+    end_of_stack(alloc, name, statements, rest)
 }
 
 /// The name of a local stack, behind which stands `= nil`, and the tokens behind them.
-fn head_of_stack(tokens: &[Token]) -> Result<(Name, &[Token]), Problem>
+fn head_of_stack(alloc: Global, tokens: Tokens) -> Result<(Name, Tokens), Problem>
     ensures { (depth : ℕ) → Reads (λ x. IsStackHead (name_view x.0) (views tokens.now) (views x.1.now)) (FailsLocalStack depth (views tokens.now)) result }
 {
-    let (name, rest) = name(tokens)?;
+    let (name, rest) = name(alloc, tokens)?;
     let rest = behind_sign(Sign::Equals, rest)?;
     let rest = behind_keyword(Keyword::Nil, rest)?;
     Ok((name, rest))
@@ -324,15 +321,16 @@ fn head_of_stack(tokens: &[Token]) -> Result<(Name, &[Token]), Problem>
 
 /// A local stack of this name and these statements, behind them, and the tokens behind it.
 fn end_of_stack(
+    alloc: Global,
     name: Name,
     statements: Vec<Stm>,
-    tokens: &[Token],
-) -> Result<(Stm, &[Token]), Problem>
+    tokens: Tokens,
+) -> Result<(Stm, Tokens), Problem>
     ensures { (depth : ℕ) (from start : List AToken) → IsStackHead (name_view name) from start →
         IsPart Body depth (block_view statements.items) start (views tokens.now) →
         Reads (λ x. IsLocalStack depth (stm_view x.0) from (views x.1.now)) (FailsLocalStack depth from) result }
 {
-    let (again, rest) = behind_delocal(LocalKind::Stack, &name, tokens)?;
+    let (again, rest) = behind_delocal(alloc, LocalKind::Stack, &name, tokens)?;
     let rest = behind_keyword(Keyword::Nil, rest)?;
     Ok((Stm::LocalStack(name, statements, again), rest))
 }
@@ -342,9 +340,9 @@ fn end_of_stack(
 fn optional_body(
     alloc: Global,
     keyword: Keyword,
-    tokens: &[Token],
+    tokens: Tokens,
     depth: usize,
-) -> Result<(Vec<Stm>, &[Token]), Problem>
+) -> Result<(Vec<Stm>, Tokens), Problem>
     requires { depth ≤ depth_limit }
     ensures { Reads (λ x. IsOptional keyword depth (block_view x.0.items) (views tokens.now) (views x.1.now))
         (FailsOptional keyword depth (views tokens.now)) result }
@@ -361,9 +359,9 @@ fn optional_body(
 #[cycle(statement)]
 pub(crate) fn body(
     alloc: Global,
-    tokens: &[Token],
+    tokens: Tokens,
     depth: usize,
-) -> Result<(Vec<Stm>, &[Token]), Problem>
+) -> Result<(Vec<Stm>, Tokens), Problem>
     requires { depth ≤ depth_limit }
     ensures { Reads (λ x. IsPart Body depth (block_view x.0.items) (views tokens.now) (views x.1.now)) (FailsPart Body depth (views tokens.now)) result }
 {
@@ -383,15 +381,14 @@ pub(crate) fn body(
 fn statements_behind(
     alloc: Global,
     before: Vec<Stm>,
-    tokens: &[Token],
+    tokens: Tokens,
     depth: usize,
-) -> Result<(Vec<Stm>, &[Token]), Problem>
+) -> Result<(Vec<Stm>, Tokens), Problem>
     requires { depth ≤ depth_limit }
     ensures { Reads (λ x. AreStatements depth (block_view before.items) (block_view x.0.items) (views tokens.now) (views x.1.now))
         (FailsPart Statements depth (views tokens.now)) result }
 {
-    let mut statements = before;
-    let mut rest = tokens;
+    let (mut statements, mut rest) = so_far(before, tokens);
     'statements: while let Some((next, after)) = statement(alloc, rest, depth)? {
         statements.push(next)?;
         rest = after;
@@ -402,7 +399,7 @@ fn statements_behind(
 }
 
 /// All statements that stand here outside of any construct, and the tokens behind them.
-pub(crate) fn statements(alloc: Global, tokens: &[Token]) -> Result<(Vec<Stm>, &[Token]), Problem>
+pub(crate) fn statements(alloc: Global, tokens: Tokens) -> Result<(Vec<Stm>, Tokens), Problem>
     ensures { Reads (λ x. IsPart Statements 0 (block_view x.0.items) (views tokens.now) (views x.1.now)) (FailsPart Statements 0 (views tokens.now)) result }
 {
     statements_behind(alloc, Vec::new(alloc), tokens, 0)

@@ -29,6 +29,7 @@ use Rattle.janus_code.specs.contracts.code.Code as Code
 use Rattle.janus_linear.specs.contracts.code.Linear as Linear
 use Rattle.janus_linear.specs.contracts.code.Assertion as Assertion
 use Rattle.janus_flat.specs.contracts.code.Primitive as Primitive
+use Rattle.janus_flat.specs.contracts.code.Relation as Relation
 use Rattle.janus_flat.specs.contracts.statements.Head as Head
 use Rattle.janus_laying.specs.contracts.frame_names.FrameNames as FrameNames
 use Rattle.janus_laying.specs.contracts.row.FlatRow as FlatRow
@@ -76,8 +77,11 @@ FrameNames-send = search (crosses, sendable) depth 60 fits 20000
 Assertion-send : IsSend (Assertion.the_field).row
 Assertion-send = search (crosses, sendable) depth 60 fits 20000
 
+Relation-send : IsSend (Relation.the_field).row
+Relation-send = search (crosses, sendable) depth 60 fits 20000
+
 Primitive-each : EachSend (E.shape Primitive.the_type).variants
-Primitive-each = (search (crosses, Assertion-send, sendable) depth 20, (search (crosses, Assertion-send, sendable) depth 20, (search (crosses, Assertion-send, sendable) depth 20, (search (crosses, Assertion-send, sendable) depth 20, (search (crosses, Assertion-send, sendable) depth 20, (search (crosses, Assertion-send, sendable) depth 20, (search (crosses, Assertion-send, sendable) depth 20, (search (crosses, Assertion-send, sendable) depth 20, (search (crosses, Assertion-send, sendable) depth 20, (search (crosses, Assertion-send, sendable) depth 20, (search (crosses, Assertion-send, sendable) depth 20, (search (crosses, Assertion-send, sendable) depth 20, (search (crosses, Assertion-send, sendable) depth 20, (search (crosses, Assertion-send, sendable) depth 20, (search (crosses, Assertion-send, sendable) depth 20, (search (crosses, Assertion-send, sendable) depth 20, (search (crosses, Assertion-send, sendable) depth 20, (search (crosses, Assertion-send, sendable) depth 20, (search (crosses, Assertion-send, sendable) depth 20, (search (crosses, Assertion-send, sendable) depth 20, (search (crosses, Assertion-send, sendable) depth 20, (search (crosses, Assertion-send, sendable) depth 20, (search (crosses, Assertion-send, sendable) depth 20, (search (crosses, Assertion-send, sendable) depth 20, (search (crosses, Assertion-send, sendable) depth 20, (search (crosses, Assertion-send, sendable) depth 20, (search (crosses, Assertion-send, sendable) depth 20, (search (crosses, Assertion-send, sendable) depth 20, (search (crosses, Assertion-send, sendable) depth 20, (search (crosses, Assertion-send, sendable) depth 20, (search (crosses, Assertion-send, sendable) depth 20, (search (crosses, Assertion-send, sendable) depth 20, (search (crosses, Assertion-send, sendable) depth 20, (search (crosses, Assertion-send, sendable) depth 20, (search (crosses, Assertion-send, sendable) depth 20, (search (crosses, Assertion-send, sendable) depth 20, (search (crosses, Assertion-send, sendable) depth 20, (search (crosses, Assertion-send, sendable) depth 20, (search (crosses, Assertion-send, sendable) depth 20, (search (crosses, Assertion-send, sendable) depth 20, (search (crosses, Assertion-send, sendable) depth 20, (search (crosses, Assertion-send, sendable) depth 20, (search (crosses, Assertion-send, sendable) depth 20, (search (crosses, Assertion-send, sendable) depth 20, (search (crosses, Assertion-send, sendable) depth 20, (search (crosses, Assertion-send, sendable) depth 20, (search (crosses, Assertion-send, sendable) depth 20, (search (crosses, Assertion-send, sendable) depth 20, (search (crosses, Assertion-send, sendable) depth 20, (search (crosses, Assertion-send, sendable) depth 20, (search (crosses, Assertion-send, sendable) depth 20, (search (crosses, Assertion-send, sendable) depth 20, (search (crosses, Assertion-send, sendable) depth 20, tt)))))))))))))))))))))))))))))))))))))))))))))))))))))
+Primitive-each = (search (crosses, Assertion-send, sendable) depth 20, (search (crosses, Assertion-send, sendable) depth 20, (search (crosses, Assertion-send, sendable) depth 20, (search (crosses, Assertion-send, sendable) depth 20, (search (crosses, Assertion-send, sendable) depth 20, (search (crosses, Assertion-send, sendable) depth 20, (search (crosses, Assertion-send, sendable) depth 20, (search (crosses, Assertion-send, sendable) depth 20, (search (crosses, Assertion-send, sendable) depth 20, (search (crosses, Assertion-send, sendable) depth 20, (search (crosses, Assertion-send, sendable) depth 20, (search (crosses, Assertion-send, sendable) depth 20, (search (crosses, Assertion-send, sendable) depth 20, (search (crosses, Assertion-send, sendable) depth 20, (search (crosses, Assertion-send, sendable) depth 20, (search (crosses, Assertion-send, sendable) depth 20, (search (crosses, Assertion-send, sendable) depth 20, (search (crosses, Assertion-send, sendable) depth 20, (search (crosses, Assertion-send, sendable) depth 20, (search (crosses, Assertion-send, sendable) depth 20, (search (crosses, Assertion-send, sendable) depth 20, (search (crosses, Assertion-send, sendable) depth 20, (search (crosses, Assertion-send, sendable) depth 20, (search (crosses, Assertion-send, sendable) depth 20, (search (crosses, Assertion-send, sendable) depth 20, (search (crosses, Assertion-send, sendable) depth 20, (search (crosses, Assertion-send, sendable) depth 20, (search (crosses, Assertion-send, sendable) depth 20, (search (crosses, Assertion-send, sendable) depth 20, (search (crosses, Assertion-send, sendable) depth 20, (search (crosses, Assertion-send, sendable) depth 20, (search (crosses, Assertion-send, sendable) depth 20, (search (crosses, Assertion-send, sendable) depth 20, (search (crosses, Assertion-send, sendable) depth 20, (search (crosses, Assertion-send, sendable) depth 20, (search (crosses, Assertion-send, sendable) depth 20, (search (crosses, Assertion-send, sendable) depth 20, (search (crosses, Assertion-send, sendable) depth 20, (search (crosses, Assertion-send, sendable) depth 20, (search (crosses, Assertion-send, sendable) depth 20, (search (crosses, Assertion-send, sendable) depth 20, (search (crosses, Assertion-send, sendable) depth 20, (search (crosses, Assertion-send, sendable) depth 20, (search (crosses, Assertion-send, sendable) depth 20, (search (crosses, Assertion-send, sendable) depth 20, (search (crosses, Assertion-send, sendable) depth 20, (search (crosses, Assertion-send, sendable) depth 20, (search (crosses, Assertion-send, sendable) depth 20, (search (crosses, Assertion-send, sendable) depth 20, (search (crosses, Assertion-send, sendable) depth 20, (search (crosses, Assertion-send, sendable) depth 20, (search (crosses, Assertion-send, sendable) depth 20, (search (crosses, Assertion-send, Relation-send, sendable) depth 20, (search (crosses, Assertion-send, Relation-send, sendable) depth 20, (search (crosses, Assertion-send, Relation-send, sendable) depth 20, (search (crosses, Assertion-send, Relation-send, sendable) depth 20, (search (crosses, Assertion-send, Relation-send, sendable) depth 20, (search (crosses, Assertion-send, Relation-send, sendable) depth 20, (search (crosses, Assertion-send, sendable) depth 20, tt)))))))))))))))))))))))))))))))))))))))))))))))))))))))))))
 
 Primitive-enum : IsSend (enum.Enum (E.shape Primitive.the_type))
 Primitive-enum = enum_send (E.shape Primitive.the_type) Primitive-each

@@ -14,8 +14,8 @@ use janus_names::Names;
 use janus_syntax::tree::Procedure;
 use std::alloc::{AllocError, Global};
 
-/// Keeps the bodies of procedures whose names were met, one behind another; an error for want of memory, after which some of them may be
-/// kept.
+/// Keeps the bodies of procedures whose names were met, one behind another; an error for want of memory, or for a body of more statements or places
+/// than 32 bits count, after which some of them may be kept.
 pub fn keep_all(
     alloc: Global,
     procedures: &[Procedure],
@@ -34,7 +34,8 @@ pub fn keep_all(
     Ok(())
 }
 
-/// Keeps the body of a procedure; an error for want of memory, after which what was kept is.
+/// Keeps the body of a procedure; an error for want of memory, or for a body of more statements or places than 32 bits count, after which what was kept
+/// is.
 fn keep(
     alloc: Global,
     procedure: &Procedure,

@@ -63,7 +63,7 @@ pub fn load<L: Ledger>(
 }
 
 /// Meets the names of a cell that was checked over the shown world, and keeps the bodies of its procedures: its code both ways, and where
-/// these bodies begin. The only error is want of memory.
+/// these bodies begin. The only error is want of memory, as which code of more statements or places than 32 bits count is refused too.
 fn link<L: Ledger>(
     alloc: Global,
     checked: &Checked,
@@ -91,8 +91,8 @@ fn link<L: Ledger>(
     }
 }
 
-/// Keeps the bodies of a cell's procedures, whose names were met, and gives the cell's code both ways; an error for want of memory, after
-/// which some of the bodies may be kept.
+/// Keeps the bodies of a cell's procedures, whose names were met, and gives the cell's code both ways; an error for want of memory, or for code of more
+/// statements or places than 32 bits count, after which some of the bodies may be kept.
 fn keep_and_link<L: Ledger>(
     alloc: Global,
     checked: &Checked,
@@ -114,7 +114,7 @@ fn keep_and_link<L: Ledger>(
 }
 
 /// The code of a cell whose names were met, both ways, for whole statements over what a store declares and what the cell does where it has a
-/// loop. The only error is want of memory.
+/// loop. The only error is want of memory, as which code of more statements or places than 32 bits count is refused too.
 fn book_of<L: Ledger>(
     alloc: Global,
     checked: &Checked,

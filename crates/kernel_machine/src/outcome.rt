@@ -41,7 +41,7 @@ pub enum Refusal {
     /// The kernel was shut.
     #[error("Closing")]
     Closing,
-    /// There was no memory for a cell's code, names or node.
+    /// There was no memory for a cell's code, names or node, or its code has more statements or places than 32 bits count.
     #[error("Memory")]
     Memory,
 }

@@ -1,16 +1,20 @@
-//! Rows of flat code: what is laid of a row of instructions. `in scope` assigns to the one number in scope, `elsewhere` to a name that has no place.
-use janus_code::{FlatExp, Statement, Symbol};
+//! Rows of flat code: what is laid of a row of instructions. `in scope` assigns to the one number in scope, `elsewhere` to a name that has no place,
+//! `relation` tests whether the one in scope is less than 2.
+use janus_code::{Block, FlatExp, Statement, Symbol};
 use janus_flat::statements::Head;
 use janus_laying::{FlatRow, FrameNames, lay, place_row};
-use janus_linear::Instruction;
-use janus_syntax::tree::Update;
-use std::alloc::AllocError;
+use janus_linear::{Instruction, Side, Target};
+use janus_syntax::tree::{Operator, Update};
+use std::alloc::{AllocError, Global};
 use tests_rows::Sheet;
 
-/// Writes what is laid of one of two assignments, to the names of the numbers 0 and 1, between the entry and the end of a block: of the one that the call says.
+/// Writes what is laid of a statement between the entry and the end of a block: of an assignment to the name of the number 0 or 1, or of a test of the first.
 pub(crate) fn answer(call: &str, sheet: &mut Sheet) {
-    let number = if call == "in scope" { 0 } else { 1 };
-    tell_of([assignment(0), assignment(1)], number, sheet)
+    match call {
+        "in scope" => tell_of([assignment(0)], Instruction::Run(0), sheet),
+        "relation" => tell_test(sheet),
+        _ => tell_of([assignment(1)], Instruction::Run(0), sheet),
+    }
 }
 
 /// The assignment of one more to the name of this number.
@@ -19,21 +23,51 @@ fn assignment(number: usize) -> Statement {
     Statement::Assign(name, Update::Add, FlatExp::Number(1))
 }
 
-/// What is laid of the statement of this number.
-fn tell_of(statements: [Statement; 2], number: u32, sheet: &mut Sheet) {
-    let mut names = FrameNames::new(sheet.alloc());
-    match names.add_number(0) {
-        Ok(_) => tell_over(&names, &statements, number, sheet),
+/// What is laid of a test that is a relation.
+fn tell_test(sheet: &mut Sheet) {
+    let alloc = sheet.alloc();
+    match is_less(alloc) {
+        Ok(statement) => {
+            let on = Target::Goto(2);
+            tell_of(
+                [statement],
+                Instruction::Check(Side::First, 0, on, on),
+                sheet,
+            )
+        }
         Err(_) => sheet.refuse(),
     }
 }
 
-/// What is laid of the statement of this number over these names.
-fn tell_over(names: &FrameNames, statements: &[Statement], number: u32, sheet: &mut Sheet) {
+/// A statement that tests whether the number of the name 0 is less than 2.
+fn is_less(alloc: Global) -> Result<Statement, AllocError> {
+    let left = Box::new(alloc, FlatExp::Variable(Symbol { number: 0 }))?;
+    let right = Box::new(alloc, FlatExp::Number(2))?;
+    let none = Block { start: 0, end: 0 };
+    let test = FlatExp::Binary(Operator::Less, left, right);
+    Ok(Statement::If(test, none, none, FlatExp::Number(1)))
+}
+
+/// What is laid of an instruction over the one statement.
+fn tell_of(statements: [Statement; 1], instruction: Instruction, sheet: &mut Sheet) {
+    let mut names = FrameNames::new(sheet.alloc());
+    match names.add_number(0) {
+        Ok(_) => tell_over(&names, &statements, instruction, sheet),
+        Err(_) => sheet.refuse(),
+    }
+}
+
+/// What is laid of the instruction over these names.
+fn tell_over(
+    names: &FrameNames,
+    statements: &[Statement],
+    instruction: Instruction,
+    sheet: &mut Sheet,
+) {
     let alloc = sheet.alloc();
     let instructions = [
         Instruction::Enter(9),
-        Instruction::Run(number),
+        instruction,
         Instruction::Follow,
         Instruction::Leave,
     ];

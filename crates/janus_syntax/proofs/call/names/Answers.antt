@@ -1,6 +1,7 @@
 use Rattle.std.proofs.Common.{◌≡◌, [], ◌∷◌, string_bytes, sym, subst}
 use Rattle.janus_syntax.specs.Tree.{name_view}
-use Rattle.janus_syntax.specs.Tokens.{Name, views}
+use Rattle.janus_syntax.specs.Tokens.{Name}
+use Rattle.janus_syntax.specs.TextTokens.{views}
 use Rattle.janus_syntax.specs.Statements.{IsNameOrOther}
 use Rattle.janus_syntax.proofs.SoFar.{AreNamed}
 use Rattle.janus_syntax.proofs.Calls.{view_push, no_name, first_name, named_goes_on, named_ends}

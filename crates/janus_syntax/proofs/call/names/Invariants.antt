@@ -1,6 +1,6 @@
 use Rattle.std.proofs.Common.{length}
 use Rattle.janus_syntax.specs.Tree.{names_view}
-use Rattle.janus_syntax.specs.Tokens.{views}
+use Rattle.janus_syntax.specs.TextTokens.{views}
 use Rattle.janus_syntax.proofs.SoFar.{AreNamed}
 use Rattle.janus_syntax.proofs.call.names.Given as goal
 

@@ -1,6 +1,6 @@
 use Rattle.std.proofs.lemmas.Result.{err_from_is_err_and}
 use Rattle.janus_syntax.specs.Tree.{name_view}
-use Rattle.janus_syntax.specs.Tokens.{views}
+use Rattle.janus_syntax.specs.TextTokens.{views}
 use Rattle.janus_syntax.proofs.Steps.{passes_on}
 use Rattle.janus_syntax.proofs.Declared.{plain_is, array_is, array_stops_number, array_stops_close}
 use Rattle.janus_syntax.proofs.cell.bound.Goals as goal

@@ -1,5 +1,5 @@
 use Rattle.janus_syntax.specs.Tree.{cell_view}
-use Rattle.janus_syntax.specs.Tokens.{views}
+use Rattle.janus_syntax.specs.TextTokens.{views}
 use Rattle.janus_syntax.specs.Forms.{A_cell}
 use Rattle.janus_syntax.proofs.Theorems.{refusal, only_answer}
 use Rattle.janus_syntax.proofs.cell.cell.Goals as goal

@@ -1,13 +1,13 @@
 use Rattle.std.proofs.Common.{subst}
 use Rattle.std.proofs.lemmas.Result.{err_from_is_err_and}
-use Rattle.janus_syntax.specs.Tokens.{views}
+use Rattle.janus_syntax.specs.TextTokens.{views}
 use Rattle.janus_syntax.specs.Statements.{IsDeclarationOrOther}
 use Rattle.janus_syntax.proofs.Steps.{passes_on}
 use Rattle.janus_syntax.proofs.Declared.{view_push, declared_begins, declared_goes_on, declared_fails, declared_ends}
 use Rattle.janus_syntax.proofs.cell.declarations.Goals as goal
 
 pub declarations-init : goal.declarations-init
-declarations-init c = rw c.new-declarations.ensures.items (declared_begins (views c.args.tokens.now))
+declarations-init c = rw (c.so_far-declarations.ensures.read, c.so_far-declarations.ensures.tokens, c.new.ensures.items) (declared_begins (views c.args.tokens.now))
 
 pub returns-in_err-next : goal.returns-in_err-next
 returns-in_err-next c =

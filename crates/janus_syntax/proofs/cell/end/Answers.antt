@@ -1,7 +1,7 @@
 use Rattle.std.proofs.Common.{ap, sym}
 use Rattle.std.proofs.lemmas.List.{length-map}
 use Rattle.janus_syntax.specs.declared.fault.What.TheVariants as what
-use Rattle.janus_syntax.specs.Tokens.{token_view}
+use Rattle.janus_syntax.specs.TextTokens.{token_view}
 use Rattle.janus_syntax.specs.Grammar.{Expected}
 use Rattle.janus_syntax.proofs.Declared.{no_more, some_more}
 use Rattle.janus_syntax.proofs.cell.end.Goals as goal

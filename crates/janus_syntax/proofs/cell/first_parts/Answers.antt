@@ -1,6 +1,6 @@
 use Rattle.std.proofs.Common.{ap, ◌∙◌}
 use Rattle.std.proofs.lemmas.Result.{err_from_is_err_and}
-use Rattle.janus_syntax.specs.Tokens.{views}
+use Rattle.janus_syntax.specs.TextTokens.{views}
 use Rattle.janus_syntax.specs.Tree.{cell_of, declarations_view, block_view, procedures_view}
 use Rattle.janus_syntax.specs.Table.{is_bare}
 use Rattle.janus_syntax.proofs.Steps.{passes_on}

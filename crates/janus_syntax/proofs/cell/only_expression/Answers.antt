@@ -1,5 +1,5 @@
 use Rattle.janus_syntax.specs.Tree.{exp_view}
-use Rattle.janus_syntax.specs.Tokens.{views}
+use Rattle.janus_syntax.specs.TextTokens.{views}
 use Rattle.janus_syntax.specs.Forms.{Whole}
 use Rattle.janus_syntax.proofs.Theorems.{refusal, only_answer}
 use Rattle.janus_syntax.proofs.cell.only_expression.Goals as goal

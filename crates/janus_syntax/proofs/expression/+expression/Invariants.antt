@@ -1,7 +1,7 @@
 -- An operand stands in front of the operators of its expression; each construct takes tokens.
 use Rattle.std.proofs.Common.{◌-◌, ◌+◌, ◌*◌, length}
 use Rattle.janus_syntax.specs.Tree.{exp_view}
-use Rattle.janus_syntax.specs.Tokens.{views}
+use Rattle.janus_syntax.specs.TextTokens.{views}
 use Rattle.janus_syntax.proofs.SoFar.{IsSoFar, IsChain}
 use Rattle.janus_syntax.proofs.expression.+expression.Given as goal
 

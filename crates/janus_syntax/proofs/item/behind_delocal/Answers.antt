@@ -1,6 +1,6 @@
 use Rattle.std.proofs.lemmas.Result.{err_from_is_err_and}
 use Rattle.janus_syntax.specs.Tree.{name_view}
-use Rattle.janus_syntax.specs.Tokens.{views}
+use Rattle.janus_syntax.specs.TextTokens.{views}
 use Rattle.janus_syntax.proofs.Steps.{passes_on}
 use Rattle.janus_syntax.proofs.Locals.{delocal_is, delocal_stops_keyword, delocal_stops_kind, delocal_stops_name, delocal_stops_equals}
 use Rattle.janus_syntax.proofs.item.behind_delocal.Goals as goal

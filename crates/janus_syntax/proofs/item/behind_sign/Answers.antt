@@ -1,6 +1,6 @@
 use Rattle.std.proofs.Common.{sym}
 use Rattle.std.proofs.lemmas.List.{length-map}
-use Rattle.janus_syntax.specs.Tokens.{views, token_view}
+use Rattle.janus_syntax.specs.TextTokens.{views, token_view}
 use Rattle.janus_syntax.proofs.Steps.{sign_goes, sign_fails}
 use Rattle.janus_syntax.proofs.item.behind_sign.Goals as goal
 

@@ -1,5 +1,5 @@
 use Rattle.std.proofs.lemmas.Result.{err_from_is_err_and}
-use Rattle.janus_syntax.specs.Tokens.{views}
+use Rattle.janus_syntax.specs.TextTokens.{views}
 use Rattle.janus_syntax.proofs.Steps.{passes_on}
 use Rattle.janus_syntax.proofs.Parentheses.{stack_is, stack_stops_open, stack_stops_name, stack_stops_close}
 use Rattle.janus_syntax.proofs.item.stack.Goals as goal

@@ -1,5 +1,5 @@
 use Rattle.std.proofs.lemmas.Result.{err_from_is_err_and}
-use Rattle.janus_syntax.specs.Tokens.{views}
+use Rattle.janus_syntax.specs.TextTokens.{views}
 use Rattle.janus_syntax.proofs.Steps.{passes_on}
 use Rattle.janus_syntax.proofs.Parentheses.{pair_is, pair_stops_open, pair_stops_variable, pair_stops_comma, pair_stops_stack, pair_stops_close}
 use Rattle.janus_syntax.proofs.item.variable_and_stack.Goals as goal

@@ -1,12 +1,17 @@
-use Rattle.std.proofs.Common.{arith, refl, ◌∙◌}
-use Rattle.janus_syntax.proofs.Scanning.{no_sign, first_is_longest, begins_with}
+use Rattle.std.proofs.Common.{sym, ◌∙◌}
+use Rattle.janus_syntax.proofs.Signs.{swap_seen, pair_is_longest, single_is_longest}
 use Rattle.janus_syntax.proofs.lexer.sign_at.Goals as goal
 
-pub returns-then-starts_with : goal.returns-then-starts_with
-returns-then-starts_with c = (
-  begins_with c.args.octets.now c.as_bytes.result.now _ c.starts_with.result (c.as_bytes.ensures.value ∙ c.text.ensures) c.starts_with.ensures.value c.if-starts_with.true,
-  first_is_longest c.args.octets.now c.loop-sign.sign-index c.loop-sign.sign-index _ refl c.loop-sign.invariant,
-)
+pub returns-in-Some : goal.returns-in-Some
+returns-in-Some c =
+    let a = c.octet_at-first.ensures in
+    let b = c.octet_at-second.ensures in
+    pair_is_longest c.args.octets.now c.in-Some.sign (swap_seen c.args.octets.now _ _ _ _ a b c.octet_at.ensures (sym c.is_swap.ensures ∙ c.if-is_swap.false))
+    (rw (sym a, sym b) c.in-Some.ensures.text)
 
-pub returns : goal.returns
-returns c = no_sign c.args.octets.now c.loop-sign.sign-index (omega arith) c.loop-sign.invariant
+pub returns-in-None : goal.returns-in-None
+returns-in-None c =
+    let a = c.octet_at-first.ensures in
+    let b = c.octet_at-second.ensures in
+    single_is_longest c.args.octets.now c.single_of.result (swap_seen c.args.octets.now _ _ _ _ a b c.octet_at.ensures (sym c.is_swap.ensures ∙ c.if-is_swap.false))
+    (rw (sym a, sym b) (sym c.pair_of.ensures.table ∙ c.in-None.is)) (rw (sym a) c.single_of.ensures.table) (rw (sym a) c.single_of.ensures.text)

@@ -1,5 +1,4 @@
 use Rattle.std.proofs.Common.{subst, ap, ◌∙◌, refl}
-use Rattle.janus_syntax.specs.Tokens.{Name}
 use Rattle.janus_syntax.specs.Lexical.{A_keyword, A_name, A_number, A_sign, decimal}
 use Rattle.janus_syntax.specs.Scan.{IsFrontText}
 use Rattle.janus_syntax.proofs.lexer.token_kind.Goals as goal
@@ -7,10 +6,10 @@ use Rattle.janus_syntax.proofs.lexer.token_kind.Goals as goal
 pub returns-in-Some : goal.returns-in-Some
 returns-in-Some c = (A_keyword c.in-Some.keyword, c.in-Some.ensures, refl)
 
-pub returns-in_ok-from_str-in-None : goal.returns-in_ok-from_str-in-None
-returns-in_ok-from_str-in-None c =
+pub returns-in-None : goal.returns-in-None
+returns-in-None c =
     let is = subst (λ f. IsFrontText f c.args.text.now) c.in-Letters.is c.requires in
-    (A_name c.args.text.now, (refl, is, c.in-None.ensures), ap (λ x. Name x c.args.span) c.in_ok-from_str-in-None.ensures.ok)
+    (A_name c.args.text.now, (refl, is, c.in-None.ensures), refl)
 
 pub returns-in-Some-number : goal.returns-in-Some-number
 returns-in-Some-number c =

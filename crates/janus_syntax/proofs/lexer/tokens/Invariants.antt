@@ -1,11 +1,8 @@
-use Rattle.std.proofs.Common.{length}
-use Rattle.janus_syntax.specs.Tokens.{views}
-use Rattle.janus_syntax.proofs.Lexing.{IsLexedTo}
+use Rattle.std.proofs.Common.{◌≡◌, ◌++◌, drop}
+use Rattle.janus_syntax.specs.Tokens as kept
+use Rattle.janus_syntax.specs.TextTokens.{views}
 use Rattle.janus_syntax.proofs.lexer.tokens.Given as goal
 
--- the tokens so far are those of the text before the rest
-abbrev pub invariant-loop-rest : goal.invariant-loop-rest
-invariant-loop-rest l = IsLexedTo l.fn.text (views l.tokens.items) l.rest l.start
-
-abbrev pub decreases-loop-rest : goal.decreases-loop-rest
-decreases-loop-rest l = length l.rest
+-- the tokens kept so far, and those that are left
+abbrev pub invariant-loop-token : goal.invariant-loop-token
+invariant-loop-token l = kept.views l.tokens.items ++ views (drop l.token-index l.token-items) ≡ views l.token-items

@@ -1,6 +1,6 @@
 use Rattle.std.proofs.Common.{length, ap, sym, subst, ◌∙◌}
 use Rattle.std.proofs.lemmas.List.{length-map}
-use Rattle.janus_syntax.specs.Tokens.{views, token_view}
+use Rattle.janus_syntax.specs.TextTokens.{views, token_view}
 use Rattle.janus_syntax.specs.Forms.{Whole}
 use Rattle.janus_syntax.specs.Grammar.{IsRefused}
 use Rattle.janus_syntax.specs.Reading.{FailsAs, Within}

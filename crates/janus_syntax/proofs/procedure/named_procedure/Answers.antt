@@ -2,7 +2,8 @@ use Rattle.std.proofs.Common.{◌≡◌, ◌∷◌, string_bytes, subst}
 use Rattle.std.proofs.lemmas.List.{length-map}
 use Rattle.std.proofs.lemmas.Result.{err_from_is_err_and}
 use Rattle.janus_syntax.specs.declared.fault.What.TheVariants as what
-use Rattle.janus_syntax.specs.Tokens.{Name, token_view, views}
+use Rattle.janus_syntax.specs.Tokens.{Name}
+use Rattle.janus_syntax.specs.TextTokens.{token_view, views}
 use Rattle.janus_syntax.specs.Forms.{A_procedure}
 use Rattle.janus_syntax.specs.Grammar.{Expected}
 use Rattle.janus_syntax.specs.Reading.{FailsPart}

@@ -1,5 +1,5 @@
 use Rattle.std.proofs.lemmas.Result.{err_from_is_err_and}
-use Rattle.janus_syntax.specs.Tokens.{views}
+use Rattle.janus_syntax.specs.TextTokens.{views}
 use Rattle.janus_syntax.proofs.Steps.{passes_on}
 use Rattle.janus_syntax.proofs.Parameters.{parameter_is, parameter_stops_name, parameter_stops_brackets, stack_is, stack_stops, other_begins}
 use Rattle.janus_syntax.proofs.procedure.parameter.Goals as goal

@@ -1,10 +1,10 @@
 use Rattle.std.proofs.Common.{subst}
 use Rattle.std.proofs.lemmas.List.{length-map}
 use Rattle.std.proofs.lemmas.Result.{err_from_is_err_and}
-use Rattle.janus_syntax.specs.Tokens.{views}
+use Rattle.janus_syntax.specs.TextTokens.{views}
 use Rattle.janus_syntax.proofs.Steps.{passes_on}
 use Rattle.janus_syntax.specs.declared.fault.What.TheVariants as what
-use Rattle.janus_syntax.specs.Tokens.{token_view}
+use Rattle.janus_syntax.specs.TextTokens.{token_view}
 use Rattle.janus_syntax.specs.Forms.{Parameters}
 use Rattle.janus_syntax.specs.Grammar.{Expected}
 use Rattle.janus_syntax.specs.Reading.{FailsPart}

@@ -1,6 +1,6 @@
 use Rattle.std.proofs.Common.{length}
 use Rattle.janus_syntax.specs.Tree.{parameters_view}
-use Rattle.janus_syntax.specs.Tokens.{views}
+use Rattle.janus_syntax.specs.TextTokens.{views}
 use Rattle.janus_syntax.proofs.SoFar.{AreParameters}
 use Rattle.janus_syntax.proofs.procedure.parameters.Given as goal
 

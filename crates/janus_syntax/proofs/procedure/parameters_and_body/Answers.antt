@@ -1,5 +1,5 @@
 use Rattle.std.proofs.lemmas.Result.{err_from_is_err_and}
-use Rattle.janus_syntax.specs.Tokens.{views}
+use Rattle.janus_syntax.specs.TextTokens.{views}
 use Rattle.janus_syntax.proofs.Steps.{passes_on}
 use Rattle.janus_syntax.proofs.Procedures.{name_is, name_stops_open, name_stops_parameters, name_stops_close, name_stops_body}
 use Rattle.janus_syntax.proofs.procedure.parameters_and_body.Goals as goal

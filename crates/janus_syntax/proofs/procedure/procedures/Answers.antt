@@ -1,12 +1,12 @@
 use Rattle.std.proofs.lemmas.Result.{err_from_is_err_and}
-use Rattle.janus_syntax.specs.Tokens.{views}
+use Rattle.janus_syntax.specs.TextTokens.{views}
 use Rattle.janus_syntax.proofs.Steps.{passes_on}
 use Rattle.janus_syntax.specs.Tree.{cell_view}
 use Rattle.janus_syntax.proofs.Procedures.{procedures_begin, procedures_go_on, procedures_fail, procedures_end}
 use Rattle.janus_syntax.proofs.procedure.procedures.Goals as goal
 
 pub procedures-init : goal.procedures-init
-procedures-init c = procedures_begin c.args.main (cell_view c.args.cell) (views c.args.tokens.now)
+procedures-init c = rw (c.so_far-whole.ensures.read, c.so_far-whole.ensures.tokens) (procedures_begin c.args.main (cell_view c.args.cell) (views c.args.tokens.now))
 
 pub returns-in_err-next : goal.returns-in_err-next
 returns-in_err-next c =

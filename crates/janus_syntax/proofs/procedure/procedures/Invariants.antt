@@ -1,6 +1,6 @@
 use Rattle.std.proofs.Common.{length}
 use Rattle.janus_syntax.specs.Tree.{cell_view}
-use Rattle.janus_syntax.specs.Tokens.{views}
+use Rattle.janus_syntax.specs.TextTokens.{views}
 use Rattle.janus_syntax.proofs.SoFar.{AreProcedures}
 use Rattle.janus_syntax.proofs.procedure.procedures.Given as goal
 

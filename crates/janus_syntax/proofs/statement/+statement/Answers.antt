@@ -1,9 +1,9 @@
 use Rattle.std.proofs.Common.{arith, sym, subst}
 use Rattle.std.proofs.lemmas.List.{length-map}
 use Rattle.std.proofs.lemmas.Result.{err_from_is_err_and}
-use Rattle.janus_syntax.specs.declared.token.TokenKind.TheVariants as kinds
+use Rattle.janus_syntax.specs.declared.text_token.TextKind.TheVariants as kinds
 use Rattle.janus_syntax.specs.Tree.{named, stm_view, block_view}
-use Rattle.janus_syntax.specs.Tokens.{views, token_view}
+use Rattle.janus_syntax.specs.TextTokens.{views, token_view}
 use Rattle.janus_syntax.specs.declared.fault.What.TheVariants as what
 use Rattle.janus_syntax.specs.Forms.{Local}
 use Rattle.janus_syntax.specs.Grammar.{Expected}
@@ -125,12 +125,12 @@ statement-returns-in_err-stm-in-Name t c =
     let p = err_from_is_err_and c.from_residual-in_err-stm-in-Name.result c.from_residual-in_err-stm-in-Name.ensures.1 in
     let e = first_token c.args.tokens.now c.in-Some.rest.now c.in-Some.first.now (kinds.Name c.in-Name.text) c.in-Some.ensures.cases c.in-Name.is in
     rw (p.1, p.2) (passes_on _ _ c.in_err-stm-in-Name.field-0.0 c.in_err-stm-in-Name.ensures
-    (λ out f. subst (λ ts. FailsStm c.args.depth ts out) (sym e) (name_stops _ c.in-Some.first.now.span c.args.depth (views c.in-Some.rest.now) out c.requires (subst (λ y. FailsBehindTarget c.args.depth (named y c.in-Some.first.now.span) (views c.in-Some.rest.now) out) c.in_ok-clone-in-Name.ensures.cases f))))
+    (λ out f. subst (λ ts. FailsStm c.args.depth ts out) (sym e) (name_stops _ c.in-Some.first.now.span c.args.depth (views c.in-Some.rest.now) out c.requires (subst (λ y. FailsBehindTarget c.args.depth (named y c.in-Some.first.now.span) (views c.in-Some.rest.now) out) c.in_ok-from_str-in-Name.ensures.ok f))))
 
 pub statement-returns-in_ok-stm-in-Name : goal.statement-returns-in_ok-stm-in-Name
 statement-returns-in_ok-stm-in-Name t c =
     let e = first_token c.args.tokens.now c.in-Some.rest.now c.in-Some.first.now (kinds.Name c.in-Name.text) c.in-Some.ensures.cases c.in-Name.is in
-    rw e (name_begins _ _ c.requires (subst (λ y. IsBehindTarget c.args.depth (named y c.in-Some.first.now.span) (stm_view c.in_ok-stm-in-Name.stm) (views c.in-Some.rest.now) (views c.in_ok-stm-in-Name.rest.now)) c.in_ok-clone-in-Name.ensures.cases c.in_ok-stm-in-Name.ensures))
+    rw e (name_begins _ _ c.requires (subst (λ y. IsBehindTarget c.args.depth (named y c.in-Some.first.now.span) (stm_view c.in_ok-stm-in-Name.stm) (views c.in-Some.rest.now) (views c.in_ok-stm-in-Name.rest.now)) c.in_ok-from_str-in-Name.ensures.ok c.in_ok-stm-in-Name.ensures))
 
 pub statement-returns-in_err-stm-in-Keyword : goal.statement-returns-in_err-stm-in-Keyword
 statement-returns-in_err-stm-in-Keyword t c =
@@ -149,7 +149,7 @@ statement-returns-else-opens_construct t c =
     rw e (c.plain_statement.ensures c.args.depth c.in-Some.first.now.span c.requires)
 
 pub statements_behind-statements-init : goal.statements_behind-statements-init
-statements_behind-statements-init t c = so_far_begins c.args.depth (block_view c.args.before.items) (views c.args.tokens.now)
+statements_behind-statements-init t c = rw (c.so_far-statements.ensures.read, c.so_far-statements.ensures.tokens) (so_far_begins c.args.depth (block_view c.args.before.items) (views c.args.tokens.now))
 
 pub statements_behind-returns-in_err-next : goal.statements_behind-returns-in_err-next
 statements_behind-returns-in_err-next t c =

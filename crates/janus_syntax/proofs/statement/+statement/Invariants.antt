@@ -1,7 +1,7 @@
 -- Each construct takes a token.
 use Rattle.std.proofs.Common.{◌+◌, ◌*◌, length}
 use Rattle.janus_syntax.specs.Tree.{block_view}
-use Rattle.janus_syntax.specs.Tokens.{views}
+use Rattle.janus_syntax.specs.TextTokens.{views}
 use Rattle.janus_syntax.proofs.SoFar.{AreSoFar}
 use Rattle.janus_syntax.proofs.statement.+statement.Given as goal
 

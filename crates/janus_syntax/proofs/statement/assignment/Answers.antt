@@ -1,7 +1,7 @@
 use Rattle.std.proofs.Common.{arith}
 use Rattle.std.proofs.lemmas.Result.{err_from_is_err_and}
 use Rattle.janus_syntax.specs.Tree.{name_view}
-use Rattle.janus_syntax.specs.Tokens.{views}
+use Rattle.janus_syntax.specs.TextTokens.{views}
 use Rattle.janus_syntax.proofs.Steps.{passes_on}
 use Rattle.janus_syntax.proofs.Assignments.{assign_is, assign_stops_update, assign_stops_right, element_is, element_stops_index, element_stops_close, element_stops_update, element_stops_right}
 use Rattle.janus_syntax.proofs.statement.assignment.Goals as goal

@@ -1,5 +1,5 @@
 use Rattle.std.proofs.lemmas.Result.{err_from_is_err_and}
-use Rattle.janus_syntax.specs.Tokens.{views}
+use Rattle.janus_syntax.specs.TextTokens.{views}
 use Rattle.janus_syntax.proofs.Steps.{passes_on}
 use Rattle.janus_syntax.proofs.Locals.{int_stops_name, int_stops_equals, int_stops_first}
 use Rattle.janus_syntax.proofs.statement.head_of_int.Goals as goal

@@ -1,5 +1,5 @@
 use Rattle.std.proofs.lemmas.Result.{err_from_is_err_and}
-use Rattle.janus_syntax.specs.Tokens.{views}
+use Rattle.janus_syntax.specs.TextTokens.{views}
 use Rattle.janus_syntax.proofs.Steps.{passes_on}
 use Rattle.janus_syntax.proofs.Locals.{stack_stops_name, stack_stops_equals, stack_stops_nil}
 use Rattle.janus_syntax.proofs.statement.head_of_stack.Goals as goal

@@ -1,4 +1,4 @@
-use Rattle.janus_syntax.specs.Tokens.{views}
+use Rattle.janus_syntax.specs.TextTokens.{views}
 use Rattle.janus_syntax.proofs.Assignments.{skip_is, push_is, pop_is}
 use Rattle.janus_syntax.proofs.Calls.{call_begins, uncall_begins}
 use Rattle.janus_syntax.proofs.statement.plain_statement.Goals as goal

@@ -1,6 +1,6 @@
 use Rattle.std.proofs.Common.{ap}
 use Rattle.janus_syntax.specs.Tree.{block_view}
-use Rattle.janus_syntax.specs.Tokens.{views}
+use Rattle.janus_syntax.specs.TextTokens.{views}
 use Rattle.janus_syntax.proofs.Blocks.{statements_result}
 use Rattle.janus_syntax.proofs.statement.statements.Goals as goal
 

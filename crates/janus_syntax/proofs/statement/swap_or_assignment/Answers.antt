@@ -1,6 +1,6 @@
 use Rattle.std.proofs.lemmas.Result.{err_from_is_err_and}
 use Rattle.janus_syntax.specs.Tree.{name_view, stm_view}
-use Rattle.janus_syntax.specs.Tokens.{views}
+use Rattle.janus_syntax.specs.TextTokens.{views}
 use Rattle.janus_syntax.proofs.Steps.{passes_on}
 use Rattle.janus_syntax.proofs.Assignments.{assignment_result, swap_is, swap_stops}
 use Rattle.janus_syntax.proofs.statement.swap_or_assignment.Goals as goal
