@@ -22,3 +22,4 @@ pub mod Laid
 pub mod Leaping
 pub mod Paths
 pub mod Over
+pub mod Walking

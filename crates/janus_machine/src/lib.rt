@@ -11,7 +11,7 @@
 //! - `scopes`, `laid_rows`: the names in sight in the first scopes of a row, and what is laid of rows over them to run whole statements.
 //! - `book`: the code of a cell or of a body, both ways, and what is laid of its rows.
 //! - `linked_procedure`, `procedures`: a procedure as it runs, and all bodies with those that are in effect.
-//! - `cursor`, `running`: a place in code with the open calls and the count of steps, and the book in whose row it stands.
+//! - `cursor`, `running`, `row`: a place in code with the open calls and the count of steps, and the book in whose row it stands.
 //! - `fault`: why a step is not taken.
 //! - `statement`, `local`, `act`: what a statement, a local and an instruction do to the store.
 //! - `call`: the first and the last step of a call.
@@ -40,6 +40,7 @@ mod linked_procedure;
 mod local;
 mod machine;
 mod procedures;
+mod row;
 mod running;
 mod scopes;
 mod statement;

@@ -142,7 +142,7 @@ get_new : {A : Type 0} (xs : List A) (y a : A) → slice_get (xs ++ y ∷ []) (l
 get_new [] y a h = cc
 get_new (x ∷ xs) y a h = get_new xs y a h
 
-contents_more : (tree larger : HistoryTree) (node : Node EndedCell) → larger.cells.nodes ≡ tree.cells.nodes ++ node ∷ [] → contents_of larger.cells ≡ contents_of tree.cells ++ node.content ∷ []
+pub contents_more : (tree larger : HistoryTree) (node : Node EndedCell) → larger.cells.nodes ≡ tree.cells.nodes ++ node ∷ [] → contents_of larger.cells ≡ contents_of tree.cells ++ node.content ∷ []
 contents_more tree larger node e =
     let content = λ (node : Node EndedCell). node.content in
     ap (λ (nodes : List (Node EndedCell)). map content nodes) e ∙ map-append content tree.cells.nodes (node ∷ [])

@@ -1,9 +1,10 @@
 -- What the answers on slices and begins share: how runner, tree and open job go on together.
 use Rattle.std.specs.Result.{is_err, IsOk, OnOk, OnErr}
-use Rattle.std.specs.Prelude.{slice_get}
+use Rattle.std.specs.Prelude.{slice_get, sum_by}
 use Rattle.std.proofs.Common.{inl, inr, ◌≤◌, Some, Result, Ok, Err, true, false, ◌≡◌, ℕ, ◌+◌, ◌-◌, ◌<◌, Bool, List, [], ◌∷◌, ◌++◌, length, set, get_or, take, zero, suc, refl, sym, ap, ◌∙◌, subst, arith}
 use Rattle.std.proofs.lemmas.Bool.{cases_lt}
-use Rattle.std.proofs.lemmas.List.{get_or_at, length-map}
+use Rattle.std.proofs.lemmas.List.{get_or_at, length-map, length-take-le}
+use Rattle.std.proofs.lemmas.List.Sums.{sum_by_push}
 use Rattle.std.proofs.lemmas.Option.{slice_get_within}
 use Rattle.cell_tree.specs.declared.node.Node.{Node}
 use Rattle.janus_meaning.specs.World.{World, empty_world, entered, Cell as ACell}
@@ -26,10 +27,11 @@ use Rattle.janus_store.specs.StoreState.{StoreState, IsWhole, shown_store}
 use Rattle.janus_machine.specs.Bodies.{AreBelow, AreDefined, Define}
 use Rattle.janus_machine.specs.Procedures.{kept_in}
 use Rattle.janus_machine.proofs.BodiesInEffect.{forgotten_still_defined}
+use Rattle.janus_machine.specs.declared.linked_procedure.LinkedProcedure.{LinkedProcedure}
 use Rattle.janus_machine.specs.declared.procedures.Procedures.{Procedures}
-use Rattle.kernel_runner.specs.Program.{cell_of_program, IsReady, with_bodies}
+use Rattle.kernel_runner.specs.Program.{cell_of_program, procedures_of, IsReady, with_bodies}
 use Rattle.kernel_runner.specs.Runner.{ShownWorld, over, world_of, Becomes, Shows, Place, entry, inverse_entry, world_inside, Stands, Is, Between, IsInside, CanEnter, CanReturn, CanLeave}
-use Rattle.kernel_history.specs.Bodies.{IsCellAt, IsBefore, IsBehindNodes, NodesAreReady, AreInOrder, bodies_at, bodies_in, IsProgramOf}
+use Rattle.kernel_history.specs.Bodies.{IsCellAt, IsBefore, IsBehindNodes, NodesAreReady, AreInOrder, bodies_at, bodies_in, IsProgramOf, bodies_of_nodes, KeepsNoOther, KeepsNoOtherFor}
 use Rattle.kernel_history.specs.Standing.{is_back, shown_here, place_in, StandsIn, StandsAt}
 use Rattle.kernel_history.specs.Kept.{Kept, IsKept, HasRoom, HasPath, HasPathFor}
 use Rattle.kernel_runner.specs.declared.runner.Runner.{Runner}
@@ -49,7 +51,7 @@ use Rattle.kernel_runner.proofs.Growing.{ready_grows, defined_grow}
 use Rattle.kernel_runner.proofs.Borders.{all_shown}
 use Rattle.kernel_runner.proofs.Running.{stands_part}
 use Rattle.kernel_history.proofs.BodiesAt.{bodies_same, bodies_of_cell, bodies_new, bodies_below, cell_behind, ready_same, ready_less, ready_more}
-use Rattle.kernel_history.proofs.Nodes.{count_of_nodes, cell_there, same_program, cell_kept, cell_added}
+use Rattle.kernel_history.proofs.Nodes.{count_of_nodes, cell_there, same_program, contents_more, cell_kept, cell_added}
 use Rattle.kernel_history.proofs.Indexed.{kept_in_time}
 use Rattle.kernel_machine.proofs.Trees.{worlds-more, legal_up, legal_down, legal_grown, undone_world, redone_world, run_here, parent_sound, IsNext, formed_below, next_below, up_possible, down_possible, way_up, way_down, new_legal, new_worlds}
 
@@ -70,6 +72,14 @@ pub nodes_ready : {L : Type 0} (tree : HistoryTree) (runner at : Runner L) → G
 nodes_ready tree runner at more same h = λ n cell is.
     ready_same at.store.names runner.procedures at.procedures cell.program same (ready_grows runner.store.names at.store.names more runner.procedures cell.program (h n cell is))
 
+-- as many stay kept
+pub no_other_same : (tree : HistoryTree) (old new : Procedures) → kept_in new ≡ kept_in old → KeepsNoOther tree old → KeepsNoOther tree new
+no_other_same tree old new same h = ap (λ (bs : List LinkedProcedure). length bs) same ∙ h
+
+work_no_other : (tree : HistoryTree) (work : Work) (old new : Procedures) → kept_in new ≡ kept_in old → KeepsNoOtherFor tree work old → KeepsNoOtherFor tree work new
+work_no_other tree (RunCell program) old new same h = (h.0, ap (λ (bs : List LinkedProcedure). length bs) same ∙ h.1)
+work_no_other tree (Move travel) old new same h = no_other_same tree old new same h
+
 pub kept_inside : {L : Type 0} (tree : HistoryTree) (work : Work) (count c : ℕ) (heading to : Heading) (runner at : Runner L) → Kept tree runner (Inside (record { work = work; count = count; heading = heading })) → GoOn runner.store.names at.store.names →
     kept_in at.procedures ≡ kept_in runner.procedures → StandsIn tree work c (is_back to) at → Kept tree at (Inside (record { work = work; count = c; heading = to }))
 kept_inside tree work count c heading to runner at k more same p = record {
@@ -82,10 +92,11 @@ kept_inside tree work count c heading to runner at k more same p = record {
   ready = nodes_ready tree runner at more same k.ready;
   order = k.order;
   behind = k.behind;
+  no_other = work_no_other tree work runner.procedures at.procedures same k.no_other;
 }
 
-pub kept_idle : {L : Type 0} (tree : HistoryTree) (job : Open) (runner at : Runner L) → Kept tree runner job → NodesAreReady tree at → IsWhole at.store → Shows at (shown_here tree) → Kept tree at Idle
-kept_idle tree job runner at k ready whole shows = record {
+pub kept_idle : {L : Type 0} (tree : HistoryTree) (job : Open) (runner at : Runner L) → Kept tree runner job → NodesAreReady tree at → KeepsNoOther tree at.procedures → IsWhole at.store → Shows at (shown_here tree) → Kept tree at Idle
+kept_idle tree job runner at k ready no_other whole shows = record {
   legal = k.legal;
   possible = tt;
   counted = tt;
@@ -95,6 +106,7 @@ kept_idle tree job runner at k ready whole shows = record {
   ready = ready;
   order = k.order;
   behind = tt;
+  no_other = no_other;
 }
 
 -- the same store shows the same world
@@ -106,9 +118,9 @@ shows_still runner at shown whole h same shows = record {
 }
 
 -- no cell could be entered
-pub kept_refused : {L : Type 0} (tree : HistoryTree) (job : Open) (runner at : Runner L) → Kept tree runner job → IsWhole runner.store → Shows runner (shown_here tree) → Becomes runner.store at.store runner.store.sight → at.procedures ≡ runner.procedures → Kept tree at Idle
-kept_refused tree job runner at k whole shows h same =
-    kept_idle tree job runner at k (nodes_ready tree runner at h.names (ap kept_in same) k.ready) h.whole (shows_still runner at (shown_here tree) whole h same shows)
+pub kept_refused : {L : Type 0} (tree : HistoryTree) (job : Open) (runner at : Runner L) → Kept tree runner job → KeepsNoOther tree runner.procedures → IsWhole runner.store → Shows runner (shown_here tree) → Becomes runner.store at.store runner.store.sight → at.procedures ≡ runner.procedures → Kept tree at Idle
+kept_refused tree job runner at k no_other whole shows h same =
+    kept_idle tree job runner at k (nodes_ready tree runner at h.names (ap kept_in same) k.ready) (no_other_same tree runner.procedures at.procedures (ap kept_in same) no_other) h.whole (shows_still runner at (shown_here tree) whole h same shows)
 
 -- ---- what is kept of the nodes alone
 
@@ -117,6 +129,9 @@ placed_nodes tree other runner e h = subst (λ (nodes : List (Node EndedCell)). 
 
 pub ordered_nodes : (tree other : HistoryTree) → other.cells.nodes ≡ tree.cells.nodes → AreInOrder tree → AreInOrder other
 ordered_nodes tree other e h = subst (λ (nodes : List (Node EndedCell)). AreInOrder (record other { cells = record other.cells { nodes = nodes } })) (sym e) h
+
+pub no_other_nodes : (tree other : HistoryTree) (t : Procedures) → other.cells.nodes ≡ tree.cells.nodes → KeepsNoOther tree t → KeepsNoOther other t
+no_other_nodes tree other t e h = subst (λ (nodes : List (Node EndedCell)). KeepsNoOther (record other { cells = record other.cells { nodes = nodes } }) t) (sym e) h
 
 no_cell : (tree : HistoryTree) (n : ℕ) (cell : EndedCell) → past_of tree ≡ new_state.past → IsCellAt tree n cell → ⊥
 no_cell tree n cell e at =
@@ -154,6 +169,12 @@ ordered_grown tree larger node nodes order behind = λ m n c d l at other.
       | inr low ↦ order m n c d l (cell_kept tree larger node m c nodes at (omega arith)) (cell_kept tree larger node n d nodes other low)
     ]
 
+-- the bodies of the new node are one program's more
+bodies_grown : (tree larger : HistoryTree) (node : Node EndedCell) → larger.cells.nodes ≡ tree.cells.nodes ++ node ∷ [] → bodies_of_nodes larger ≡ bodies_of_nodes tree + length (procedures_of node.content.program)
+bodies_grown tree larger node nodes =
+    let count = λ (cell : EndedCell). length (procedures_of cell.program) in
+    ap (λ (cells : List EndedCell). sum_by count cells) (contents_more tree larger node nodes) ∙ sum_by_push count (contents_of tree.cells) node.content
+
 -- ---- a new node
 
 pub state_grown : (tree larger : HistoryTree) (program : ACell) (n : ℕ) (w : World) →
@@ -172,9 +193,9 @@ pub kept_grown : {L : Type 0} (tree larger : HistoryTree) (program : ACell) (n :
     larger.cells.favourites ≡ set tree.cells.favourites tree.position (length (nodes_of tree)) ++ 0 ∷ [] →
     larger.position ≡ length (nodes_of tree) →
     IsLegal (past_of tree) → IsFormed program (here (past_of tree)) →
-    CodeExec (Forward program) (here (past_of tree)) n v → Shows runner (over (bodies_at larger larger.position) v) → IsWhole runner.store → NodesAreReady larger runner → AreInOrder larger →
+    CodeExec (Forward program) (here (past_of tree)) n v → Shows runner (over (bodies_at larger larger.position) v) → IsWhole runner.store → NodesAreReady larger runner → AreInOrder larger → KeepsNoOther larger runner.procedures →
     Kept larger runner Idle
-kept_grown tree larger program n runner v nodes favourites position legal formed ran shows whole ready order =
+kept_grown tree larger program n runner v nodes favourites position legal formed ran shows whole ready order no_other =
     let e = state_grown tree larger program n v nodes favourites position ran in
     let last : get_or (worlds_from [] (nodes_of tree) ++ v ∷ []) (length (nodes_of tree)) empty_world ≡ v =
     get_or_at (worlds_from [] (nodes_of tree)) v [] empty_world (length (nodes_of tree)) legal.worlds in
@@ -188,6 +209,7 @@ kept_grown tree larger program n runner v nodes favourites position legal formed
       ready = ready;
       order = order;
       behind = tt;
+      no_other = no_other;
     }
 
 -- ---- a cell of a travel
@@ -206,11 +228,11 @@ border_job (Inside x) travel e = cc
 
 pub kept_arrived : {L : Type 0} (left : ℕ) (moved-to : HistoryTree) (travel : Travel) (told : Sliced) (job : Open) (runner : Runner L) → left ≡ cells travel →
     IsLegal (past_of moved-to) → Shows runner (shown_here moved-to) → IsWhole runner.store → CanGo travel.aim (nodes_of moved-to) moved-to.cells.favourites moved-to.position travel.up travel.down → IsCounted travel →
-    HasPath travel.aim moved-to travel.down → NodesAreReady moved-to runner → AreInOrder moved-to → Arrives left (past_of moved-to) travel told (state_of moved-to job) → Kept moved-to runner job
-kept_arrived zero tree travel told job runner size legal shown whole can small path ready order a =
+    HasPath travel.aim moved-to travel.down → NodesAreReady moved-to runner → AreInOrder moved-to → KeepsNoOther moved-to runner.procedures → Arrives left (past_of moved-to) travel told (state_of moved-to job) → Kept moved-to runner job
+kept_arrived zero tree travel told job runner size legal shown whole can small path ready order no_other a =
     let e : job ≡ Idle = idle_job job (ap (λ (s : State). s.job) a.1) in
-    rw e (record { legal = legal; possible = tt; counted = tt; stands = (shown, whole); room = tt; path = tt; ready = ready; order = order; behind = tt })
-kept_arrived (suc left) tree travel told job runner size legal shown whole can small path ready order a =
+    rw e (record { legal = legal; possible = tt; counted = tt; stands = (shown, whole); room = tt; path = tt; ready = ready; order = order; behind = tt; no_other = no_other })
+kept_arrived (suc left) tree travel told job runner size legal shown whole can small path ready order no_other a =
     let at = border_job job _ (ap (λ (s : State). s.job) a.1) in
     let possible : IsPossible (nodes_of tree) tree.cells.favourites tree.position travel = record { some = omega arith; way_there = can } in
     rw at.1 (record {
@@ -223,6 +245,7 @@ kept_arrived (suc left) tree travel told job runner size legal shown whole can s
       ready = ready;
       order = order;
       behind = tt;
+      no_other = no_other;
     })
 
 -- a path is kept for a way that is one node shorter
@@ -237,10 +260,10 @@ path_of Redo tree other down e f h = tt
 path_of (Goto n) tree other down e f h = rw (e, f) h
 
 pub kept_up : {L : Type 0} (tree : HistoryTree) (p : ℕ) (travel : Travel) (runner : Runner L) (told : Sliced) (job : Open) → next_way travel ≡ Up → IsLegal (past_of tree) →
-    IsPossible (nodes_of tree) tree.cells.favourites tree.position travel → IsCounted travel → HasPath travel.aim tree travel.down → NodesAreReady tree runner → AreInOrder tree → IsWhole runner.store →
+    IsPossible (nodes_of tree) tree.cells.favourites tree.position travel → IsCounted travel → HasPath travel.aim tree travel.down → NodesAreReady tree runner → AreInOrder tree → KeepsNoOther tree runner.procedures → IsWhole runner.store →
     p ≡ (node_at (past_of tree) tree.position).parent → Shows runner (over (bodies_at tree (node_at (past_of tree) tree.position).parent) (world_at (past_of tree) (node_at (past_of tree) tree.position).parent)) →
     Arrives (cells (stepped travel)) (past_of (record tree { position = p })) (stepped travel) told (state_of (record tree { position = p }) job) → Kept (record tree { position = p }) runner job
-kept_up tree p travel runner told job way legal possible small path ready order whole to shows a =
+kept_up tree p travel runner told job way legal possible small path ready order no_other whole to shows a =
     let can = up_possible (past_of tree) travel way possible in
     let some = possible.some in
     let first = small.0 in
@@ -252,15 +275,15 @@ kept_up tree p travel runner told job way legal possible small path ready order 
     (subst (λ (stack : List ℕ). Shows runner (over stack (world_at (past_of tree) p))) (sym (bodies_same tree above p refl))
     (subst (λ (m : ℕ). Shows runner (over (bodies_at tree m) (world_at (past_of tree) m))) (sym to) shows))
     whole (rw to can.1) (omega arith, small.1)
-    (path_of travel.aim tree above travel.down refl refl path) (placed_nodes tree above runner refl ready) (ordered_nodes tree above refl order)
+    (path_of travel.aim tree above travel.down refl refl path) (placed_nodes tree above runner refl ready) (ordered_nodes tree above refl order) (no_other_nodes tree above runner.procedures refl no_other)
     (subst (λ (t : Travel). Arrives (cells t) (past_of above) t told (state_of above job)) e a)
 
 pub kept_down : {L : Type 0} (tree moved-to : HistoryTree) (c : ℕ) (travel : Travel) (runner : Runner L) (told : Sliced) (job : Open) → next_way travel ≡ Down → IsLegal (past_of tree) →
-    IsPossible (nodes_of tree) tree.cells.favourites tree.position travel → IsCounted travel → HasPath travel.aim tree travel.down → NodesAreReady tree runner → AreInOrder tree → IsWhole runner.store →
+    IsPossible (nodes_of tree) tree.cells.favourites tree.position travel → IsCounted travel → HasPath travel.aim tree travel.down → NodesAreReady tree runner → AreInOrder tree → KeepsNoOther tree runner.procedures → IsWhole runner.store →
     c ≡ below (past_of tree) travel → moved-to.cells.nodes ≡ tree.cells.nodes → moved-to.cells.favourites ≡ set tree.cells.favourites tree.position c → moved-to.position ≡ c → moved-to.cells.way ≡ tree.cells.way →
     Shows runner (over (bodies_at tree (below (past_of tree) travel)) (world_at (past_of tree) (below (past_of tree) travel))) →
     Arrives (cells (stepped travel)) (past_of moved-to) (stepped travel) told (state_of moved-to job) → Kept moved-to runner job
-kept_down tree moved-to c travel runner told job way legal possible small path ready order whole to nodes favourites position kept-path shows a =
+kept_down tree moved-to c travel runner told job way legal possible small path ready order no_other whole to nodes favourites position kept-path shows a =
     let next = next_below (past_of tree) travel legal way possible in
     let can = down_possible (past_of tree) travel legal way possible in
     let some = possible.some in
@@ -277,7 +300,7 @@ kept_down tree moved-to c travel runner told job way legal possible small path r
     (subst (λ (s : Past). Shows runner (over (bodies_at moved-to moved-to.position) (here s))) (sym past) (subst (λ (l : List ℕ). Shows runner (over l (world_at (past_of tree) (below (past_of tree) travel)))) (sym stack) shows)) whole
     (subst (λ (s : Past). CanGo travel.aim s.nodes s.favourites s.position travel.up (travel.down - 1)) (sym past)
     (subst (λ (u : ℕ). CanGo travel.aim (nodes_of tree) (set tree.cells.favourites tree.position (below (past_of tree) travel)) (below (past_of tree) travel) u (travel.down - 1)) (sym none) can))
-    (small.0, omega arith) kept (placed_nodes tree moved-to runner nodes ready) (ordered_nodes tree moved-to nodes order)
+    (small.0, omega arith) kept (placed_nodes tree moved-to runner nodes ready) (ordered_nodes tree moved-to nodes order) (no_other_nodes tree moved-to runner.procedures nodes no_other)
     (subst (λ (t : Travel). Arrives (cells t) (past_of moved-to) t told (state_of moved-to job)) e a)
 
 -- the world at the end of an undone cell, and of a redone one
@@ -314,6 +337,13 @@ module _ {L : Type 0} (tree larger : HistoryTree) (program : Program) (n : ℕ) 
   pub ordered_more : AreInOrder larger
   ordered_more = ordered_grown tree larger (record { parent = tree.position; content = record { program = program; steps = n } }) nodes k.order k.behind
 
+  pub no_other_more : KeepsNoOther larger runner.procedures
+  no_other_more =
+      let first = k.no_other.0 in
+      let kept = k.no_other.1 in
+      let more = bodies_grown tree larger (record { parent = tree.position; content = record { program = program; steps = n } }) nodes in
+      omega (arith, first, kept, more)
+
   -- its own bodies are defined over those of the position
   pub shown_more : larger.position ≡ length (nodes_of tree) → Shows runner (over (bodies_at larger larger.position) (world_of (start_of (Forward (cell_of_program program)) (here (past_of tree))).procedures runner))
   shown_more position =
@@ -341,6 +371,7 @@ kept_entered tree runner at travel k more same stands =
       ready = nodes_ready tree runner at more same k.ready;
       order = k.order;
       behind = tt;
+      no_other = no_other_same tree runner.procedures at.procedures same k.no_other;
     })
     (exec_some (code_of (past_of tree) (state.Move travel)) (here (past_of tree)))
 
@@ -351,9 +382,9 @@ idle_in_time tree runner k = kept_in_time tree runner Idle k tt
 behind_nodes : (tree other : HistoryTree) (program : Program) → other.cells.nodes ≡ tree.cells.nodes → IsBehindNodes tree (RunCell program) → IsBehindNodes other (RunCell program)
 behind_nodes tree other program e h = subst (λ (nodes : List (Node EndedCell)). IsBehindNodes (record other { cells = record other.cells { nodes = nodes } }) (RunCell program)) (sym e) h
 
-pub kept_begun : {L : Type 0} (tree made : HistoryTree) (runner at : Runner L) (program : Program) → Kept tree runner Idle → NodesAreReady tree at → IsBehindNodes tree (RunCell program) → past_of made ≡ past_of tree → made.cells.nodes ≡ tree.cells.nodes → made.position ≡ tree.position → HasRoom made → IsFormed (cell_of_program program) (here (past_of tree)) →
+pub kept_begun : {L : Type 0} (tree made : HistoryTree) (runner at : Runner L) (program : Program) → Kept tree runner Idle → NodesAreReady tree at → IsBehindNodes tree (RunCell program) → past_of made ≡ past_of tree → made.cells.nodes ≡ tree.cells.nodes → made.position ≡ tree.position → HasRoom made → IsFormed (cell_of_program program) (here (past_of tree)) → program.first ≡ length (kept_in runner.procedures) → length (kept_in at.procedures) ≡ program.first + length (procedures_of program) →
     Stands at program (entry program (shown_here tree)) false → IsKept made at (Inside (record { work = RunCell program; count = 0; heading = GoesOn }))
-kept_begun tree made runner at program k ready behind same nodes position room formed stands =
+kept_begun tree made runner at program k ready behind same nodes position room formed first last stands =
     let stack : bodies_at made made.position ≡ bodies_at tree tree.position = bodies_same tree made made.position nodes ∙ ap (bodies_at tree) position in
     kept_in_time made at (Inside (record { work = RunCell program; count = 0; heading = GoesOn }))
     (record {
@@ -371,6 +402,7 @@ kept_begun tree made runner at program k ready behind same nodes position room f
       ready = placed_nodes tree made at nodes ready;
       order = ordered_nodes tree made nodes k.order;
       behind = behind_nodes tree made program nodes behind;
+      no_other = (first ∙ no_other_nodes tree made runner.procedures nodes k.no_other, last);
     })
     (exec_some (code_of (past_of made) (state.Posted (cell_of_program program))) (here (past_of made)))
 
@@ -388,6 +420,7 @@ kept_with_room tree made runner k same nodes position =
       ready = placed_nodes tree made runner nodes k.ready;
       order = ordered_nodes tree made nodes k.order;
       behind = tt;
+      no_other = no_other_nodes tree made runner.procedures nodes k.no_other;
     }
 
 pub ok_fact : {A E : Type 0} (P : Type 0) (r : Result A E) → is_err r ≡ false → OnOk r P → P
@@ -458,8 +491,12 @@ up_names tree travel n v cell way legal possible ended at =
 pub new_past : (tree : HistoryTree) → tree.cells ≡ root_alone tree.cells.room → tree.position ≡ 0 → past_of tree ≡ new_state.past
 new_past tree alone position = rw (alone, position, new_worlds) refl
 
-pub kept_new : {L : Type 0} (tree : HistoryTree) (runner : Runner L) → past_of tree ≡ new_state.past → tree.position ≡ 0 → Is runner (Between (over [] empty_world)) → Kept tree runner Idle
-kept_new tree runner e position is = record {
+-- no bodies are kept, and there is no node
+pub no_other_new : (tree : HistoryTree) (t : Procedures) → tree.cells ≡ root_alone tree.cells.room → kept_in t ≡ [] → KeepsNoOther tree t
+no_other_new tree t alone none = rw (alone, none) refl
+
+pub kept_new : {L : Type 0} (tree : HistoryTree) (runner : Runner L) → past_of tree ≡ new_state.past → tree.position ≡ 0 → Is runner (Between (over [] empty_world)) → KeepsNoOther tree runner.procedures → Kept tree runner Idle
+kept_new tree runner e position is no_other = record {
   legal = subst (λ (s : Past). IsLegal s) (sym e) new_legal;
   possible = tt;
   counted = tt;
@@ -469,6 +506,7 @@ kept_new tree runner e position is = record {
   ready = placed_none tree runner e;
   order = ordered_none tree e;
   behind = tt;
+  no_other = no_other;
 }
 
 -- the program of an undo and of a redo, as it is read
@@ -708,6 +746,20 @@ module _ {L : Type 0} (tree : HistoryTree) (runner : Runner L) (work : Work) (wh
       let behind : IsBehindNodes tree (RunCell program) = subst (λ (w : Work). IsBehindNodes tree w) e k.behind in
       behind_stack tree program k.legal k.order behind
 
+  -- those that are not dropped are the nodes'
+  pub no_other_forgotten : (old new : Procedures) (program : Program) → work ≡ RunCell program → kept_in old ≡ kept_in runner.procedures → kept_in new ≡ take program.first (kept_in old) → KeepsNoOther tree new
+  no_other_forgotten old new program e same kept =
+      let own : KeepsNoOtherFor tree (RunCell program) runner.procedures = subst (λ (w : Work). KeepsNoOtherFor tree w runner.procedures) e k.no_other in
+      let many : length (kept_in old) ≡ program.first + length (procedures_of program) = ap (λ (bs : List LinkedProcedure). length bs) same ∙ own.1 in
+      let low : program.first ≤ length (kept_in old) = omega (arith, many) in
+      ap (λ (bs : List LinkedProcedure). length bs) kept ∙ length-take-le program.first (kept_in old) low ∙ own.0
+
+  -- a move keeps none of its own
+  pub no_other_back : (travel : Travel) (t : Procedures) → work ≡ Move travel → kept_in t ≡ kept_in runner.procedures → KeepsNoOther tree t
+  no_other_back travel t e same =
+      let own : KeepsNoOther tree runner.procedures = subst (λ (w : Work). KeepsNoOtherFor tree w runner.procedures) e k.no_other in
+      no_other_same tree runner.procedures t same own
+
   pub nodes_forgotten : {M : Type 0} (old new : Runner M) (program : Program) → work ≡ RunCell program → new.store.names ≡ old.store.names → kept_in new.procedures ≡ take program.first (kept_in old.procedures) → NodesAreReady tree old → NodesAreReady tree new
   nodes_forgotten old new program e names kept ready = λ n cell is.
       let behind : IsBehindNodes tree (RunCell program) = subst (λ (w : Work). IsBehindNodes tree w) e k.behind in
@@ -742,5 +794,5 @@ kept_dropped tree made old at new job first k un is low store kept defined =
     let names : GoOn old.store.names new.store.names = subst (λ (h : StoreState). GoOn old.store.names h.names) (sym store) un.names in
     let whole : IsWhole new.store = subst (λ (h : StoreState). IsWhole h) (sym store) un.whole in
     let shows = shows_forgotten at new first (shown_here tree) store un.shows low kept (defined (bodies_at tree tree.position) un.shows.defined.defined low) in
-    let idle = kept_idle tree Idle old new k (nodes_ready tree old new names same k.ready) whole shows in
+    let idle = kept_idle tree Idle old new k (nodes_ready tree old new names same k.ready) (no_other_same tree old.procedures new.procedures same k.no_other) whole shows in
     subst (λ (j : Open). IsKept made new j) (sym un.idle) (idle_in_time made new (kept_with_room tree made new idle un.past un.nodes un.position))

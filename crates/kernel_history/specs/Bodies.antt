@@ -1,9 +1,12 @@
--- The programs of nodes and of the open job, and their bodies: which are defined where, the newest first, and in which order they are kept.
+-- The programs of nodes and of the open job, and their bodies: which are defined where, the newest first, in which order they are kept,
+-- and how many.
 use Rattle.std.specs.Prelude.{◌≡◌, ℕ, zero, suc, ◌+◌, ◌-◌, ◌<◌, ◌≤◌, List, [], Option, None, Some}
-use Rattle.std.specs.Prelude.{length, map, slice_get}
+use Rattle.std.specs.Prelude.{length, map, slice_get, sum_by}
 use Rattle.cell_tree.specs.Tree.{contents_of}
 use Rattle.cell_tree.specs.declared.node.Node.{Node}
 use Rattle.janus_meaning.specs.Syntax.{Proc}
+use Rattle.janus_machine.specs.Procedures.{kept_in}
+use Rattle.janus_machine.specs.declared.procedures.Procedures.{Procedures}
 use Rattle.janus_meaning.specs.World.{define}
 use Rattle.janus_syntax.specs.Tree.{procedures_view}
 use Rattle.janus_syntax.specs.View.{plain_procedure}
@@ -93,3 +96,24 @@ abbrev pub IsBehindAt : HistoryTree → Open → Type 0
 IsBehindAt tree Idle = Unit {0}
 IsBehindAt tree (Border travel) = Unit {0}
 IsBehindAt tree (Inside e) = IsBehindNodes tree e.work
+
+-- ---- how many are kept
+
+-- how many bodies the nodes' programs have
+abbrev pub bodies_of_nodes : HistoryTree → ℕ
+bodies_of_nodes tree = sum_by (λ (cell : EndedCell). length (procedures_of cell.program)) (contents_of tree.cells)
+
+-- as many bodies are kept as the nodes' programs have
+abbrev pub KeepsNoOther : HistoryTree → Procedures → Type 0
+KeepsNoOther tree t = length (kept_in t) ≡ bodies_of_nodes tree
+
+-- and for a posted cell as many more as its program has, which begin behind those of the nodes
+abbrev pub KeepsNoOtherFor : HistoryTree → Work → Procedures → Type 0
+KeepsNoOtherFor tree (RunCell program) t =
+    (program.first ≡ bodies_of_nodes tree) × (length (kept_in t) ≡ program.first + length (procedures_of program))
+KeepsNoOtherFor tree (Move travel) t = KeepsNoOther tree t
+
+abbrev pub KeepsNoOtherAt : HistoryTree → Open → Procedures → Type 0
+KeepsNoOtherAt tree Idle t = KeepsNoOther tree t
+KeepsNoOtherAt tree (Border travel) t = KeepsNoOther tree t
+KeepsNoOtherAt tree (Inside e) t = KeepsNoOtherFor tree e.work t

@@ -1,5 +1,5 @@
--- What the index of bodies tells, in the words of the tree: for each name the body that the entered cell defines, where that is run forward, else
--- the one of the nearest node that defines it, on the way from the position up to the root, else none.
+-- What the index of bodies tells, in the words of the tree: for each name the body that the entered cell defines, where it was posted or a move goes
+-- down to it, else the one of the nearest node that defines it, on the way from the position up to the root, else none.
 use Rattle.std.specs.Prelude.{◌≡◌, ◌⊎◌, ℕ, zero, suc, ◌+◌, ◌<◌, ◌≤◌, Some, length, slice_get}
 use Rattle.janus_machine.specs.LinkedProcedure.{name_number_of}
 use Rattle.janus_machine.specs.Procedures.{kept_in, place_in_effect}

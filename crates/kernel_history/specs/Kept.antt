@@ -7,7 +7,8 @@
 -- of tree and open job    `IsBehindAt` (Bodies): the bodies of a posted cell are kept behind those of all nodes
 --                         `HasRoomAt`: there is room for the node that a posted cell becomes
 --                         `HasPathAt`: the way of a goto is kept
--- of all three            `StandsAt` (Standing): the runner shows the world of the position, or has taken the job's steps from there
+-- of all three            `KeepsNoOtherAt` (Bodies): as many bodies are kept as the nodes and an open posted cell have
+--                         `StandsAt` (Standing): the runner shows the world of the position, or has taken the job's steps from there
 --
 -- All of this is `Kept`, which holds in the middle of a slice too. Between two calls `IsKept` holds, which has beside this:
 --
@@ -34,7 +35,7 @@ use Rattle.kernel_history.specs.declared.job.Work.TheVariants.{Cell as RunCell, 
 use Rattle.kernel_history.specs.declared.job.Entered.{Entered}
 use Rattle.kernel_history.specs.declared.job.Open.{Open}
 use Rattle.kernel_history.specs.declared.job.Open.TheVariants.{Idle, Border, Inside}
-use Rattle.kernel_history.specs.Bodies.{procedures_in, NodesAreReady, AreInOrder, IsBehindAt}
+use Rattle.kernel_history.specs.Bodies.{procedures_in, NodesAreReady, AreInOrder, IsBehindAt, KeepsNoOtherAt}
 use Rattle.kernel_history.specs.Index.{HasIndex}
 use Rattle.kernel_history.specs.Standing.{StandsAt}
 
@@ -78,6 +79,7 @@ pub record Kept {L : Type 0} (tree : HistoryTree) (runner : Runner L) (job : Ope
   pub ready : NodesAreReady tree runner
   pub order : AreInOrder tree
   pub behind : IsBehindAt tree job
+  pub no_other : KeepsNoOtherAt tree job runner.procedures
 
 -- what a history keeps: beside this, its open job has steps to take, and the index is that of the tree
 pub record IsKept {L : Type 0} (tree : HistoryTree) (runner : Runner L) (job : Open) : Type 0 where

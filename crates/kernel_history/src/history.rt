@@ -1,5 +1,5 @@
 //! The history: the tree of cells, the one store, and the open job. It is what a kernel has besides its queue.
-ghost use Rattle.std.specs.Prelude.{◌≡◌, ℕ, List, IfOk, IfErr, IfSome, IfNone, OnOk, OnErr, length, nat_lt};
+ghost use Rattle.std.specs.Prelude.{◌≡◌, ◌+◌, ℕ, List, IfOk, IfErr, IfSome, IfNone, OnOk, OnErr, length, nat_lt};
 ghost use Rattle.kernel_machine.specs.State.{State, Idle, Border, here, is_full, Shown, new_state};
 ghost use Rattle.kernel_history.specs.Fields.{past_of, nodes_of, state_of, IsStageOf};
 ghost use Rattle.kernel_machine.specs.declared.travel.Aim.TheVariants.{Undo, Redo};
@@ -11,7 +11,7 @@ ghost use Rattle.janus_names.specs.Numbers.{GoOn};
 ghost use Rattle.janus_store.specs.StoreState.{IsWhole, KeepsSight};
 ghost use Rattle.janus_machine.specs.Procedures.{kept_in};
 ghost use Rattle.kernel_machine.specs.Text.{Accepts, Refuses};
-ghost use Rattle.kernel_runner.specs.Program.{cell_of_program, IsReady};
+ghost use Rattle.kernel_runner.specs.Program.{cell_of_program, procedures_of, IsReady};
 ghost use Rattle.kernel_runner.specs.Runner.{over, Becomes, Is, Between};
 ghost use Rattle.kernel_loader.specs.Keeping.{KeepsOlder};
 ghost use Rattle.kernel_loader.specs.Loading.{KeepsShown};
@@ -140,9 +140,11 @@ fn prepare<L: Ledger>(
     ensures accepts { IfOk result (λ program. Accepts (here (past_of tree.now)) text.now (cell_of_program program)) }
     ensures refuses { IfErr result (Refuses (here (past_of tree.now)) text.now) }
     ensures ready { IfOk result (λ program. IsReady runner.new.store.names runner.new.procedures program) }
-    // Its bodies are behind those that were kept, and what is refused leaves those alone.
+    // Its bodies are behind those that were kept, with none behind them, and what is refused leaves those alone.
     ensures behind { IfOk result (λ program. program.first ≡ length (kept_in runner.old.procedures)) }
+    ensures last { IfOk result (λ program. length (kept_in runner.new.procedures) ≡ program.first + length (procedures_of program)) }
     ensures older { KeepsOlder runner.old.procedures runner.new.procedures }
+    ensures none { OnErr result (kept_in runner.new.procedures ≡ kept_in runner.old.procedures) }
     ensures kept { KeepsSight runner.old.store runner.new.store }
     ensures shown { KeepsShown runner.old runner.new }
 {

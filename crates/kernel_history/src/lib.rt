@@ -16,7 +16,8 @@
 //! The definitions, in specs/, in reading order:
 //!
 //! - `Fields`: the types of the code read as the machine's. `NodeTrees`: the tree of a node's cell.
-//! - `Bodies`: which program a node has and a job runs, and which bodies are defined where. `Index`: what the index of bodies tells of the tree.
+//! - `Bodies`: which program a node has and a job runs, which bodies are defined where, and how many are kept.
+//! - `Index`: what the index of bodies tells of the tree.
 //! - `Standing`: where the runner stands.
 //! - `Kept`: what a history keeps of its fields, with a map of it, what a slice leaves, and where a cell has come to its end.
 #![tactic(auto)]

@@ -12,7 +12,7 @@ ghost use Rattle.kernel_machine.specs.StepsOfSlices.{steps_back, WritesOn, Write
 ghost use Rattle.janus_names.specs.Numbers.{GoOn};
 ghost use Rattle.janus_store.specs.StoreState.{IsWhole};
 ghost use Rattle.kernel_runner.specs.Runner.{Is, Between};
-ghost use Rattle.kernel_history.specs.Bodies.{IsProgramOf, NodesAreReady};
+ghost use Rattle.kernel_history.specs.Bodies.{IsProgramOf, NodesAreReady, KeepsNoOther};
 ghost use Rattle.kernel_history.specs.Standing.{shown_here};
 ghost use Rattle.kernel_history.specs.Kept.{Kept, left_by, HasCome, HasComeAt, ComesToEnd, HasPathFor, SettlesFrom, SettlesAt};
 
@@ -70,6 +70,7 @@ fn settle_back<L: Ledger>(tree: &HistoryTree, runner: &mut Runner<L>, work: &Wor
     requires whole { IsWhole runner.old.store }
     ensures is { Is runner.new (Between (shown_here tree.now)) }
     ensures ready { NodesAreReady tree.now runner.new }
+    ensures no_other { KeepsNoOther tree.now runner.new.procedures }
     ensures names { GoOn runner.old.store.names runner.new.store.names }
 {
     match work {

@@ -9,7 +9,7 @@ ghost use Rattle.janus_machine.specs.Procedures.{kept_in};
 ghost use Rattle.janus_machine.specs.declared.book.Direction.TheVariants.{Forward};
 ghost use Rattle.kernel_machine.specs.Language.{IsSound};
 ghost use Rattle.kernel_machine.specs.Text.{Accepts, Refuses};
-ghost use Rattle.kernel_runner.specs.Program.{cell_of_program, IsReady};
+ghost use Rattle.kernel_runner.specs.Program.{cell_of_program, procedures_of, IsReady};
 ghost use Rattle.kernel_runner.specs.Runner.{ShownWorld, over, Is, Between, world_of};
 ghost use Rattle.kernel_loader.specs.Defined.{in_a_row};
 ghost use Rattle.kernel_loader.specs.Met.{AreProceduresMet};
@@ -44,8 +44,9 @@ pub fn load<L: Ledger>(
     ensures accepts { IfOk result (λ program. Accepts (world_of (in_a_row procedures.now) runner.old) text.now (cell_of_program program)) }
     ensures refuses { IfErr result (Refuses (world_of (in_a_row procedures.now) runner.old) text.now) }
     ensures ready { IfOk result (λ program. IsReady runner.new.store.names runner.new.procedures program) }
-    // Its bodies are behind those that were kept, and what is refused leaves those alone.
+    // Its bodies are behind those that were kept, with none behind them, and what is refused leaves those alone.
     ensures behind { IfOk result (λ program. program.first ≡ length (kept_in runner.old.procedures)) }
+    ensures last { IfOk result (λ program. length (kept_in runner.new.procedures) ≡ program.first + length (procedures_of program)) }
     ensures older { KeepsOlder runner.old.procedures runner.new.procedures }
     ensures none { OnErr result (kept_in runner.new.procedures ≡ kept_in runner.old.procedures) }
     ensures kept { KeepsSight runner.old.store runner.new.store }
@@ -73,6 +74,7 @@ fn link<L: Ledger>(
     ensures ready { IfOk result (λ made.
         IsReady runner.new.store.names runner.new.procedures (record { book = made.0; checked = checked.now; first = made.1 })) }
     ensures behind { IfOk result (λ made. made.1 ≡ length (kept_in runner.old.procedures)) }
+    ensures last { IfOk result (λ made. length (kept_in runner.new.procedures) ≡ made.1 + length (plain_cell (cell_in checked.now)).procedures) }
     ensures older { KeepsOlder runner.old.procedures runner.new.procedures }
     ensures none { OnErr result (kept_in runner.new.procedures ≡ kept_in runner.old.procedures) }
     ensures kept { KeepsSight runner.old.store runner.new.store }

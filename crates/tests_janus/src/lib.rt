@@ -24,6 +24,7 @@ mod sweeps;
 mod texts;
 mod transcripts;
 mod values;
+mod whole;
 
 use crate::subject::{Plain, tell_rows};
 use tests_rows::{Sheet, cut_block};

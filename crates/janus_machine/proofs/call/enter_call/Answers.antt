@@ -1,15 +1,16 @@
-use Rattle.std.proofs.Common.{◌≡◌, ◌-◌, ◌+◌, ◌≤◌, length, refl, ap, ◌∙◌, sym, subst, arith}
+use Rattle.std.proofs.Common.{◌≡◌, ◌-◌, ◌+◌, ◌≤◌, [], ◌∷◌, length, refl, ap, ◌∙◌, sym, subst, arith}
 use Rattle.std.specs.Prelude.{Some, reverse}
+use Rattle.std.proofs.lemmas.List.{reverse-append}
 use Rattle.janus_meaning.specs.Limit.{frame_limit}
 use Rattle.janus_meaning.specs.Syntax.{names_of}
 use Rattle.janus_code.specs.CodeBlock.{code_block}
 use Rattle.janus_linear.specs.declared.code.Linear.{Linear}
 use Rattle.janus_linear.specs.Layout.{block_size}
+use Rattle.janus_linear.proofs.Fetched.{instructions_long}
 use Rattle.janus_store.specs.Calls.{AreNamed}
-use Rattle.janus_machine.specs.declared.book.Book.{Book}
 use Rattle.janus_machine.specs.Places.{linear_in, block_in}
 use Rattle.janus_machine.specs.Procedures.{body_at, in_effect}
-use Rattle.janus_machine.specs.Nested.{book_in}
+use Rattle.janus_machine.specs.Nested.{book_in, book_or}
 use Rattle.janus_machine.specs.Cursors.{book_of}
 use Rattle.janus_machine.proofs.Entering.{call_stands, room_small, deep_here, is_known, found, entered, lends, counted, few, call_room, stands_new, leads_new, agrees_new, wild_is_broken, behind_inside, call_tree}
 use Rattle.janus_machine.proofs.Turning.{there_and_back}
@@ -271,15 +272,15 @@ returns-clause-stands g c =
     let there : body_at t num ≡ Some body = sym c.in-Some-body.ensures in
     let f = found t b u h stands n room st here num ys d callee numbered lt safe.0 safe.1 safe.2 safe.3 safe.4 body there in
     let e = entered t b u h stands n room st here num ys d callee numbered lt safe.0 safe.1 safe.2 safe.3 safe.4 body there in
-    let end : c.last-end.result ≡ block_size (block_in h.names (book_of t b u) u.direction) - 1 =
-    c.last-end.ensures h.names ∙ ap (λ (l : Linear). block_size (code_block h.names l.code) - 1) (c.linear.ensures ∙ ap (λ (k : Book). linear_in k u.direction) (c.running.ensures ∙ ap (λ is. book_in t b (reverse is)) c.deref-2.ensures.value)) in
+    let end : length c.args.row.instructions.now - 1 ≡ block_size (block_in h.names (book_of t b u) u.direction) - 1 =
+    omega (arith, ap length c.requires.row.instructions, instructions_long h.names (linear_in (book_of t b u) u.direction)) in
     let s = call_stands t b u h stands n room st here num ys d callee numbered in
     let low = behind_inside h.names (book_of t b u) u.direction n (call_tree h.names st) s.before s.after s.frames s.behind in
     let place = c.turned_place.result in
     let placed = c.turned_place.ensures h.names (book_of t b u) end in
     let p_there = there_and_back h.names (book_of t b u) u.direction n place placed low in
     let made = c.lend.ensures (names_of f.0.params) (subst (λ xs. AreNamed h.names xs (names_of f.0.params)) (sym c.deref.ensures.value) f.2.parameters) in
-    let to_go : c.last-cursor.result ≡ block_size (block_in h.names body.book d) - 1 = c.last-cursor.ensures h.names ∙ ap (λ (l : Linear). block_size (code_block h.names l.code) - 1) c.linear-2.ensures in
+    let to_go : c.last-cursor.result ≡ block_size (block_in h.names body.book d) - 1 = c.last-cursor.ensures h.names ∙ ap (λ (l : Linear). block_size (code_block h.names l.code) - 1) c.linear.ensures in
     let new_used : u.used + (16383 - room) + 2 ≡ u.used + (frame_limit - 1 - room) + 2 = refl in
     stands_new t b u h stands n room st here num ys d callee numbered lt body there f.0 f.2 e.values e.caller e.inside e.pulled e.bound _ c.lend.new.store place c.is_turned.result c.push_reserved.ensures.items c.is_turned.ensures p_there.0 p_there.1 refl to_go new_used refl made
 
@@ -305,15 +306,15 @@ returns-clause-steps g c = λ ps k known a.
     let there : body_at t num ≡ Some body = sym c.in-Some-body.ensures in
     let f = found t b u h stands n room st here num ys d callee numbered lt safe.0 safe.1 safe.2 safe.3 safe.4 body there in
     let e = entered t b u h stands n room st here num ys d callee numbered lt safe.0 safe.1 safe.2 safe.3 safe.4 body there in
-    let end : c.last-end.result ≡ block_size (block_in h.names (book_of t b u) u.direction) - 1 =
-    c.last-end.ensures h.names ∙ ap (λ (l : Linear). block_size (code_block h.names l.code) - 1) (c.linear.ensures ∙ ap (λ (k : Book). linear_in k u.direction) (c.running.ensures ∙ ap (λ is. book_in t b (reverse is)) c.deref-2.ensures.value)) in
+    let end : length c.args.row.instructions.now - 1 ≡ block_size (block_in h.names (book_of t b u) u.direction) - 1 =
+    omega (arith, ap length c.requires.row.instructions, instructions_long h.names (linear_in (book_of t b u) u.direction)) in
     let s = call_stands t b u h stands n room st here num ys d callee numbered in
     let low = behind_inside h.names (book_of t b u) u.direction n (call_tree h.names st) s.before s.after s.frames s.behind in
     let place = c.turned_place.result in
     let placed = c.turned_place.ensures h.names (book_of t b u) end in
     let p_there = there_and_back h.names (book_of t b u) u.direction n place placed low in
     let made = c.lend.ensures (names_of f.0.params) (subst (λ xs. AreNamed h.names xs (names_of f.0.params)) (sym c.deref.ensures.value) f.2.parameters) in
-    let to_go : c.last-cursor.result ≡ block_size (block_in h.names body.book d) - 1 = c.last-cursor.ensures h.names ∙ ap (λ (l : Linear). block_size (code_block h.names l.code) - 1) c.linear-2.ensures in
+    let to_go : c.last-cursor.result ≡ block_size (block_in h.names body.book d) - 1 = c.last-cursor.ensures h.names ∙ ap (λ (l : Linear). block_size (code_block h.names l.code) - 1) c.linear.ensures in
     let new_used : u.used + (16383 - room) + 2 ≡ u.used + (frame_limit - 1 - room) + 2 = refl in
     leads_new t b u h stands n room st here num ys d callee numbered lt body there f.0 f.2 e.values e.caller e.inside e.pulled e.bound (record { direction = d; to_go = c.last-cursor.result; calls = c.push_reserved.new.self; used = u.used + (16383 - room) + 2; count = u.count; turned = u.turned; room = subst (λ m. 8192 ≤ m) (sym c.push_reserved.ensures.capacity) u.room }) c.lend.new.store place c.is_turned.result c.push_reserved.ensures.items c.is_turned.ensures p_there.0 p_there.1 refl to_go new_used refl made ps k known
 
@@ -339,15 +340,15 @@ returns-clause-names g c =
     let there : body_at t num ≡ Some body = sym c.in-Some-body.ensures in
     let f = found t b u h stands n room st here num ys d callee numbered lt safe.0 safe.1 safe.2 safe.3 safe.4 body there in
     let e = entered t b u h stands n room st here num ys d callee numbered lt safe.0 safe.1 safe.2 safe.3 safe.4 body there in
-    let end : c.last-end.result ≡ block_size (block_in h.names (book_of t b u) u.direction) - 1 =
-    c.last-end.ensures h.names ∙ ap (λ (l : Linear). block_size (code_block h.names l.code) - 1) (c.linear.ensures ∙ ap (λ (k : Book). linear_in k u.direction) (c.running.ensures ∙ ap (λ is. book_in t b (reverse is)) c.deref-2.ensures.value)) in
+    let end : length c.args.row.instructions.now - 1 ≡ block_size (block_in h.names (book_of t b u) u.direction) - 1 =
+    omega (arith, ap length c.requires.row.instructions, instructions_long h.names (linear_in (book_of t b u) u.direction)) in
     let s = call_stands t b u h stands n room st here num ys d callee numbered in
     let low = behind_inside h.names (book_of t b u) u.direction n (call_tree h.names st) s.before s.after s.frames s.behind in
     let place = c.turned_place.result in
     let placed = c.turned_place.ensures h.names (book_of t b u) end in
     let p_there = there_and_back h.names (book_of t b u) u.direction n place placed low in
     let made = c.lend.ensures (names_of f.0.params) (subst (λ xs. AreNamed h.names xs (names_of f.0.params)) (sym c.deref.ensures.value) f.2.parameters) in
-    let to_go : c.last-cursor.result ≡ block_size (block_in h.names body.book d) - 1 = c.last-cursor.ensures h.names ∙ ap (λ (l : Linear). block_size (code_block h.names l.code) - 1) c.linear-2.ensures in
+    let to_go : c.last-cursor.result ≡ block_size (block_in h.names body.book d) - 1 = c.last-cursor.ensures h.names ∙ ap (λ (l : Linear). block_size (code_block h.names l.code) - 1) c.linear.ensures in
     let new_used : u.used + (16383 - room) + 2 ≡ u.used + (frame_limit - 1 - room) + 2 = refl in
     record { declared = made.declared; names = made.names }
 
@@ -373,14 +374,22 @@ returns-clause-agrees g c =
     let there : body_at t num ≡ Some body = sym c.in-Some-body.ensures in
     let f = found t b u h stands n room st here num ys d callee numbered lt safe.0 safe.1 safe.2 safe.3 safe.4 body there in
     let e = entered t b u h stands n room st here num ys d callee numbered lt safe.0 safe.1 safe.2 safe.3 safe.4 body there in
-    let end : c.last-end.result ≡ block_size (block_in h.names (book_of t b u) u.direction) - 1 =
-    c.last-end.ensures h.names ∙ ap (λ (l : Linear). block_size (code_block h.names l.code) - 1) (c.linear.ensures ∙ ap (λ (k : Book). linear_in k u.direction) (c.running.ensures ∙ ap (λ is. book_in t b (reverse is)) c.deref-2.ensures.value)) in
+    let end : length c.args.row.instructions.now - 1 ≡ block_size (block_in h.names (book_of t b u) u.direction) - 1 =
+    omega (arith, ap length c.requires.row.instructions, instructions_long h.names (linear_in (book_of t b u) u.direction)) in
     let s = call_stands t b u h stands n room st here num ys d callee numbered in
     let low = behind_inside h.names (book_of t b u) u.direction n (call_tree h.names st) s.before s.after s.frames s.behind in
     let place = c.turned_place.result in
     let placed = c.turned_place.ensures h.names (book_of t b u) end in
     let p_there = there_and_back h.names (book_of t b u) u.direction n place placed low in
     let made = c.lend.ensures (names_of f.0.params) (subst (λ xs. AreNamed h.names xs (names_of f.0.params)) (sym c.deref.ensures.value) f.2.parameters) in
-    let to_go : c.last-cursor.result ≡ block_size (block_in h.names body.book d) - 1 = c.last-cursor.ensures h.names ∙ ap (λ (l : Linear). block_size (code_block h.names l.code) - 1) c.linear-2.ensures in
+    let to_go : c.last-cursor.result ≡ block_size (block_in h.names body.book d) - 1 = c.last-cursor.ensures h.names ∙ ap (λ (l : Linear). block_size (code_block h.names l.code) - 1) c.linear.ensures in
     let new_used : u.used + (16383 - room) + 2 ≡ u.used + (frame_limit - 1 - room) + 2 = refl in
     agrees_new t b u h stands n room st here num ys d callee numbered lt body there f.0 f.2 e.values e.caller e.inside e.pulled e.bound _ c.lend.new.store place c.is_turned.result c.push_reserved.ensures.items c.is_turned.ensures p_there.0 p_there.1 refl to_go new_used refl made
+
+pub returns-clause-there : goal.returns-clause-there
+returns-clause-there g c =
+    let t = c.args.procedures.now in
+    let b = c.args.book.now in
+    let is = c.args.cursor.now.calls.items in
+    let there : body_at t c.in-Some.called ≡ Some c.in-Some-body.procedure.now = sym c.in-Some-body.ensures in
+    sym (ap (λ is. book_in t b (reverse is)) c.push_reserved.ensures.items ∙ ap (book_in t b) (reverse-append is (_ ∷ [])) ∙ ap (book_or b) there)

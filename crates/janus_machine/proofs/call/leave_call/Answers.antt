@@ -43,7 +43,7 @@ returns-clause-stands g c =
     let turned : way ≡ caller_way call.uncalled u.direction = c.caller_direction-direction.ensures in
     let caller = book_in t b cs in
     let end : c.last-end.result ≡ block_size (block_in h.names caller way) - 1 =
-    c.last-end.ensures h.names ∙ ap (λ (l : Linear). block_size (code_block h.names l.code) - 1) (c.linear.ensures ∙ ap (λ (k : Book). linear_in k way) (c.running.ensures ∙ ap (λ is. book_in t b (reverse is)) c.deref.ensures.value)) in
+    c.last-end.ensures h.names ∙ ap (λ (l : Linear). block_size (code_block h.names l.code) - 1) (c.linear.ensures ∙ ap (λ (k : Book). linear_in k way) (c.running-caller.ensures ∙ ap (λ is. book_in t b (reverse is)) c.deref.ensures.value)) in
     let placed = c.turned_place-at.ensures h.names caller end in
     let to_go : c.saturating_sub-cursor.result ≡ block_size (block_in h.names caller (caller_way call.uncalled u.direction)) - 1 - suc (call_at h.names caller (caller_way call.uncalled u.direction) call.place) =
     subst (λ w. c.saturating_sub-cursor.result ≡ block_size (block_in h.names caller w) - 1 - suc (call_at h.names caller w call.place)) turned (omega (arith, c.saturating_sub-cursor.ensures, c.saturating_sub.ensures, end, placed)) in
@@ -67,7 +67,7 @@ returns-clause-steps g c = λ ps k known a.
     let turned : way ≡ caller_way call.uncalled u.direction = c.caller_direction-direction.ensures in
     let caller = book_in t b cs in
     let end : c.last-end.result ≡ block_size (block_in h.names caller way) - 1 =
-    c.last-end.ensures h.names ∙ ap (λ (l : Linear). block_size (code_block h.names l.code) - 1) (c.linear.ensures ∙ ap (λ (k : Book). linear_in k way) (c.running.ensures ∙ ap (λ is. book_in t b (reverse is)) c.deref.ensures.value)) in
+    c.last-end.ensures h.names ∙ ap (λ (l : Linear). block_size (code_block h.names l.code) - 1) (c.linear.ensures ∙ ap (λ (k : Book). linear_in k way) (c.running-caller.ensures ∙ ap (λ is. book_in t b (reverse is)) c.deref.ensures.value)) in
     let placed = c.turned_place-at.ensures h.names caller end in
     let to_go : c.saturating_sub-cursor.result ≡ block_size (block_in h.names caller (caller_way call.uncalled u.direction)) - 1 - suc (call_at h.names caller (caller_way call.uncalled u.direction) call.place) =
     subst (λ w. c.saturating_sub-cursor.result ≡ block_size (block_in h.names caller w) - 1 - suc (call_at h.names caller w call.place)) turned (omega (arith, c.saturating_sub-cursor.ensures, c.saturating_sub.ensures, end, placed)) in
@@ -91,8 +91,12 @@ returns-clause-agrees g c =
     let turned : way ≡ caller_way call.uncalled u.direction = c.caller_direction-direction.ensures in
     let caller = book_in t b cs in
     let end : c.last-end.result ≡ block_size (block_in h.names caller way) - 1 =
-    c.last-end.ensures h.names ∙ ap (λ (l : Linear). block_size (code_block h.names l.code) - 1) (c.linear.ensures ∙ ap (λ (k : Book). linear_in k way) (c.running.ensures ∙ ap (λ is. book_in t b (reverse is)) c.deref.ensures.value)) in
+    c.last-end.ensures h.names ∙ ap (λ (l : Linear). block_size (code_block h.names l.code) - 1) (c.linear.ensures ∙ ap (λ (k : Book). linear_in k way) (c.running-caller.ensures ∙ ap (λ is. book_in t b (reverse is)) c.deref.ensures.value)) in
     let placed = c.turned_place-at.ensures h.names caller end in
     let to_go : c.saturating_sub-cursor.result ≡ block_size (block_in h.names caller (caller_way call.uncalled u.direction)) - 1 - suc (call_at h.names caller (caller_way call.uncalled u.direction) call.place) =
     subst (λ w. c.saturating_sub-cursor.result ≡ block_size (block_in h.names caller w) - 1 - suc (call_at h.names caller w call.place)) turned (omega (arith, c.saturating_sub-cursor.ensures, c.saturating_sub.ensures, end, placed)) in
     agrees_left t b u h stands call cs calls_are lender.0 lender.1 lender.2 c.requires.ended q.0 q.2 x.values x.unbound x.filled x.returned _ c.unbind.new.self refl turned to_go refl refl c.unbind.ensures
+
+pub returns-clause-there : goal.returns-clause-there
+returns-clause-there g c =
+    c.running-caller.ensures ∙ ap (λ is. book_in c.args.procedures.now c.args.book.now (reverse is)) c.deref.ensures.value

@@ -3,7 +3,7 @@ use Rattle.kernel_history.specs.Fields.{past_of, work_of}
 use Rattle.kernel_history.specs.Bodies.{bodies_at}
 use Rattle.kernel_history.specs.Standing.{shown_here}
 use Rattle.kernel_runner.proofs.Growing.{no_more}
-use Rattle.kernel_history.proofs.Standing.{work_possible, below_there, cell_of_down, can_leave_cell, can_leave_down, shows_up, below_posted, nodes_forgotten, nodes_ready, shows_forgotten}
+use Rattle.kernel_history.proofs.Standing.{work_possible, below_there, cell_of_down, can_leave_cell, can_leave_down, shows_up, below_posted, nodes_forgotten, no_other_forgotten, no_other_back, nodes_ready, shows_forgotten}
 use Rattle.kernel_history.proofs.settle.settle_back.Goals as goal
 
 pub leave-requires : goal.leave-requires
@@ -25,6 +25,22 @@ returns-in-Cell-clause-ready g c =
     let k = c.requires.kept in
     nodes_forgotten c.args.tree.now c.args.runner.now c.args.work.now k.0 k.1 c.leave.new.self (record { store = c.leave.new.self.store; cursor = c.leave.new.self.cursor; procedures = c.forget.new.self }) c.in-Cell.program c.in-Cell.is refl c.forget.ensures.kept
     (nodes_ready c.args.tree.now c.args.runner.now c.leave.new.self c.leave.ensures.names c.leave.ensures.kept k.1.ready)
+
+-- the bodies of the posted cell are dropped
+pub returns-in-Cell-clause-no_other : goal.returns-in-Cell-clause-no_other
+returns-in-Cell-clause-no_other g c =
+    let k = c.requires.kept in
+    no_other_forgotten c.args.tree.now c.args.runner.now c.args.work.now k.0 k.1 c.leave.new.self.procedures c.forget.new.self c.in-Cell.program c.in-Cell.is c.leave.ensures.kept c.forget.ensures.kept
+
+pub returns-in-Down-clause-no_other : goal.returns-in-Down-clause-no_other
+returns-in-Down-clause-no_other g c =
+    let k = c.requires.kept in
+    no_other_back c.args.tree.now c.args.runner.now c.args.work.now k.0 k.1 c.in-Move.travel c.leave-in-Down.new.self.procedures c.in-Move.is c.leave-in-Down.ensures.kept
+
+pub returns-in-Up-clause-no_other : goal.returns-in-Up-clause-no_other
+returns-in-Up-clause-no_other g c =
+    let k = c.requires.kept in
+    no_other_back c.args.tree.now c.args.runner.now c.args.work.now k.0 k.1 c.in-Move.travel c.args.runner.now.procedures c.in-Move.is refl
 
 pub leave-requires-in-Down : goal.leave-requires-in-Down
 leave-requires-in-Down g c =

@@ -9,7 +9,7 @@ use Rattle.kernel_runner.specs.Runner.{world_of}
 use Rattle.kernel_machine.specs.declared.outcome.Outcome.TheVariants as outcome
 use Rattle.kernel_machine.specs.declared.outcome.Sliced.TheVariants as sliced
 use Rattle.kernel_history.proofs.Nodes.{child_added, number_added, nodes_added, favourites_added, one_more}
-use Rattle.kernel_history.proofs.Standing.{state_grown, placed_more, ordered_more, shown_more, kept_grown}
+use Rattle.kernel_history.proofs.Standing.{state_grown, placed_more, ordered_more, no_other_more, shown_more, kept_grown}
 use Rattle.kernel_history.proofs.settle.settle_cell.Goals as goal
 
 pub set_favourite-requires : goal.set_favourite-requires
@@ -34,3 +34,4 @@ returns-clause-kept g c =
     kept_grown c.args.tree.now larger (cell_of_program c.args.program) c.args.n c.args.runner.now (world_of (start_of (Forward (cell_of_program c.args.program)) (here (past_of c.args.tree.now))).procedures c.args.runner.now) more favourites number c.requires.kept.legal c.requires.kept.possible c.requires.ended
     (shown_more c.args.tree.now larger c.args.program c.args.n c.args.runner.now c.requires.kept nodes number) c.requires.whole
     (placed_more c.args.tree.now larger c.args.program c.args.n c.args.runner.now c.requires.kept nodes) (ordered_more c.args.tree.now larger c.args.program c.args.n c.args.runner.now c.requires.kept nodes)
+    (no_other_more c.args.tree.now larger c.args.program c.args.n c.args.runner.now c.requires.kept nodes)

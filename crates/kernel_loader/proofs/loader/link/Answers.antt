@@ -1,4 +1,4 @@
-use Rattle.std.proofs.Common.{◌≡◌, ℕ, List, take, refl, sym, ap, ◌∙◌, subst}
+use Rattle.std.proofs.Common.{◌≡◌, ℕ, ◌+◌, List, length, take, refl, sym, ap, ◌∙◌, subst}
 use Rattle.janus_meaning.specs.Syntax.{Name}
 use Rattle.janus_syntax.specs.View.{plain_cell}
 use Rattle.janus_check.specs.Checked.{cell_in}
@@ -28,6 +28,10 @@ pub returns-in-Ok-clause-ready : goal.returns-in-Ok-clause-ready
 returns-in-Ok-clause-ready g c =
     let program : Program = record { book = c.in-Ok.book; checked = c.args.checked.now; first = c.len-first.result } in
     ready_made c.meet_cell-met.new.store.names c.names-names.result.now c.args.runner.now.procedures c.keep_and_link.new.kept program c.in-Ok.ensures.block c.names-names.ensures.names c.in-Ok.ensures.numbered c.len-first.ensures c.in-Ok.ensures.bodies c.in-Ok.ensures.count
+
+pub returns-in-Ok-clause-last : goal.returns-in-Ok-clause-last
+returns-in-Ok-clause-last g c =
+    c.in-Ok.ensures.count ∙ ap (λ (n : ℕ). n + length (plain_cell (cell_in c.args.checked.now)).procedures) (sym c.len-first.ensures)
 
 pub returns-in-Ok-clause-shown : goal.returns-in-Ok-clause-shown
 returns-in-Ok-clause-shown g c = λ shown h.

@@ -1,4 +1,4 @@
-use Rattle.std.proofs.Common.{◌≡◌, length, take, Bool, false, inl, refl, sym, ap, ◌∙◌, subst}
+use Rattle.std.proofs.Common.{◌≡◌, List, length, take, Bool, false, inl, refl, sym, ap, ◌∙◌, subst}
 use Rattle.janus_meaning.specs.World.{Cell}
 use Rattle.kernel_machine.specs.State as state
 use Rattle.kernel_machine.specs.State.{State}
@@ -17,10 +17,11 @@ use Rattle.kernel_history.specs.declared.job.Open.{Open}
 use Rattle.kernel_history.specs.declared.job.Open.TheVariants.{Idle}
 use Rattle.kernel_machine.proofs.Texts.{accepted_formed}
 use Rattle.kernel_runner.proofs.Growing.{more_yet}
-use Rattle.kernel_history.proofs.Standing.{ok_fact, err_fact, kept_begun, kept_idle, idle_in_time, here_sound, idle_job, nodes_more, nodes_ready, posted_behind, behind_stack, shows_still, IsUnentered, kept_dropped}
+use Rattle.kernel_history.proofs.Standing.{ok_fact, err_fact, kept_begun, kept_idle, idle_in_time, here_sound, idle_job, nodes_more, nodes_ready, no_other_same, posted_behind, behind_stack, shows_still, IsUnentered, kept_dropped}
 use Rattle.kernel_history.proofs.history.History.begin_cell.Goals as goal
 use Rattle.kernel_history.proofs.history.History.begin_cell.Goals.{then-is_err-via-then-is_err, then-is_err-via-else-is_err+then-is_err-2}
 use Rattle.janus_machine.specs.Procedures.{kept_in}
+use Rattle.janus_machine.specs.declared.linked_procedure.LinkedProcedure.{LinkedProcedure}
 use Rattle.janus_machine.specs.declared.procedures.Procedures.{Procedures}
 
 pub prepare-requires-clause-legal : goal.prepare-requires-clause-legal
@@ -81,7 +82,8 @@ invariant_of-self-2 g c =
     let can : CanEnter met c.in-Ok.program shown = record { is = is; sound = here_sound tree kept.legal; formed = formed; ready = c.in-Ok.ensures.ready; behind = low } in
     let at_text = nodes_more tree old met c.prepare.ensures.kept.names c.prepare.ensures.older kept.ready in
     kept_begun tree (record { cells = c.room.new.self; position = tree.position }) old c.enter.new.self c.in-Ok.program kept
-    (nodes_ready tree met c.enter.new.self c.enter.ensures.names c.enter.ensures.kept at_text) behind same nodes refl room formed (stands shown can)
+    (nodes_ready tree met c.enter.new.self c.enter.ensures.names c.enter.ensures.kept at_text) behind same nodes refl room formed c.in-Ok.ensures.behind
+    (ap (λ (bs : List LinkedProcedure). length bs) c.enter.ensures.kept ∙ c.in-Ok.ensures.last) (stands shown can)
 
 -- a refused text: names may have been met
 pub invariant_of-self : goal.invariant_of-self
@@ -94,7 +96,8 @@ invariant_of-self g c =
     let met = c.prepare.new.runner in
     let is = c.prepare.ensures.shown shown kept.stands in
     subst (λ (j : Open). IsKept tree met j) (sym idle)
-    (idle_in_time tree met (kept_idle tree Idle old met kept (nodes_more tree old met c.prepare.ensures.kept.names c.prepare.ensures.older kept.ready) is.1 is.0))
+    (idle_in_time tree met (kept_idle tree Idle old met kept (nodes_more tree old met c.prepare.ensures.kept.names c.prepare.ensures.older kept.ready)
+    (no_other_same tree old.procedures met.procedures c.in-Err.ensures.none kept.no_other) is.1 is.0))
 
 -- no memory for its node or its names: its bodies are dropped again
 pub invariant_of-self-then-is_err : goal.invariant_of-self-then-is_err
