@@ -1,14 +1,16 @@
 -- A cell has no faults exactly where it is well formed.
-use Rattle.std.proofs.Common.{◌≡◌, List, [], ◌∷◌, ◌++◌, map, refl, ap, ◌∙◌, subst}
+use Rattle.std.proofs.Common.{◌≡◌, List, [], ◌∷◌, ◌++◌, map, refl, ap, ◌∙◌, sym, subst}
 use Rattle.janus_meaning.specs.Syntax as tree
 use Rattle.janus_meaning.specs.Shape.{Shape, Heads, heads_of}
 use Rattle.janus_meaning.specs.Formed.{IsStm, IsBlk, AreProcs}
 use Rattle.janus_meaning.specs.FormedWorld.{with_heads, with_declared}
-use Rattle.janus_syntax.specs.Tree.{Stm, Skip, Assign, AssignElement, Push, Pop, Swap, If, Loop, LocalInt, LocalStack, Call, Uncall, Block, Empty, More, Procedure, procedure_of, Cell, cell_of}
+use Rattle.janus_syntax.specs.Tree.{Declaration, Stm, Skip, Assign, AssignElement, Push, Pop, Swap, If, Loop, LocalInt, LocalStack, Call, Uncall, Block, Empty, More, Procedure, procedure_of, Cell, cell_of}
 use Rattle.janus_syntax.specs.View.{text_of, plain_stm, plain_block, plain_parameter}
-use Rattle.janus_check.specs.Names.{shape_in, heads_in}
+use Rattle.janus_check.specs.Names.{Known, shape_in, heads_in, over}
+use Rattle.janus_check.specs.Sight.{heads_over}
+use Rattle.janus_check.specs.Own.{IsOwn}
 use Rattle.janus_check.specs.Check.{declarations_faults, after_declarations, heads_faults, heads_with, use_faults, exp_faults, side_faults, end_use_faults, end_faults, shadow_faults, stm_faults, block_faults, parameters_faults, body_faults, bodies_faults, cell_faults}
-use Rattle.janus_check.specs.WellFormed.{IsWellFormed, FaultsAreExact}
+use Rattle.janus_check.specs.WellFormed.{IsWellFormed, IsWellFormedOver, FaultsAreExact}
 use Rattle.janus_check.proofs.NoFaults.{left_nil, right_nil, both_nil, four, all_four}
 use Rattle.janus_check.proofs.UseLemmas.{use_formed, use_no_faults, exp_formed, exp_no_faults, side_formed, side_no_faults, shadow_formed, shadow_no_faults, end_uses, names_formed, names_no_faults}
 use Rattle.janus_check.proofs.CallLemmas.{call_formed, call_no_faults}
@@ -118,6 +120,20 @@ formed_no_faults g hs (cell_of ds b ps) f =
     d.0 e.0
     (ap (λ n. block_faults (heads_with hs ps) n b) d.1 ∙ ap (λ n. block_faults n (with_declared g (declared ds)) b) e.1 ∙ block_no_faults (with_heads hs (plain ps)) (with_declared g (declared ds)) b f.block)
     (ap (λ n. bodies_faults n ps) e.1 ∙ bodies_no_faults (with_heads hs (plain ps)) ps f.procedures)
+
+-- what was declared and defined of a well-formed cell
+pub own_is : (k own : Known) (ds : List Declaration) (b : Block) (ps : List Procedure) → IsWellFormedOver k (cell_of ds b ps) → over (shape_in k.names) own.names ≡ after_declarations (shape_in k.names) ds → heads_over k own ≡ heads_with (heads_in k.procedures) ps → IsOwn k own (cell_of ds b ps)
+own_is k own ds b ps f n m =
+    let g = shape_in k.names in
+    let hs = heads_in k.procedures in
+    let names = n ∙ (declares_no_faults g ds f.names).1 in
+    let heads = m ∙ (defines_no_faults hs [] ps (all_apart (heads_of (plain ps))) f.once f.heads).1 in
+    record {
+      names = names;
+      heads = heads;
+      block = subst (λ (g : Shape). IsBlk (heads_over k own) g (plain_block b)) (sym names) (subst (λ (hs : Heads). IsBlk hs (with_declared g (declared ds)) (plain_block b)) (sym heads) f.block);
+      procedures = subst (λ (hs : Heads). AreProcs hs (plain ps)) (sym heads) f.procedures;
+    }
 
 pub faults_are_exact : FaultsAreExact
 faults_are_exact k =

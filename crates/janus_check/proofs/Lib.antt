@@ -12,3 +12,4 @@ pub mod Orders
 pub mod DropLemmas
 pub mod SameHeads
 pub mod Found
+pub mod SlotLemmas

@@ -7,7 +7,7 @@ use Rattle.janus_check.specs.Names.{meant_kind, kind_found, is_in, above, AreAdd
 use Rattle.janus_check.specs.declared.env.Kind.{Kind}
 
 -- a kind, or another where the name is not there
-abbrev else_kind : Option tree.Kind → Option tree.Kind → Option tree.Kind
+abbrev pub else_kind : Option tree.Kind → Option tree.Kind → Option tree.Kind
 else_kind (Some k) c = Some k
 else_kind None c = c
 

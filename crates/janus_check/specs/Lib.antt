@@ -5,3 +5,4 @@ pub mod Sight
 pub mod WellFormed
 pub mod Checked
 pub mod Naming
+pub mod Own

@@ -1,7 +1,7 @@
 -- The names in sight of a statement or an expression and the heads that its calls see, as the code keeps them.
-use Rattle.std.specs.Prelude.{List, ◌∷◌, ◌++◌}
+use Rattle.std.specs.Prelude.{◌≡◌, List, ◌∷◌, ◌++◌, Some}
 use Rattle.janus_meaning.specs.Syntax as tree
-use Rattle.janus_meaning.specs.Shape.{Shape, Heads}
+use Rattle.janus_meaning.specs.Shape.{Shape, Heads, kind_at}
 use Rattle.janus_syntax.specs.Tree.{Name, parameters_view}
 use Rattle.janus_syntax.specs.View.{name_of}
 use Rattle.janus_check.specs.declared.fault.CheckFault.{CheckFault}
@@ -10,6 +10,10 @@ use Rattle.janus_check.specs.declared.expression.Context.{Context}
 use Rattle.janus_check.specs.declared.expression.Context.TheVariants as context
 use Rattle.janus_check.specs.Names.{meant_kind, shape_in, heads_in, over, Known}
 use Rattle.janus_check.specs.Check.{use_faults, side_use_faults, end_use_faults, body_sight}
+
+-- a name is in sight, as one of some kind
+abbrev pub IsSeen : Shape → tree.Name → Type 0
+IsSeen g x = (k : tree.Kind) × (kind_at x g ≡ Some k)
 
 -- the cell's own heads over the old ones
 abbrev pub heads_over : Known → Known → Heads

@@ -154,7 +154,7 @@ fn is_full(env: &Env, own: &Env) -> bool
 }
 
 /// The first fault after the declarations, whose names are then declared as far as there is room for them.
-fn declare_all(
+pub(crate) fn declare_all(
     env: &Env,
     own: &mut Env,
     declarations: &[Declaration],

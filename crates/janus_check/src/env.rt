@@ -1,7 +1,9 @@
 //! What is known before a cell: the names that are declared already, and the procedures that are defined.
-ghost use Rattle.std.specs.Prelude.{◌≡◌, ◌↔◌, None, Some, IsTrue, OnOk, OnErr, MatchOption, [], ◌∷◌, ◌++◌, length, string_bytes, ◌<◌, ◌^◌};
-ghost use Rattle.janus_meaning.specs.Shape.{kind_at, head_at, count_stack, stack_count, different};
-ghost use Rattle.janus_check.specs.Names.{kind_found, meant_kind, meant_kinds, shape_in, heads_in};
+ghost use Rattle.std.specs.Prelude.{◌≡◌, ◌↔◌, None, Some, IsTrue, OnOk, OnErr, IfSome, MatchOption, [], ◌∷◌, ◌++◌, length, string_bytes, ◌<◌, ◌^◌, ◌+◌};
+ghost use Rattle.janus_meaning.specs.Shape.{Shape, kind_at, head_at, count_stack, stack_count, different};
+ghost use Rattle.janus_meaning.specs.Syntax.{names_of};
+ghost use Rattle.janus_slots.specs.Slots.{slot, slot_in};
+ghost use Rattle.janus_check.specs.Names.{kind_found, meant_kind, meant_kinds, shape_in, heads_in, over};
 
 use indexmap::IndexMap;
 use std::alloc::{AllocError, Global};
@@ -78,6 +80,16 @@ impl Env {
         ensures { kind_found result ≡ kind_at name.now (shape_in self.now.names) }
     {
         self.names.get(name).copied()
+    }
+
+    /// The index of a name in the order of declaration, if it is there. Over other names it is the name's slot behind theirs.
+    pub fn place(&self, name: &str) -> Option<usize>
+        ensures slot { MatchOption result (kind_at name.now (shape_in self.now.names) ≡ None)
+            (λ i. (g : Shape) → slot_in (names_of (over g self.now.names)) name.now ≡ slot (length g + i)) }
+        ensures small { IfSome result (λ i. i < 2 ^ 63) }
+    {
+        let _names = self.len();
+        self.names.get_index_of(name)
     }
 
     /// The kinds of a procedure's parameters, if it is there.

@@ -6,7 +6,8 @@
 //! side, a local's name in its own two expressions or in sight already, a procedure defined anew with other parameters, too many names, stacks,
 //! procedures or parameters, an array's length out of its range. Calls and bodies see all procedures of the cell, over the old ones. Of several
 //! faults the one that stands first in the text is told, and at one place the one with the smaller number. What passes meets the well-formedness on
-//! which the laws of `janus_meaning` stand. `cell_names` tells whether a cell names a declared name.
+//! which the laws of `janus_meaning` stand. `cell_names` tells whether a cell names a declared name. `Sight` has the names in sight, and gives each
+//! its slot: how many names stand below it. `own_of` has what a cell declares and defines itself.
 //!
 //! The rules are those of Janus (Yokoyama and Glück 2007; Yokoyama, Axelsen and Glück 2008), with this kernel's
 //! limits.
@@ -21,9 +22,10 @@ pub mod env;
 mod expression;
 pub mod fault;
 mod naming;
+mod owned;
 pub mod parameter;
 mod procedure;
-mod sight;
+pub mod sight;
 mod statement;
 
 pub use cell::check;
@@ -32,6 +34,8 @@ pub use env::{Env, Kind};
 pub use expression::check_exp;
 pub use fault::CheckFault;
 pub use naming::cell_names;
+pub use owned::own_of;
+pub use sight::Sight;
 
 /// A cell has no faults exactly where it is well formed, and so an expression: a law about the definitions of `specs/`. It does
 /// nothing.

@@ -1,11 +1,14 @@
 //! Parameters: their names and kinds, and their check.
 ghost use Rattle.std.specs.Prelude.{◌≡◌, [], map, IfOk};
 ghost use Rattle.janus_meaning.specs.Shape.{kind_at};
+ghost use Rattle.janus_meaning.specs.Syntax.{names_of};
+ghost use Rattle.janus_slots.specs.Slots.{slot, slot_in};
 ghost use Rattle.janus_syntax.specs.Tree.{name_view, parameter_view, parameters_view};
 ghost use Rattle.janus_syntax.specs.View.{name_of, plain_parameter};
 ghost use Rattle.janus_check.specs.Names.{kind_found, meant_kind, meant_kinds};
 ghost use Rattle.janus_check.specs.Fault.{first_from};
 ghost use Rattle.janus_check.specs.Check.{kinds_of, body_sight, parameter_name, parameter_faults, parameters_faults};
+ghost use Rattle.janus_check.specs.Sight.{IsSeen};
 
 use crate::env::Kind;
 use crate::fault::{CheckFault, sooner};
@@ -67,6 +70,31 @@ fn kind_among(parameters: &[Parameter], name: &Name) -> Option<Kind>
         }
     }
     None
+}
+
+/// The slot of a parameter: the first one stands on top. Those past the limit are left out.
+pub(crate) fn slot_of_parameter(parameters: &[Parameter], name: &Name) -> usize
+    requires { IsSeen (body_sight (parameters_view parameters.now)) (name_of name.now) }
+    ensures { slot_in (names_of (body_sight (parameters_view parameters.now))) (name_of name.now) ≡ slot result }
+{
+    if parameters.len() <= PARAMETER_LIMIT {
+        slot_among(parameters, name)
+    } else {
+        slot_among(&parameters[..PARAMETER_LIMIT], name)
+    }
+}
+
+/// The slot of a parameter.
+fn slot_among(parameters: &[Parameter], name: &Name) -> usize
+    requires { IsSeen (map plain_parameter (parameters_view parameters.now)) (name_of name.now) }
+    ensures { slot_in (names_of (map plain_parameter (parameters_view parameters.now))) (name_of name.now) ≡ slot result }
+{
+    for i in 0..parameters.len() {
+        if name.text == name_of_parameter(&parameters[i]).text {
+            return parameters.len() - 1 - i;
+        }
+    }
+    unreachable!()
 }
 
 /// The first fault after the name of a parameter behind others.

@@ -2,7 +2,9 @@ pub mod Cells
 pub mod Pairs
 pub mod Trees
 pub mod Flattened
-pub mod Meeting
+pub mod Seeing
+pub mod Slotting
+pub mod Agree
 pub mod Placing
 pub mod Lists
 pub mod ClosedLemmas

@@ -1,7 +1,8 @@
 pub mod Cells
 pub mod Expressions
 pub mod Numbered
-pub mod Met
+pub mod Seen
+pub mod Slotted
 pub mod Flat
 pub mod CodeBlock
 pub mod Procedures

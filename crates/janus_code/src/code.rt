@@ -5,7 +5,7 @@ ghost use Rattle.janus_code.specs.Flat.{IsDownward, IsDownward-prop};
 use janus_check::Kind;
 use janus_syntax::tree::{Operator, Update};
 
-/// A name, by its number among the names that were met.
+/// A name, by its number: that of a variable is its slot, that of a procedure its number in a table of procedures' names.
 #[derive(Clone, Copy, Drop)]
 pub struct Symbol {
     pub number: usize,
@@ -87,4 +87,18 @@ pub struct FlatProcedure {
     pub name: Symbol,
     pub parameters: Vec<FlatParameter>,
     pub body: Code,
+}
+
+/// Flat code with slots, and how many slots a table has to have for all of its numbers.
+#[derive(Drop)]
+pub struct SlottedCode {
+    pub code: Code,
+    pub width: usize,
+}
+
+/// A procedure whose code has slots, and how many slots a table has to have for all of its numbers.
+#[derive(Drop)]
+pub struct SlottedProcedure {
+    pub procedure: FlatProcedure,
+    pub width: usize,
 }

@@ -1,19 +1,24 @@
 //! From a cell to flat code.
 
-ghost use Rattle.std.specs.Prelude.{◌≡◌, ◌<◌, List, ℕ, length, slice_index_or, IfOk};
+ghost use Rattle.std.specs.Prelude.{◌≡◌, ◌<◌, ◌≤◌, ◌^◌, List, ℕ, suc, length, slice_index_or, IfOk};
 ghost use Rattle.janus_check.specs.Checked.{cell_in};
+ghost use Rattle.janus_check.specs.Sight.{in_sight, heads_seen};
 ghost use Rattle.janus_syntax.specs.View.{stm_of, block_of, plain_cell};
+ghost use Rattle.janus_slots.specs.Slots.{slot, stm_in, block_in};
 ghost use Rattle.janus_code.specs.Flat.{IsBelow, BlocksAreBelow, AreBelow, AreBelow-prop, built, ahead, tree_at, block_at};
 ghost use Rattle.janus_code.specs.CodeBlock.{code_block};
 ghost use Rattle.janus_code.specs.Grown.{Grows};
-ghost use Rattle.janus_meaning.specs.Syntax.{Name};
+ghost use Rattle.janus_meaning.specs.Syntax.{Name, names_of};
+ghost use Rattle.janus_meaning.specs.Formed.{IsBlk};
+ghost use Rattle.janus_code.specs.Expressions.{symbol_name};
 ghost use Rattle.janus_code.specs.Numbered.{StatementHasNumbers, HaveNumbers};
-ghost use Rattle.janus_code.specs.Met.{MeetsStm, MeetsBlk};
+ghost use Rattle.janus_code.specs.Seen.{SeesStm, SeesBlk};
+ghost use Rattle.janus_code.specs.Slotted.{AreSlots, HasEntries, all_slots};
 
-use crate::code::{Block, Code, Statement};
-use crate::expression::{flat_exp, symbol, symbols, two_flat_exps};
+use crate::code::{Block, Code, SlottedCode, Statement, Symbol};
+use crate::expression::{entry, slotted_exp, symbol, symbol_of, symbols, two_flat_exps};
 use crate::fault::InvertFault;
-use janus_check::Checked;
+use janus_check::{Checked, Kind, Sight};
 use janus_names::Names;
 use janus_syntax::tree::Stm;
 use std::alloc::{AllocError, Global};
@@ -23,57 +28,105 @@ use std::alloc::{AllocError, Global};
 struct Draft {
     statements: Vec<Statement>,
     members: Vec<usize>,
+    /// A table with as many slots has one for each number.
+    width: usize,
     ghost below: { AreBelow members.items statements.items } by { AreBelow-prop members.items statements.items },
 }
 
-/// The flat code of a checked cell's statements; or want of memory. All their names were met, those of locals too.
-pub fn flatten(alloc: Global, checked: &Checked, names: &Names) -> Result<Code, InvertFault>
-    requires { MeetsBlk names.now (plain_cell (cell_in checked.now)).block }
-    ensures block { IfOk result (λ code. code_block names.now code ≡ (plain_cell (cell_in checked.now)).block) }
-    ensures numbered { IfOk result (λ code. HaveNumbers names.now code.statements.items) }
+/// The flat code of a checked cell's statements, which are well formed over these names in sight; each procedure that they may call has its name in the
+/// table. The only error is want of memory, as which more names than a `usize` counts are refused too.
+pub fn flatten(
+    alloc: Global,
+    checked: &Checked,
+    sight: &Sight,
+    entries: &Names,
+) -> Result<SlottedCode, InvertFault>
+    requires formed { IsBlk (heads_seen sight.now) (in_sight sight.now) (plain_cell (cell_in checked.now)).block }
+    requires entries { HasEntries (heads_seen sight.now) entries.now }
+    ensures block { IfOk result
+        (λ slotted. (xs : List Name) → AreSlots xs → HaveNumbers xs slotted.code.statements.items →
+        code_block xs slotted.code ≡ block_in entries.now (names_of (in_sight sight.now)) (plain_cell (cell_in checked.now)).block) }
+    ensures wide { IfOk result (λ slotted. (xs : List Name) → slotted.width ≤ length xs → HaveNumbers xs slotted.code.statements.items) }
 {
-    Ok(flat_code(alloc, &checked.cell().statements, names)?)
+    Ok(flat_code(alloc, &checked.cell().statements, sight, entries)?)
 }
 
 /// The flat code of a block.
-pub(crate) fn flat_code(alloc: Global, block: &[Stm], names: &Names) -> Result<Code, AllocError>
-    requires { MeetsBlk names.now (block_of block.now) }
-    ensures block { IfOk result (λ code. code_block names.now code ≡ block_of block.now) }
-    ensures numbered { IfOk result (λ code. HaveNumbers names.now code.statements.items) }
+pub(crate) fn flat_code(
+    alloc: Global,
+    block: &[Stm],
+    sight: &Sight,
+    entries: &Names,
+) -> Result<SlottedCode, AllocError>
+    requires { SeesBlk entries.now (in_sight sight.now) (block_of block.now) }
+    ensures block { IfOk result
+        (λ slotted. (xs : List Name) → AreSlots xs → HaveNumbers xs slotted.code.statements.items →
+        code_block xs slotted.code ≡ block_in entries.now (names_of (in_sight sight.now)) (block_of block.now)) }
+    ensures wide { IfOk result (λ slotted. (xs : List Name) → slotted.width ≤ length xs → HaveNumbers xs slotted.code.statements.items) }
+    ensures sight { IfOk result (λ slotted. length (in_sight sight.now) ≤ slotted.width) }
+    ensures entries { IfOk result (λ slotted. length entries.now ≤ slotted.width) }
 {
+    let Some(count) = sight.counted() else {
+        return Err(AllocError);
+    };
     let mut draft = Draft {
         statements: Vec::new(alloc),
         members: Vec::new(alloc),
+        width: larger(count, entries.len()),
     };
-    let body = flat_block(alloc, block, names, &mut draft)?;
+    let body = flat_block(alloc, block, sight, entries, &mut draft)?;
+    number_law(draft.width);
     // Code is kept for long, so it has no room to spare.
     draft.statements.shrink_to_fit();
     draft.members.shrink_to_fit();
-    Ok(Code {
-        statements: draft.statements,
-        members: draft.members,
-        body,
+    Ok(SlottedCode {
+        code: Code {
+            statements: draft.statements,
+            members: draft.members,
+            body,
+        },
+        width: draft.width,
     })
 }
+
+/// The larger one of two.
+fn larger(one: usize, other: usize) -> usize
+    ensures one { one ≤ result }
+    ensures other { other ≤ result }
+{
+    if one < other { other } else { one }
+}
+
+/// Law: a `usize` has 64 bits.
+fn number_law(number: usize)
+    ensures { number < 2 ^ 64 }
+{}
 
 /// Adds the statements of a block.
 #[cycle(flat)]
 fn flat_block(
     alloc: Global,
     block: &[Stm],
-    names: &Names,
+    sight: &Sight,
+    entries: &Names,
     draft: &mut Draft,
 ) -> Result<Block, AllocError>
-    requires { MeetsBlk names.now (block_of block.now) }
+    requires seen { SeesBlk entries.now (in_sight sight.now) (block_of block.now) }
+    requires small { length (in_sight sight.now) < 2 ^ 64 }
+    requires sight { length (in_sight sight.now) ≤ draft.old.width }
+    requires entries { length entries.now ≤ draft.old.width }
     ensures grows { IfOk result (λ b. Grows draft.old.members.items draft.old.statements.items draft.new.members.items draft.new.statements.items) }
     ensures below { IfOk result (λ b. IsBelow draft.new.members.items (length draft.new.statements.items) b) }
     ensures block { IfOk result
-        (λ b. block_at (tree_at names.now draft.new.members.items draft.new.statements.items) draft.new.members.items b ≡ block_of block.now) }
-    ensures numbered { IfOk result (λ b. HaveNumbers names.now draft.old.statements.items → HaveNumbers names.now draft.new.statements.items) }
+        (λ b. block_at (tree_at all_slots draft.new.members.items draft.new.statements.items) draft.new.members.items b
+        ≡ block_in entries.now (names_of (in_sight sight.now)) (block_of block.now)) }
+    ensures numbered { IfOk result (λ b. (xs : List Name) → draft.new.width ≤ length xs →
+        HaveNumbers xs draft.old.statements.items → HaveNumbers xs draft.new.statements.items) }
+    ensures wider { draft.old.width ≤ draft.new.width }
 {
     let mut numbers = Vec::new(alloc);
     for i in 0..block.len() {
-        numbers.push(flat_statement(alloc, &block[i], names, draft)?)?;
+        numbers.push(flat_statement(alloc, &block[i], sight, entries, draft)?)?;
     }
     add_block(draft, &numbers)
 }
@@ -88,6 +141,7 @@ fn add_block(draft: &mut Draft, numbers: &[usize]) -> Result<Block, AllocError>
         block_at (tree_at xs draft.new.members.items draft.new.statements.items) draft.new.members.items b
         ≡ ahead (tree_at xs draft.old.members.items draft.old.statements.items) numbers.now 0 (length numbers.now)) }
     ensures statements { draft.new.statements.items ≡ draft.old.statements.items }
+    ensures width { draft.new.width ≡ draft.old.width }
 {
     let start = draft.members.len();
     draft.members.extend_from_slice(numbers)?;
@@ -97,78 +151,107 @@ fn add_block(draft: &mut Draft, numbers: &[usize]) -> Result<Block, AllocError>
     })
 }
 
+/// The symbol of a local over the names in sight, for which the width then has room. The only error is that a `usize` does not count the names with it.
+fn local(sight: &Sight, draft: &mut Draft) -> Result<Symbol, AllocError>
+    requires small { length (in_sight sight.now) < 2 ^ 64 }
+    ensures name { IfOk result (λ symbol. symbol_name all_slots symbol ≡ slot (length (names_of (in_sight sight.now)))) }
+    ensures number { IfOk result (λ symbol. symbol.number ≡ length (in_sight sight.now)) }
+    ensures small { IfOk result (λ symbol. suc (length (in_sight sight.now)) < 2 ^ 64) }
+    ensures room { IfOk result (λ symbol. suc (length (in_sight sight.now)) ≤ draft.new.width) }
+    ensures wider { draft.old.width ≤ draft.new.width }
+    ensures members { draft.new.members.items ≡ draft.old.members.items }
+    ensures statements { draft.new.statements.items ≡ draft.old.statements.items }
+{
+    let number = sight.len();
+    if number == usize::MAX {
+        return Err(AllocError);
+    }
+    draft.width = larger(draft.width, number + 1);
+    Ok(symbol_of(number))
+}
+
 /// Adds a statement, behind those of its blocks, and gives its number.
 #[cycle(flat)]
 fn flat_statement(
     alloc: Global,
     statement: &Stm,
-    names: &Names,
+    sight: &Sight,
+    entries: &Names,
     draft: &mut Draft,
 ) -> Result<usize, AllocError>
-    requires { MeetsStm names.now (stm_of statement.now) }
+    requires seen { SeesStm entries.now (in_sight sight.now) (stm_of statement.now) }
+    requires small { length (in_sight sight.now) < 2 ^ 64 }
+    requires sight { length (in_sight sight.now) ≤ draft.old.width }
+    requires entries { length entries.now ≤ draft.old.width }
     ensures grows { IfOk result (λ n. Grows draft.old.members.items draft.old.statements.items draft.new.members.items draft.new.statements.items) }
     ensures below { IfOk result (λ n. n < length draft.new.statements.items) }
-    ensures tree { IfOk result (λ n. tree_at names.now draft.new.members.items draft.new.statements.items n ≡ stm_of statement.now) }
-    ensures numbered { IfOk result (λ b. HaveNumbers names.now draft.old.statements.items → HaveNumbers names.now draft.new.statements.items) }
+    ensures tree { IfOk result
+        (λ n. tree_at all_slots draft.new.members.items draft.new.statements.items n
+        ≡ stm_in entries.now (names_of (in_sight sight.now)) (stm_of statement.now)) }
+    ensures numbered { IfOk result (λ n. (xs : List Name) → draft.new.width ≤ length xs →
+        HaveNumbers xs draft.old.statements.items → HaveNumbers xs draft.new.statements.items) }
+    ensures wider { draft.old.width ≤ draft.new.width }
 {
     match statement {
         Stm::Skip => add(draft, Statement::Skip),
         Stm::Assign(name, update, exp) => {
-            let name = symbol(names, name);
-            let exp = flat_exp(alloc, exp, names)?;
+            let name = symbol(sight, name);
+            let exp = slotted_exp(alloc, exp, sight)?;
             add(draft, Statement::Assign(name, *update, exp))
         }
         Stm::AssignElement(name, index, update, exp) => {
-            let name = symbol(names, name);
-            let (index, exp) = two_flat_exps(alloc, index, exp, names)?;
+            let name = symbol(sight, name);
+            let (index, exp) = two_flat_exps(alloc, index, exp, sight)?;
             add(draft, Statement::AssignElement(name, index, *update, exp))
         }
         Stm::Push(variable, stack) => {
-            let variable = symbol(names, variable);
-            let stack = symbol(names, stack);
+            let variable = symbol(sight, variable);
+            let stack = symbol(sight, stack);
             add(draft, Statement::Push(variable, stack))
         }
         Stm::Pop(variable, stack) => {
-            let variable = symbol(names, variable);
-            let stack = symbol(names, stack);
+            let variable = symbol(sight, variable);
+            let stack = symbol(sight, stack);
             add(draft, Statement::Pop(variable, stack))
         }
         Stm::Swap(one, other) => {
-            let one = symbol(names, one);
-            let other = symbol(names, other);
+            let one = symbol(sight, one);
+            let other = symbol(sight, other);
             add(draft, Statement::Swap(one, other))
         }
         Stm::If(test, then_part, else_part, last) => {
-            let then_part = flat_block(alloc, then_part, names, draft)?;
-            let else_part = flat_block(alloc, else_part, names, draft)?;
-            let (test, last) = two_flat_exps(alloc, test, last, names)?;
+            let then_part = flat_block(alloc, then_part, sight, entries, draft)?;
+            let else_part = flat_block(alloc, else_part, sight, entries, draft)?;
+            let (test, last) = two_flat_exps(alloc, test, last, sight)?;
             add(draft, Statement::If(test, then_part, else_part, last))
         }
         Stm::Loop(entry, do_part, loop_part, exit) => {
-            let do_part = flat_block(alloc, do_part, names, draft)?;
-            let loop_part = flat_block(alloc, loop_part, names, draft)?;
-            let (entry, exit) = two_flat_exps(alloc, entry, exit, names)?;
+            let do_part = flat_block(alloc, do_part, sight, entries, draft)?;
+            let loop_part = flat_block(alloc, loop_part, sight, entries, draft)?;
+            let (entry, exit) = two_flat_exps(alloc, entry, exit, sight)?;
             add(draft, Statement::Loop(entry, do_part, loop_part, exit))
         }
         Stm::LocalInt(name, first, block, _, last) => {
-            let block = flat_block(alloc, block, names, draft)?;
-            let name = symbol(names, name);
-            let (first, last) = two_flat_exps(alloc, first, last, names)?;
-            add(draft, Statement::LocalInt(name, first, block, last))
+            let symbol = local(sight, draft)?;
+            let inside = Sight::Local(&*name, Kind::Number, &*sight);
+            let block = flat_block(alloc, block, &inside, entries, draft)?;
+            let (first, last) = two_flat_exps(alloc, first, last, sight)?;
+            add(draft, Statement::LocalInt(symbol, first, block, last))
         }
         Stm::LocalStack(name, block, _) => {
-            let block = flat_block(alloc, block, names, draft)?;
-            let name = symbol(names, name);
-            add(draft, Statement::LocalStack(name, block))
+            let symbol = local(sight, draft)?;
+            let inside = Sight::Local(&*name, Kind::Stack, &*sight);
+            let block = flat_block(alloc, block, &inside, entries, draft)?;
+            add(draft, Statement::LocalStack(symbol, block))
         }
         Stm::Call(called, arguments) => {
-            let called = symbol(names, called);
-            let arguments = symbols(alloc, names, arguments)?;
+            let called = entry(entries, called);
+            let arguments = symbols(alloc, sight, arguments)?;
             add(draft, Statement::Call(called, arguments))
         }
         Stm::Uncall(called, arguments) => {
-            let called = symbol(names, called);
-            let arguments = symbols(alloc, names, arguments)?;
+            let called = entry(entries, called);
+            let arguments = symbols(alloc, sight, arguments)?;
             add(draft, Statement::Uncall(called, arguments))
         }
     }
@@ -183,6 +266,7 @@ fn add(draft: &mut Draft, statement: Statement) -> Result<usize, AllocError>
         (λ n. (xs : List Name) →
         tree_at xs draft.new.members.items draft.new.statements.items n
         ≡ built xs (tree_at xs draft.old.members.items draft.old.statements.items) draft.old.members.items statement) }
+    ensures width { draft.new.width ≡ draft.old.width }
     ensures numbered { IfOk result
         (λ n. (xs : List Name) → HaveNumbers xs draft.old.statements.items → StatementHasNumbers xs statement → HaveNumbers xs draft.new.statements.items) }
 {

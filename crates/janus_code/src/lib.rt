@@ -1,10 +1,10 @@
 //! Flat code, closed procedures, and inverse cells.
 //!
 //! To the layer above it promises that `invert` gives the inverse of a cell's statements, that `closed` gives a procedure with its local's
-//! name behind each `delocal`, that flat code stands for one block over a table of names, that `flatten` gives code that stands for the cell's block, and
-//! `flatten_procedure` a procedure whose code stands for its body. `janus_invert` has the inverse of flat code; what it makes of copied
-//! expressions is copied here, where they stand. In flat code the number under which a name was met stands for it, that of a variable or of
-//! a procedure, so that what runs compares no text. What code means is told over the table of names that were met.
+//! name behind each `delocal`, that flat code stands for one block over a table of names, that `flatten` gives code that over a table of slots stands for
+//! the cell's block with slots in place of names, and `flatten_procedure` a procedure whose code stands for its body so. `janus_invert` has the inverse of
+//! flat code; what it makes of copied expressions is copied here, where they stand. In flat code a variable's slot stands for it, and for a procedure its
+//! number in a table of procedures' names, so that what runs compares no text. What code means is told over a table of names.
 //! The inverse of a statement is that of Yokoyama and Glück (2007), "A reversible programming language and its invertible
 //! self-interpreter": `+=` and `-=` exchange, `^=` stays; an `if` exchanges its test and its assertion, a loop its entry and its
 //! exit, and their blocks stay where they are, each inverted; `skip` and a swap stay; `push` and `pop`, `call` and `uncall` exchange, a
@@ -23,7 +23,10 @@ mod inverse;
 mod procedure;
 mod statements;
 
-pub use crate::code::{Block, Code, FlatExp, FlatParameter, FlatProcedure, Statement, Symbol};
+pub use crate::code::{
+    Block, Code, FlatExp, FlatParameter, FlatProcedure, SlottedCode, SlottedProcedure, Statement,
+    Symbol,
+};
 pub use crate::expression::flat_exp;
 pub use crate::fault::InvertFault;
 pub use crate::flat::flatten;

@@ -15,8 +15,9 @@ number_opened x a s = and_then (value a s) (λ v. Fine (Slot x (Num v) s))
 abbrev pub stack_opened : ℕ → Name → Store → Res Store
 stack_opened n x s = and_then (stack_room n) (λ ok. Fine (Slot x (Stk []) s))
 
--- the declared names stay, each name its number, and the open calls with all that they left behind
+-- the declared names stay with their texts, each name its number, and the open calls with all that they left behind
 pub record KeepsNames (old new : StoreState) : Type 0 where
   pub declared : new.declared ≡ old.declared
+  pub texts : new.texts ≡ old.texts
   pub names : new.names ≡ old.names
   pub callers : new.callers ≡ old.callers

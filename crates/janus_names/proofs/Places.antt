@@ -1,5 +1,5 @@
 -- Where a name stands among keys.
-use Rattle.std.proofs.Common.{◌≡◌, ℕ, zero, suc, ◌<◌, Bool, true, false, List, [], ◌∷◌, ◌++◌, Option, Some, None, IfSome, map, length, slice_get, string_bytes, cond, refl, ap, ◌∙◌, sym, subst, arith, position, ⊎_elim, ◌⊎◌, inl, inr}
+use Rattle.std.proofs.Common.{◌≡◌, ℕ, zero, suc, ◌<◌, Bool, true, false, List, [], ◌∷◌, ◌++◌, Option, Some, None, IfSome, map, length, slice_get, string_bytes, cond, take, refl, ap, ◌∙◌, sym, subst, arith, position, ⊎_elim, ◌⊎◌, inl, inr}
 use Rattle.std.specs.Prelude.{◌||◌, if◌then◌else◌}
 use Rattle.std.specs.List.{list_any}
 use Rattle.std.specs.Str.{bytes_eq}
@@ -112,3 +112,14 @@ no_key k (j ∷ ks) h =
 -- a key that wasn't there goes last
 pub inserted_last : {Y : Type 0} (ks more : List (String Y)) (k : String Y) → IsUnmet (map string_bytes ks) (string_bytes k) → more ≡ insert_key string_eq ks k → map string_bytes more ≡ map string_bytes ks ++ string_bytes k ∷ []
 inserted_last ks more k h e = ap (map string_bytes) (e ∙ ap (λ b. if b then ks else ks ++ k ∷ []) (no_key k ks h)) ∙ map-append string_bytes ks (k ∷ [])
+
+-- ---- the newest names taken away
+
+taken_number : (xs : List Name) (n k : ℕ) (x : Name) → IsNumbered (take n xs) k x → IsNumbered xs k x
+taken_number xs zero k x e = let bad : None ≡ Some x = sym (slice_get_past [] k (omega arith)) ∙ e in cc
+taken_number [] (suc n) k x e = e
+taken_number (y ∷ xs) (suc n) zero x e = e
+taken_number (y ∷ xs) (suc n) (suc k) x e = taken_number xs n k x e
+
+pub fewer_names : (xs : List Name) (n : ℕ) → HaveOneNumber xs → HaveOneNumber (take n xs)
+fewer_names xs n h j k x e f = h j k x (taken_number xs n j x e) (taken_number xs n k x f)

@@ -1,13 +1,13 @@
 //! The table of names.
 
-ghost use Rattle.std.specs.Prelude.{◌≡◌, ◌<◌, ◌++◌, ◌∷◌, [], length, string_bytes, None, IfSome, IfOk, OnOk, OnErr};
+ghost use Rattle.std.specs.Prelude.{◌≡◌, ◌<◌, ◌++◌, ◌∷◌, [], length, take, string_bytes, None, IfSome, IfOk, OnOk, OnErr};
 ghost use Rattle.janus_names.specs.Numbers.{IsNumbered, IsUnmet, Adds, HaveOneNumber};
 
 use indexmap::IndexSet;
 use std::alloc::{AllocError, Global};
 use std::marker::Model;
 
-/// The names that were met. Contracts see them in a row, each at its number.
+/// A table of names. Contracts see them in a row, each at its number.
 #[derive(Drop)]
 pub struct Names {
     names: IndexSet<String>,
@@ -41,7 +41,14 @@ impl Names {
         self.names.len()
     }
 
-    /// The number of a name, if it was met.
+    /// Law: no name has two numbers.
+    pub fn one_number_law(&self)
+        ensures { HaveOneNumber self.now }
+    {
+        let _names = &self.names;
+    }
+
+    /// The number of a name, if it is there.
     pub fn number(&self, name: &str) -> Option<usize>
         ensures met { IfSome result (λ number. IsNumbered self.now number name.now) }
         ensures unmet { result ≡ None → IsUnmet self.now name.now }
@@ -60,7 +67,7 @@ impl Names {
         }
     }
 
-    /// The number of a name, which is added if it wasn't met; an error for want of memory leaves the table.
+    /// The number of a name, which is added if it isn't there; an error for want of memory leaves the table.
     pub fn add(&mut self, name: &str) -> Result<usize, AllocError>
         ensures numbered { IfOk result (λ number. IsNumbered self.new number name.now) }
         // It had one, or it is the last one now.
@@ -75,7 +82,15 @@ impl Names {
         self.add_new(text)
     }
 
-    /// The number of a name that wasn't met, and is added; an error for want of memory leaves the table.
+    /// Takes the newest names away: the oldest ones stay, as many as are told.
+    pub fn truncate(&mut self, len: usize)
+        ensures names { self.new ≡ take len self.old }
+        ensures one_number { HaveOneNumber self.new }
+    {
+        self.names.truncate(len);
+    }
+
+    /// The number of a name that isn't there, and is added; an error for want of memory leaves the table.
     fn add_new(&mut self, name: String) -> Result<usize, AllocError>
         requires { IsUnmet self.old (string_bytes name) }
         ensures ok { IfOk result (λ number. number ≡ length self.old) }

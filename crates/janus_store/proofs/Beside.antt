@@ -24,12 +24,12 @@ use Rattle.janus_store.proofs.Standing.{place_fits, value_is, set_written, set_h
 
 -- ---- more and fewer
 
-module _ (lists : List (List ℤ)) (few more all : List ℤ) (is : all ≡ few ++ more) where
+module _ (texts : List Name) (lists : List (List ℤ)) (few more all : List ℤ) (is : all ≡ few ++ more) where
   abbrev pub short : Holdings
-  short = record { lists = lists; numbers = few }
+  short = record { lists = lists; numbers = few; texts = texts }
 
   abbrev pub long : Holdings
-  long = record { lists = lists; numbers = all }
+  long = record { lists = lists; numbers = all; texts = texts }
 
   same_number : (q : ℕ) → q < length few → slice_index_or few q (pos 0) ≡ slice_index_or all q (pos 0)
   same_number q lt = sym (ap (λ l. slice_index_or l q (pos 0)) is ∙ get_or_append_left few more (pos 0) q lt)
@@ -42,7 +42,7 @@ module _ (lists : List (List ℤ)) (few more all : List ℤ) (is : all ≡ few +
     pub same_beside : held_in short xs d vs cs ≡ held_in long xs d vs cs
     same_beside =
         held_is _ _ (same_sight (value_at short vs) (value_at long vs) (length vs) (here (bounds xs [] vs) (length vs) cs) (around (bounds xs [] vs) (length vs) cs) nested below)
-        refl refl (callers_below (value_at short vs) (value_at long vs) (length vs) (here (bounds xs [] vs) (length vs) cs) (around (bounds xs [] vs) (length vs) cs) nested below)
+        refl refl refl (callers_below (value_at short vs) (value_at long vs) (length vs) (here (bounds xs [] vs) (length vs) cs) (around (bounds xs [] vs) (length vs) cs) nested below)
 
 held_moved : (one other : Holdings) (xs : List Name) (ns : List ℕ) (vs : List Variable) (d : ℕ) (cs : List Call) → IsHeld one xs ns vs d cs → held_in one xs d vs cs ≡ held_in other xs d vs cs → IsHeld other xs ns vs d cs
 held_moved one other xs ns vs d cs h same =
@@ -57,12 +57,24 @@ held_moved one other xs ns vs d cs h same =
       calls = h.calls;
     }
 
-module _ (lists : List (List ℤ)) (few more all : List ℤ) (is : all ≡ few ++ more) (xs : List Name) (ns : List ℕ) (vs : List Variable) (d : ℕ) (cs : List Call) (fits : length vs ≤ length few) where
-  pub held_longer : IsHeld (short lists few more all is) xs ns vs d cs → IsHeld (long lists few more all is) xs ns vs d cs
-  held_longer h = held_moved _ _ xs ns vs d cs h (same_beside lists few more all is xs d vs cs h.nested fits)
+module _ (texts : List Name) (lists : List (List ℤ)) (few more all : List ℤ) (is : all ≡ few ++ more) (xs : List Name) (ns : List ℕ) (vs : List Variable) (d : ℕ) (cs : List Call) (fits : length vs ≤ length few) where
+  pub held_longer : IsHeld (short texts lists few more all is) xs ns vs d cs → IsHeld (long texts lists few more all is) xs ns vs d cs
+  held_longer h = held_moved _ _ xs ns vs d cs h (same_beside texts lists few more all is xs d vs cs h.nested fits)
 
-  pub held_shorter : IsHeld (long lists few more all is) xs ns vs d cs → IsHeld (short lists few more all is) xs ns vs d cs
-  held_shorter h = held_moved _ _ xs ns vs d cs h (sym (same_beside lists few more all is xs d vs cs h.nested fits))
+  pub held_shorter : IsHeld (long texts lists few more all is) xs ns vs d cs → IsHeld (short texts lists few more all is) xs ns vs d cs
+  held_shorter h = held_moved _ _ xs ns vs d cs h (sym (same_beside texts lists few more all is xs d vs cs h.nested fits))
+
+-- other texts
+pub other_texts : (lists : List (List ℤ)) (numbers : List ℤ) (ls ms xs : List Name) (ns : List ℕ) (vs : List Variable) (d : ℕ) (cs : List Call) → IsHeld (record { lists = lists; numbers = numbers; texts = ls }) xs ns vs d cs → IsHeld (record { lists = lists; numbers = numbers; texts = ms }) xs ns vs d cs
+other_texts lists numbers ls ms xs ns vs d cs h = record {
+  one_number = h.one_number;
+  row = h.row;
+  nested = h.nested;
+  declared = h.declared;
+  few = h.few;
+  short = h.short;
+  calls = h.calls;
+}
 
 -- the last one
 pub last_number : (few all : List ℤ) (n : ℤ) (p : ℕ) → all ≡ few ++ n ∷ [] → length few ≡ p → slice_index_or all p (pos 0) ≡ n
@@ -104,7 +116,7 @@ module _ (pool : Holdings) (xs : List Name) (ns : List ℕ) (vs : List Variable)
   -- another number there
   module _ (m : ℤ) (after : List ℤ) (is : after ≡ set pool.numbers p m) (fits : p < length pool.numbers) where
     abbrev pub other : Holdings
-    other = record { lists = pool.lists; numbers = after }
+    other = record { lists = pool.lists; numbers = after; texts = pool.texts }
 
     others : (q : ℕ) → nat_eq q p ≡ false → value_at pool vs q ≡ value_at other vs q
     others q ne =
@@ -132,7 +144,7 @@ module _ (pool : Holdings) (xs : List Name) (ns : List ℕ) (vs : List Variable)
 
     pub number_like : IsLike H (held_in other xs d vs cs)
     number_like = subst (λ (vs : List Variable). IsLike H (held_in other xs d vs cs)) stays
-        (set_like pool xs ns vs d cs h H view k x (Num n) p w e f q read other others w.value shape)
+        (set_like pool xs ns vs d cs h H view k x (Num n) p w e f q read other others w.value shape refl)
 
     pub number_live : live_stacks (held_in other xs d vs cs) ≡ live_stacks H
     number_live =

@@ -5,6 +5,9 @@ pub mod Indexes
 pub mod Numbers
 pub mod Laid
 pub mod Grown
+pub mod Slots
+pub mod Reached
+pub mod Told
 pub mod Oldest
 pub mod Elements
 pub mod Counted

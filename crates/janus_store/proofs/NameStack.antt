@@ -111,7 +111,7 @@ module _ (pool : Holdings) (xs : List Name) (ns : List ℕ) (vs : List Variable)
     -- another list there
     module _ (once : times i (stacks_of vs) ≤ 1) (after : List (List ℤ)) (is : after ≡ set pool.lists i (list_of after i)) where
       abbrev pub other : Holdings
-      other = record { lists = after; numbers = pool.numbers }
+      other = record { lists = after; numbers = pool.numbers; texts = pool.texts }
 
       others : (q : ℕ) → nat_eq q s.0 ≡ false → value_at pool vs q ≡ value_at other vs q
       others q ne = others_read pool.lists i (list_of after i) (slice_index_or pool.numbers q (pos 0)) vs s.0 s.1 s.3 s.4 once q (eqb-false q s.0 ne) ∙ ap (λ ls. plain_of ls (slice_index_or pool.numbers q (pos 0)) (slice_index_or vs q no_variable).value) (sym is)
@@ -134,7 +134,7 @@ module _ (pool : Holdings) (xs : List Name) (ns : List ℕ) (vs : List Variable)
 
       pub stack_like : IsLike H (held_in other xs d vs cs)
       stack_like = subst (λ (vs : List Variable). IsLike H (held_in other xs d vs cs)) stays
-          (set_like pool xs ns vs d cs h H view k x (Stk l) s.0 s.1 e f s.2 (read_back vs s.0 s.1 s.3) other others s.1.value shape)
+          (set_like pool xs ns vs d cs h H view k x (Stk l) s.0 s.1 e f s.2 (read_back vs s.0 s.1 s.3) other others s.1.value shape refl)
 
       pub stack_live : live_stacks (held_in other xs d vs cs) ≡ live_stacks H
       stack_live =

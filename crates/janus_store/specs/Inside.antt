@@ -5,7 +5,7 @@ use Rattle.janus_meaning.specs.Limit.{live_stack_limit, parameter_limit}
 use Rattle.janus_meaning.specs.Syntax.{Name}
 use Rattle.cell_pool.specs.Chains.{times}
 use Rattle.janus_names.specs.Numbers.{HaveOneNumber}
-use Rattle.janus_store.specs.StoreState.{StoreState, Caller, local_limit, call_limit, bound_limit, params_bound, live_stacks, values_held}
+use Rattle.janus_store.specs.StoreState.{StoreState, Caller, local_limit, call_limit, bound_limit, params_bound, live_stacks, values_held, slots_below}
 use Rattle.janus_store.specs.Bounds.{Bound, Level, seen, all_of, callers_of, AreNested}
 use Rattle.janus_store.specs.Places.{marks_of, lengths_before, AreSorted, AreCounted}
 use Rattle.janus_store.specs.Plain.{Plain}
@@ -16,7 +16,7 @@ use Rattle.janus_store.specs.declared.store.Variable.{Variable}
 use Rattle.janus_store.specs.declared.store.Call.{Call}
 use Rattle.janus_store.specs.declared.store.Store.TheInside.{Inside}
 
--- a variable's name, among the names that were met
+-- a variable's name, among the names that have a number
 abbrev pub name_among : List Name → Variable → Name
 name_among xs v = slice_index_or xs v.name []
 
@@ -64,16 +64,21 @@ abbrev pub held_in : Holdings → List Name → ℕ → List Variable → List C
 held_in held xs d vs cs = record {
   sight = seen (value_at held vs) [] (all_of (here (bounds xs [] vs) (length vs) cs));
   declared = d;
+  texts = held.texts;
   names = xs;
   callers = callers_of (value_at held vs) (here (bounds xs [] vs) (length vs) cs).params (around (bounds xs [] vs) (length vs) cs);
 }
 
--- what the values of a store rest on
+-- what a store has beside its variables
 abbrev pub holdings : {L : Type 0} → Inside L → Holdings
-holdings a = record { lists = a.stacks.lists; numbers = a.numbers.items }
+holdings a = record { lists = a.stacks.lists; numbers = a.numbers.items; texts = a.texts }
+
+-- the names that have a number: as many slots as there are places of numbers
+abbrev pub slots_of : {L : Type 0} → Inside L → List Name
+slots_of a = slots_below (length a.newest.items)
 
 abbrev pub held_of : {L : Type 0} → Inside L → StoreState
-held_of a = held_in (holdings a) a.names a.declared a.variables.items (reverse a.calls.items)
+held_of a = held_in (holdings a) (slots_of a) a.declared a.variables.items (reverse a.calls.items)
 
 -- ---- the places of numbers
 
@@ -139,13 +144,19 @@ pub record IsHeld (held : Holdings) (xs : List Name) (ns : List ℕ) (vs : List 
   pub short : AreShort (held_in held xs d vs cs).callers
   pub calls : length cs ≤ call_limit
 
--- Each stack that may live is a variable's or a spare one, and no two of these are one. What the pool holds are the values of the live
--- stacks. Beside each variable stands a number. There is room for all locals, calls and parameters that may be. The places of the values
--- of each kind are kept apart.
-pub record IsKept {L : Type 0} (a : Inside L) : Type 0 where
-  pub held : IsHeld (holdings a) a.names a.newest.items a.variables.items a.declared (reverse a.calls.items)
-  pub stacks : length a.stacks.spare + live_stacks (held_of a) ≡ live_stack_limit
-  pub values : total a.stacks.lists ≡ values_held (held_of a)
+-- The declared variables have their numbers in order, and each has a text, of which no two are one.
+pub record AreTold (texts : List Name) (d : ℕ) (vs : List Variable) : Type 0 where
+  pub one_text : HaveOneNumber texts
+  pub many : length texts ≡ d
+  pub numbers : (i : ℕ) (v : Variable) → i < d → slice_get vs i ≡ Some v → v.name ≡ i
+
+-- The names xs have the numbers. Each stack that may live is a variable's or a spare one, and no two of these are one. What the pool holds
+-- are the values of the live stacks. Beside each variable stands a number. There is room for all locals, calls and parameters that may be.
+-- The places of the values of each kind are kept apart.
+pub record IsKept {L : Type 0} (xs : List Name) (a : Inside L) : Type 0 where
+  pub held : IsHeld (holdings a) xs a.newest.items a.variables.items a.declared (reverse a.calls.items)
+  pub stacks : length a.stacks.spare + live_stacks (held_in (holdings a) xs a.declared a.variables.items (reverse a.calls.items)) ≡ live_stack_limit
+  pub values : total a.stacks.lists ≡ values_held (held_in (holdings a) xs a.declared a.variables.items (reverse a.calls.items))
   pub apart : (i : ℕ) → times i a.stacks.spare + times i (stacks_of a.variables.items) ≤ 1
   pub known : (i : ℕ) → live_stack_limit ≤ i → times i a.stacks.spare + times i (stacks_of a.variables.items) ≡ 0
   pub beside : length a.numbers.items ≡ length a.variables.items
@@ -156,3 +167,4 @@ pub record IsKept {L : Type 0} (a : Inside L) : Type 0 where
   pub counted : AreCounted (marks_of a.variables.items) (reverse a.calls.items)
   pub places_room : a.declared + local_limit + bound_limit ≤ a.places.room
   pub in_front : a.in_front ≡ lengths_before (reverse a.calls.items)
+  pub told : AreTold a.texts a.declared a.variables.items

@@ -1,17 +1,18 @@
-//! The declared names with their values, in the order of declaration, the locals above them, and the numbers of names.
+//! The declared names with their values and texts, in the order of declaration, and the locals above them, found by numbers.
 
 ghost use Rattle.std.specs.Prelude.{◌≡◌, ℤ, ℕ, suc, ◌+◌, ◌-◌, List, [], ◌∷◌, ◌++◌, pos, ◌<◌, ◌≤◌, length, vec_len, vec_capacity, slice_set, slice_index};
 ghost use Rattle.std.specs.Prelude.{IsTrue, ◌↔◌, IfOk, OnOk, OnErr, slice_get, Some};
-ghost use Rattle.std.specs.Prelude.{◌^◌, take, reverse, slice_index_or};
+ghost use Rattle.std.specs.Prelude.{◌^◌, take, reverse, replicate, slice_index_or};
 ghost use Rattle.janus_meaning.specs.Syntax.{Name};
 ghost use Rattle.janus_meaning.specs.Fault.{Fine, Bad, Broken, IndexRange, TopEmpty, and_then};
 ghost use Rattle.janus_meaning.specs.Store.{Store as Values, Slot, Num, Arr, Stk, look, number, element, set_element, zeros, cleared_val};
 ghost use Rattle.janus_meaning.specs.Limit.{live_stack_limit, value_limit};
 ghost use Rattle.janus_meaning.specs.Value.{first, is_none};
 ghost use Rattle.janus_meaning.specs.World.{size_of, listed, stacks_in, stacks_with};
-ghost use Rattle.janus_names.specs.Numbers.{GoOn, IsMet, HaveOneNumber};
+ghost use Rattle.janus_names.specs.Numbers.{GoOn, IsUnmet, HaveOneNumber};
+ghost use Rattle.janus_slots.specs.Slots.{slot, names_in, in_slots};
 ghost use Rattle.janus_store.specs.StoreState.{IsName, IsWhole, IsInSight, HasLocal, HasLocalRoom, shown_store, live_stacks, empty_state, Declares};
-ghost use Rattle.janus_store.specs.StoreState.{values_held, KeepsSight, IsLike, AreKnown, opened, with_sight};
+ghost use Rattle.janus_store.specs.StoreState.{values_held, KeepsSight, IsLike, AreKnown, AreSlots, declared_store, opened, with_sight};
 ghost use Rattle.janus_store.specs.Calls.{AreNamed, CanLend, HasCallRoom, HasParametersAlone, IsEntered, IsLeft};
 ghost use Rattle.janus_store.specs.Values.{first_of, val_in, number_in, shown, found, read_or};
 ghost use Rattle.janus_store.specs.Stores.{IsFirstOnTop, IsNumber, IsArray, IsStack, IsHeldStack, HasElementAt, rest_of, write};
@@ -35,7 +36,7 @@ use std::sync::ledger::Ledger;
 /// A name with its value.
 #[derive(Drop)]
 struct Variable {
-    /// The number of its name.
+    /// The number of its name: for a declared one how many were declared before it.
     name: usize,
     /// The place behind the older variable of this name that it hides, or 0.
     hidden: usize,
@@ -55,11 +56,12 @@ struct Call {
     lengths: Lengths,
 }
 
-/// The declared names, the open locals and the bound parameters with their values, the numbers of all names that were met, and the memory
-/// of all stacks, locals and parameters that may live. Each write is counted in the store's own ledger.
+/// The declared names with their texts, the open locals and the bound parameters with their values, and the memory of all stacks, locals and
+/// parameters that may live. Each write is counted in the store's own ledger.
 #[derive(Drop)]
 pub struct Store<L: Ledger> {
-    names: Names,
+    /// The texts of the declared names, in the order of declaration.
+    texts: Names,
     /// The declared ones in the order of declaration, and behind them locals; then for each open call its parameters and its locals.
     variables: Vec<Variable>,
     /// Beside each variable the number that it has, where it has one of its own.
@@ -86,11 +88,11 @@ impl<L: Ledger> Model for Store<L> {
 
     ghost coded = { held_code };
 
-    ghost use Rattle.janus_store.specs.Inside.{held_of, IsKept};
+    ghost use Rattle.janus_store.specs.Inside.{held_of, slots_of, IsKept};
 
     ghost view = { held_of };
 
-    ghost invariant = { IsKept };
+    ghost invariant = { λ a. IsKept (slots_of a) a };
 }
 
 impl<L: Ledger> Store<L> {
@@ -108,7 +110,7 @@ impl<L: Ledger> Store<L> {
         let calls = Vec::with_capacity(alloc, CALL_LIMIT)?;
         let places = Places::new(alloc, NAME_LIMIT + LOCAL_LIMIT + BOUND_LIMIT)?;
         Ok(Store {
-            names: Names::new(alloc),
+            texts: Names::new(alloc),
             variables,
             numbers,
             calls,
@@ -140,27 +142,37 @@ impl<L: Ledger> Store<L> {
         self.len() == 0
     }
 
-    /// The names that were met, each with its number. All names in sight are among them.
-    pub fn names(&self) -> &Names
-        ensures names { result.now ≡ self.now.names }
+    /// The texts of the declared names, each at the number of its name.
+    pub fn texts(&self) -> &Names
+        ensures { result.now ≡ self.now.texts }
+    {
+        &self.texts
+    }
+
+    /// What is true of the names of each store: they are slots, among which are all names in sight, and each declared name has a text of its
+    /// own, under which it is shown, and stands in its slot. It does nothing.
+    pub fn slots_law(&self)
         ensures known { AreKnown self.now }
         ensures one_number { HaveOneNumber self.now.names }
+        ensures slots { AreSlots self.now.names }
+        ensures many { length self.now.texts ≡ self.now.declared }
+        ensures one_text { HaveOneNumber self.now.texts }
+        ensures shown { names_in (shown_store self.now) ≡ reverse self.now.texts }
+        ensures unmet { (x : Name) → look x (shown_store self.now) ≡ Bad Broken → IsUnmet self.now.texts x }
+        ensures slotted { in_slots (shown_store self.now) ≡ declared_store self.now }
+        ensures declared { in_slots (declared_store self.now) ≡ declared_store self.now }
+        ensures whole { self.now.declared ≡ size_of self.now.sight → self.now.callers ≡ [] → IsWhole self.now }
     {
-        &self.names
+        let _declared = self.declared;
     }
 
     /// The value of a name, if it is declared; locals and parameters are out of this sight.
     pub fn value(&self, name: &str) -> Option<ValueView<'_>>
         ensures { found result ≡ look name.now (shown_store self.now) }
     {
-        let Some(number) = self.names.number(name) else {
+        let Some(at) = self.texts.number(name) else {
             return None;
         };
-        let behind = place_below(&self.newest, &self.variables, self.declared, number);
-        if behind == 0 {
-            return None;
-        }
-        let at = behind - 1;
         Some(
             self.variables[at]
                 .value
@@ -175,7 +187,7 @@ impl<L: Ledger> Store<L> {
     {
         let variable = &self.variables[i];
         (
-            self.names.name(variable.name),
+            self.texts.name(i),
             variable.value.view(beside(&self.numbers, i), &self.stacks),
         )
     }
@@ -262,37 +274,31 @@ impl<L: Ledger> Store<L> {
         self.stacks.len()
     }
 
-    /// Gives a name a number, if it has none. An error for want of memory leaves the store.
-    pub fn meet(&mut self, name: &str) -> Result<(), AllocError>
-        ensures met { IfOk result (λ _. IsMet self.new.names name.now) }
+    /// Makes room for the numbers below `count`, so that each of them has a name. An error for want of memory leaves what is declared.
+    pub fn reach(&mut self, count: usize) -> Result<(), AllocError>
+        ensures reached { OnOk result (count ≤ length self.new.names) }
         ensures goes_on { GoOn self.old.names self.new.names }
-        ensures one_number { HaveOneNumber self.new.names }
         ensures same { self.new ≡ record self.old { names = self.new.names } }
     {
-        let _number = self.number_of(name)?;
-        Ok(())
+        reach_in(&mut self.newest, count)
     }
 
-    /// The number of a name, which is given one if it has none. An error for want of memory leaves the store.
-    fn number_of(&mut self, name: &str) -> Result<usize, AllocError>
-        ensures number { IfOk result (λ number. IsName self.new number name.now) }
+    /// The number of the name that is declared next, for which there is room then. An error for want of memory leaves what is declared.
+    fn next_number(&mut self) -> Result<usize, AllocError>
+        ensures number { IfOk result (λ number. number ≡ self.old.declared) }
+        ensures reached { IfOk result (λ number. IsName self.new number (slot number)) }
         ensures goes_on { GoOn self.old.names self.new.names }
         ensures one_number { HaveOneNumber self.new.names }
         ensures same { self.new ≡ record self.old { names = self.new.names } }
-        ensures err { OnErr result (self.new ≡ self.old) }
     {
-        let Store { names, newest, .. } = self;
-        newest.reserve(1)?;
-        let number = names.add(name)?;
-        if number == newest.len() {
-            newest.push_reserved(0);
-        }
+        let number = self.declared;
+        reach_in(&mut self.newest, number + 1)?;
         Ok(number)
     }
 
     /// Declares a number, which is 0 then. An error for want of memory leaves what is declared.
     pub fn declare(&mut self, name: &str) -> Result<(), AllocError>
-        requires absent { look name.now self.old.sight ≡ Bad Broken }
+        requires absent { IsUnmet self.old.texts name.now }
         requires whole { IsWhole self.old }
         ensures ok { OnOk result (Declares self.old self.new name.now (Num (pos 0))) }
         ensures err { OnErr result (KeepsSight self.old self.new) }
@@ -303,7 +309,7 @@ impl<L: Ledger> Store<L> {
 
     /// Declares an array of this length, whose elements are 0 then. An error for want of memory leaves what is declared.
     pub fn declare_array(&mut self, name: &str, length: usize) -> Result<(), AllocError>
-        requires absent { look name.now self.old.sight ≡ Bad Broken }
+        requires absent { IsUnmet self.old.texts name.now }
         requires whole { IsWhole self.old }
         ensures ok { OnOk result (Declares self.old self.new name.now (Arr (zeros length))) }
         ensures err { OnErr result (KeepsSight self.old self.new) }
@@ -317,7 +323,7 @@ impl<L: Ledger> Store<L> {
     /// Declares a stack, which is empty then, where fewer than 64 live. Its own memory was taken with the store; an error for want of
     /// memory leaves what is declared.
     pub fn declare_stack(&mut self, name: &str) -> Result<(), AllocError>
-        requires absent { look name.now self.old.sight ≡ Bad Broken }
+        requires absent { IsUnmet self.old.texts name.now }
         requires whole { IsWhole self.old }
         requires room { stacks_in self.old.sight < live_stack_limit }
         ensures ok { OnOk result (Declares self.old self.new name.now (Stk [])) }
@@ -329,24 +335,25 @@ impl<L: Ledger> Store<L> {
 
     /// Declares a name with the value that it begins with; an error for want of memory leaves what is declared.
     fn add(&mut self, name: &str, declared: Declared) -> Result<(), AllocError>
-        requires absent { look name.now self.old.sight ≡ Bad Broken }
+        requires absent { IsUnmet self.old.texts name.now }
         requires whole { IsWhole self.old }
         requires room { first_of declared ≡ Stk [] → stacks_in self.old.sight < live_stack_limit }
         ensures ok { OnOk result (Declares self.old self.new name.now (first_of declared)) }
         ensures err { OnErr result (KeepsSight self.old self.new) }
         ensures one_number { HaveOneNumber self.new.names }
     {
-        let name = self.number_of(name)?;
+        let number = self.next_number()?;
         self.variables.reserve(LOCAL_LIMIT + BOUND_LIMIT + 1)?;
         self.numbers.reserve(LOCAL_LIMIT + BOUND_LIMIT + 1)?;
         self.places
             .reserve(self.variables.len() + LOCAL_LIMIT + BOUND_LIMIT + 1)?;
+        let _text = self.texts.add(name)?;
         let value = first_value(&mut self.stacks, declared);
         put_own(
             &mut self.newest,
             &mut self.variables,
             &mut self.places,
-            name,
+            number,
             value,
         );
         self.numbers.push_reserved(0);
@@ -354,11 +361,17 @@ impl<L: Ledger> Store<L> {
         Ok(())
     }
 
-    /// Takes the newest name away, which has the value that it was declared with. No local and no call is open.
+    /// Takes the newest name away with its text, which has the value that it was declared with. No local and no call is open.
     pub fn retire(&mut self)
         requires first { IsFirstOnTop self.old.sight }
         requires whole { IsWhole self.old }
-        ensures { self.new ≡ record { sight = rest_of self.old.sight; declared = self.old.declared - 1; names = self.old.names; callers = [] } }
+        ensures { self.new ≡ record {
+          sight = rest_of self.old.sight;
+          declared = self.old.declared - 1;
+          texts = take (self.old.declared - 1) self.old.texts;
+          names = self.old.names;
+          callers = [];
+        } }
     {
         let Variable { value, .. } = remove_own(
             &mut self.newest,
@@ -368,6 +381,7 @@ impl<L: Ledger> Store<L> {
         self.numbers.truncate(self.variables.len());
         take_back(&mut self.stacks, value);
         self.declared -= 1;
+        self.texts.truncate(self.declared);
     }
 
     /// Opens a local of this number's name with a number. While it is open it hides an older variable of its name.
@@ -731,6 +745,17 @@ fn sight_start(calls: &[Call]) -> usize
         Some(call) => call.start,
         None => 0,
     }
+}
+
+/// Gives each number below `count` that has no place the place 0. An error for want of memory leaves the places.
+fn reach_in(newest: &mut Vec<usize>, count: usize) -> Result<(), AllocError>
+    ensures more { (more : ℕ) × (newest.new.items ≡ newest.old.items ++ replicate more 0) }
+    ensures reached { OnOk result (count ≤ vec_len newest.new) }
+{
+    if count <= newest.len() {
+        return Ok(());
+    }
+    newest.resize(count, 0)
 }
 
 /// Where the value of a number is, which has a variable.

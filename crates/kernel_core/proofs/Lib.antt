@@ -6,7 +6,5 @@ pub use Rattle.kernel_machine.proofs.Noted
 pub use Rattle.kernel_machine.proofs.Posts
 pub use Rattle.kernel_machine.proofs.Stays
 pub use Rattle.kernel_machine.proofs.Trees
-pub use Rattle.kernel_runner.proofs.Borders
-pub use Rattle.kernel_loader.proofs.NamesMet
 pub mod Writing
 pub mod Taken

@@ -1,11 +1,12 @@
 -- The bodies that are defined at a node, and those that stay kept.
 use Rattle.std.proofs.Common.{◌≡◌, ℕ, zero, suc, ◌+◌, ◌-◌, ◌<◌, ◌≤◌, List, [], ◌∷◌, ◌++◌, length, map, take, Option, None, Some, refl, sym, ap, ◌∙◌, subst, arith}
 use Rattle.std.specs.Prelude.{slice_get}
-use Rattle.std.proofs.lemmas.List.{get_or-map}
+use Rattle.std.proofs.lemmas.List.{get_or-map, length-map}
 use Rattle.std.proofs.lemmas.Option.{slice_get_within, get_or_from_slice_get}
 use Rattle.cell_tree.specs.Tree.{contents_of}
 use Rattle.cell_tree.specs.declared.node.Node.{Node}
 use Rattle.janus_meaning.specs.Syntax.{Name, Proc}
+use Rattle.janus_slots.specs.Slots.{procedure_in, procedures_in}
 use Rattle.janus_machine.specs.Bodies.{AreBelow, AreBodiesFrom}
 use Rattle.janus_machine.specs.Procedures.{kept_in}
 use Rattle.janus_machine.specs.declared.linked_procedure.LinkedProcedure.{LinkedProcedure}
@@ -199,8 +200,8 @@ taken_short (suc n) (suc m) [] l h = h
 taken_short (suc n) (suc m) (x ∷ xs) l h = let r = taken_short n m xs (omega arith) (omega arith) in omega arith
 
 -- others were added behind them
-pub ready_more : (xs : List Name) (old new : Procedures) (program : Program) → take (length (kept_in old)) (kept_in new) ≡ kept_in old → IsReady xs old program → IsReady xs new program
-ready_more xs old new program e h =
+pub ready_more : (xs es g : List Name) (old new : Procedures) (program : Program) → take (length (kept_in old)) (kept_in new) ≡ kept_in old → IsReady xs es g old program → IsReady xs es g new program
+ready_more xs es g old new program e h =
     let long = taken_long (length (kept_in old)) (kept_in new) in
     let same = ap (λ (bs : List LinkedProcedure). length bs) e in
     let within = h.within in
@@ -208,23 +209,28 @@ ready_more xs old new program e h =
       meant = h.meant;
       numbered = h.numbered;
       within = omega (arith, long, same, within);
-      bodies = bodies_of_more xs (length (kept_in old)) (kept_in new) program.first (procedures_of program) (subst (λ (bs : List LinkedProcedure). AreBodiesFrom xs bs program.first (procedures_of program)) (sym e) h.bodies);
+      bodies = λ more on.
+          (let ps : List Proc = procedures_in more (procedures_of program) in
+          bodies_of_more xs (length (kept_in old)) (kept_in new) program.first ps (subst (λ (bs : List LinkedProcedure). AreBodiesFrom xs bs program.first ps) (sym e) (h.bodies more on)));
     }
 
 -- those behind them were dropped
-pub ready_less : (xs : List Name) (old new : Procedures) (from : ℕ) (program : Program) → program.first + length (procedures_of program) ≤ from → kept_in new ≡ take from (kept_in old) → IsReady xs old program → IsReady xs new program
-ready_less xs old new from program low e h = record {
+pub ready_less : (xs es g : List Name) (old new : Procedures) (from : ℕ) (program : Program) → program.first + length (procedures_of program) ≤ from → kept_in new ≡ take from (kept_in old) → IsReady xs es g old program → IsReady xs es g new program
+ready_less xs es g old new from program low e h = record {
   meant = h.meant;
   numbered = h.numbered;
   within = subst (λ (bs : List LinkedProcedure). program.first + length (procedures_of program) ≤ length bs) (sym e) (taken_short from (program.first + length (procedures_of program)) (kept_in old) low h.within);
-  bodies = bodies_from_same xs (take from (kept_in old)) (kept_in new) program.first (procedures_of program) e (bodies_from_below xs (kept_in old) from program.first (procedures_of program) low h.bodies);
+  bodies = λ more on.
+      (let ps : List Proc = procedures_in more (procedures_of program) in
+      let same : length ps ≡ length (procedures_of program) = length-map (procedures_of program) (procedure_in more) in
+      bodies_from_same xs (take from (kept_in old)) (kept_in new) program.first ps e (bodies_from_below xs (kept_in old) from program.first ps (subst (λ (n : ℕ). program.first + n ≤ from) (sym same) low) (h.bodies more on)));
 }
 
 -- the same are kept
-pub ready_same : (xs : List Name) (old new : Procedures) (program : Program) → kept_in new ≡ kept_in old → IsReady xs old program → IsReady xs new program
-ready_same xs old new program e h = record {
+pub ready_same : (xs es g : List Name) (old new : Procedures) (program : Program) → kept_in new ≡ kept_in old → IsReady xs es g old program → IsReady xs es g new program
+ready_same xs es g old new program e h = record {
   meant = h.meant;
   numbered = h.numbered;
   within = subst (λ (bs : List LinkedProcedure). program.first + length (procedures_of program) ≤ length bs) (sym e) h.within;
-  bodies = bodies_from_same xs (kept_in old) (kept_in new) program.first (procedures_of program) e h.bodies;
+  bodies = λ more on. bodies_from_same xs (kept_in old) (kept_in new) program.first (procedures_in more (procedures_of program)) e (h.bodies more on);
 }

@@ -1,5 +1,6 @@
 pub mod BodiesAt
 pub mod Nodes
+pub mod WorldNames
 pub mod Indexed
 pub mod Standing
 pub mod InTime

@@ -9,6 +9,7 @@ use Rattle.janus_meaning.specs.World.{World, define}
 use Rattle.janus_syntax.specs.Tree.{procedure_view, procedures_view}
 use Rattle.janus_syntax.specs.View.{plain_procedure}
 use Rattle.janus_syntax.specs.declared.tree.Procedure.{Procedure}
+use Rattle.janus_slots.specs.Slots.{procedures_in}
 use Rattle.janus_machine.specs.Bodies.{AreBodies}
 use Rattle.janus_machine.specs.declared.linked_procedure.LinkedProcedure as kept
 use Rattle.kernel_loader.specs.Defined.{in_a_row}
@@ -69,11 +70,11 @@ started_down s work travel e way = rw e (rw (way, code_of) refl)
 -- ---- where no body is kept
 
 -- there is no procedure
-pub none_kept : (xs : List Name) (bodies : List kept.LinkedProcedure) (stack : List ℕ) (ps : List Proc) → length bodies ≡ 0 → AreBodies xs bodies stack ps → ps ≡ []
-none_kept xs bodies [] [] e h = refl
-none_kept xs bodies [] (p ∷ ps) e h = absurd h
-none_kept xs bodies (i ∷ stack) [] e h = absurd h
-none_kept xs bodies (i ∷ stack) (p ∷ ps) e h = absurd (let within = slice_get_within bodies i h.0.0 h.0.1 in omega arith)
+pub none_kept : (xs es : List Name) (bodies : List kept.LinkedProcedure) (stack : List ℕ) (ps : List Proc) → length bodies ≡ 0 → AreBodies xs bodies stack (procedures_in es ps) → ps ≡ []
+none_kept xs es bodies [] [] e h = refl
+none_kept xs es bodies [] (p ∷ ps) e h = absurd h
+none_kept xs es bodies (i ∷ stack) [] e h = absurd h
+none_kept xs es bodies (i ∷ stack) (p ∷ ps) e h = absurd (let within = slice_get_within bodies i h.0.0 h.0.1 in omega arith)
 
 -- ---- procedures that are lent
 

@@ -1,9 +1,9 @@
 -- What the answers on slices and begins share: how runner, tree and open job go on together.
 use Rattle.std.specs.Result.{is_err, IsOk, OnOk, OnErr}
-use Rattle.std.specs.Prelude.{slice_get, sum_by}
+use Rattle.std.specs.Prelude.{slice_get, sum_by, IfOk}
 use Rattle.std.proofs.Common.{inl, inr, ◌≤◌, Some, Result, Ok, Err, true, false, ◌≡◌, ℕ, ◌+◌, ◌-◌, ◌<◌, Bool, List, [], ◌∷◌, ◌++◌, length, set, get_or, take, zero, suc, refl, sym, ap, ◌∙◌, subst, arith}
 use Rattle.std.proofs.lemmas.Bool.{cases_lt}
-use Rattle.std.proofs.lemmas.List.{get_or_at, length-map, length-take-le}
+use Rattle.std.proofs.lemmas.List.{get_or_at, length-map, length-reverse, length-take-le}
 use Rattle.std.proofs.lemmas.List.Sums.{sum_by_push}
 use Rattle.std.proofs.lemmas.Option.{slice_get_within}
 use Rattle.cell_tree.specs.declared.node.Node.{Node}
@@ -22,16 +22,19 @@ use Rattle.kernel_machine.specs.Legal.{CanGo, IsLegal, IsPossible, IsPossibleWor
 use Rattle.kernel_machine.specs.Slices.{cells, stepped, moved, grown, Arrives, Settles, HasEnded}
 use Rattle.kernel_machine.specs.Begins.{Declares}
 use Rattle.janus_meaning.specs.Syntax.{Name}
-use Rattle.janus_names.specs.Numbers.{GoOn, HaveOneNumber}
-use Rattle.janus_store.specs.StoreState.{StoreState, IsWhole, shown_store}
+use Rattle.janus_names.specs.Numbers.{GoOn}
+use Rattle.janus_slots.specs.Slots as slots
+use Rattle.janus_slots.specs.Slots.{names_in}
+use Rattle.janus_slots.specs.Law.{AreListed}
+use Rattle.janus_store.specs.StoreState.{StoreState, IsWhole, AreSlots, shown_store}
 use Rattle.janus_machine.specs.Bodies.{AreBelow, AreDefined, Define}
 use Rattle.janus_machine.specs.Procedures.{kept_in}
 use Rattle.janus_machine.proofs.BodiesInEffect.{forgotten_still_defined}
 use Rattle.janus_machine.specs.declared.linked_procedure.LinkedProcedure.{LinkedProcedure}
 use Rattle.janus_machine.specs.declared.procedures.Procedures.{Procedures}
 use Rattle.kernel_runner.specs.Program.{cell_of_program, procedures_of, IsReady, with_bodies}
-use Rattle.kernel_runner.specs.Runner.{ShownWorld, over, world_of, Becomes, Shows, Place, entry, inverse_entry, world_inside, Stands, Is, Between, IsInside, CanEnter, CanReturn, CanLeave}
-use Rattle.kernel_history.specs.Bodies.{IsCellAt, IsBefore, IsBehindNodes, NodesAreReady, AreInOrder, bodies_at, bodies_in, IsProgramOf, bodies_of_nodes, KeepsNoOther, KeepsNoOtherFor}
+use Rattle.kernel_runner.specs.Runner.{ShownWorld, over, world_of, Becomes, Shows, Place, entry, inverse_entry, world_inside, start_at, Stands, Is, Between, IsInside, CanEnter, CanReturn, CanLeave}
+use Rattle.kernel_history.specs.Bodies.{IsCellAt, IsBefore, IsBehindNodes, CanRun, NodesAreReady, AreInOrder, bodies_at, bodies_in, IsProgramOf, bodies_of_nodes, KeepsNoOther, KeepsNoOtherFor}
 use Rattle.kernel_history.specs.Standing.{is_back, shown_here, place_in, StandsIn, StandsAt}
 use Rattle.kernel_history.specs.Kept.{Kept, IsKept, HasRoom, HasPath, HasPathFor}
 use Rattle.kernel_runner.specs.declared.runner.Runner.{Runner}
@@ -47,11 +50,12 @@ use Rattle.kernel_machine.specs.declared.heading.Heading.TheVariants.{GoesOn, Go
 use Rattle.kernel_history.specs.declared.job.Open.{Open}
 use Rattle.kernel_history.specs.declared.job.Open.TheVariants.{Idle, Border, Inside}
 use Rattle.kernel_machine.proofs.LanguageLaws.{part_none_forward, part_none_backward, exec_end, exec_some}
-use Rattle.kernel_runner.proofs.Growing.{ready_grows, defined_grow}
-use Rattle.kernel_runner.proofs.Borders.{all_shown}
+use Rattle.kernel_runner.proofs.Growing.{same_more, ready_grows, defined_grow}
+use Rattle.kernel_runner.proofs.Slotted.{names_size}
 use Rattle.kernel_runner.proofs.Running.{stands_part}
 use Rattle.kernel_history.proofs.BodiesAt.{bodies_same, bodies_of_cell, bodies_new, bodies_below, cell_behind, ready_same, ready_less, ready_more}
 use Rattle.kernel_history.proofs.Nodes.{count_of_nodes, cell_there, same_program, contents_more, cell_kept, cell_added}
+use Rattle.kernel_history.proofs.WorldNames.{exec_names, names_below, world_kept, world_added, listed_still, listed_own}
 use Rattle.kernel_history.proofs.Indexed.{kept_in_time}
 use Rattle.kernel_machine.proofs.Trees.{worlds-more, legal_up, legal_down, legal_grown, undone_world, redone_world, run_here, parent_sound, IsNext, formed_below, next_below, up_possible, down_possible, way_up, way_down, new_legal, new_worlds}
 
@@ -63,14 +67,31 @@ shown_by tree (Inside e) runner h = stands_part _ _ _ _ h.stands
 
 -- a runner shows the world at which it stands
 pub stands_shows : {L : Type 0} (runner : Runner L) (program : Program) (at : Place) (is_turned : Bool) → Stands runner program at is_turned → Shows runner (over at.bodies (world_inside at runner))
-stands_shows runner program at is_turned h = record { store = refl; one_number = h.one_number; defined = h.defined }
+stands_shows runner program at is_turned h =
+    let start : World = start_at at in
+    record {
+      store = refl;
+      texts = ap (λ (xs : List Name). length xs) h.texts ∙ length-reverse (names_in start.store) ∙ names_size start.store ∙ sym h.declared;
+      slots = h.slots;
+      listed = h.listed;
+      defined = h.defined;
+    }
 
 -- ---- the nodes stay ready
 
--- the names that nodes have numbers for only grow, and their bodies stay kept
-pub nodes_ready : {L : Type 0} (tree : HistoryTree) (runner at : Runner L) → GoOn runner.store.names at.store.names → kept_in at.procedures ≡ kept_in runner.procedures → NodesAreReady tree runner → NodesAreReady tree at
-nodes_ready tree runner at more same h = λ n cell is.
-    ready_same at.store.names runner.procedures at.procedures cell.program same (ready_grows runner.store.names at.store.names more runner.procedures cell.program (h n cell is))
+-- a program can run where there are more slots and more names of procedures
+can_run_still : {L : Type 0} (runner at : Runner L) (g : List Name) (program : Program) → GoOn runner.store.names at.store.names → GoOn runner.entries at.entries →
+    (IsReady at.store.names at.entries g runner.procedures program → IsReady at.store.names at.entries g at.procedures program) → CanRun runner g program → CanRun at g program
+can_run_still runner at g program more listed kept can = record {
+  ready = kept (ready_grows runner.store.names at.store.names more runner.entries at.entries listed g runner.procedures program can.ready);
+  named = listed_still runner.entries at.entries (procedures_of program) listed can.named;
+}
+
+-- the slots and the names of procedures only grow, and the bodies of nodes stay kept
+pub nodes_ready : {L : Type 0} (tree : HistoryTree) (runner at : Runner L) → GoOn runner.store.names at.store.names → GoOn runner.entries at.entries → kept_in at.procedures ≡ kept_in runner.procedures → NodesAreReady tree runner → NodesAreReady tree at
+nodes_ready tree runner at more listed same h = λ n cell is.
+    (let g : List Name = names_in (world_at (past_of tree) n).store in
+    can_run_still runner at g cell.program more listed (ready_same at.store.names at.entries g runner.procedures at.procedures cell.program same) (h n cell is))
 
 -- as many stay kept
 pub no_other_same : (tree : HistoryTree) (old new : Procedures) → kept_in new ≡ kept_in old → KeepsNoOther tree old → KeepsNoOther tree new
@@ -81,15 +102,15 @@ work_no_other tree (RunCell program) old new same h = (h.0, ap (λ (bs : List Li
 work_no_other tree (Move travel) old new same h = no_other_same tree old new same h
 
 pub kept_inside : {L : Type 0} (tree : HistoryTree) (work : Work) (count c : ℕ) (heading to : Heading) (runner at : Runner L) → Kept tree runner (Inside (record { work = work; count = count; heading = heading })) → GoOn runner.store.names at.store.names →
-    kept_in at.procedures ≡ kept_in runner.procedures → StandsIn tree work c (is_back to) at → Kept tree at (Inside (record { work = work; count = c; heading = to }))
-kept_inside tree work count c heading to runner at k more same p = record {
+    at.entries ≡ runner.entries → kept_in at.procedures ≡ kept_in runner.procedures → StandsIn tree work c (is_back to) at → Kept tree at (Inside (record { work = work; count = c; heading = to }))
+kept_inside tree work count c heading to runner at k more entries same p = record {
   legal = k.legal;
   possible = k.possible;
   counted = k.counted;
   stands = p;
   room = k.room;
   path = k.path;
-  ready = nodes_ready tree runner at more same k.ready;
+  ready = nodes_ready tree runner at more (same_more runner.entries at.entries entries) same k.ready;
   order = k.order;
   behind = k.behind;
   no_other = work_no_other tree work runner.procedures at.procedures same k.no_other;
@@ -109,18 +130,24 @@ kept_idle tree job runner at k ready no_other whole shows = record {
   no_other = no_other;
 }
 
--- the same store shows the same world
-pub shows_still : {L : Type 0} (runner at : Runner L) (shown : ShownWorld) → IsWhole runner.store → Becomes runner.store at.store runner.store.sight → at.procedures ≡ runner.procedures → Shows runner shown → Shows at shown
-shows_still runner at shown whole h same shows = record {
-  store = all_shown at.store h.whole ∙ h.sight ∙ sym (all_shown runner.store whole) ∙ shows.store;
-  one_number = h.one_number shows.one_number;
-  defined = subst (λ (t : Procedures). Define at.store.names t shown.bodies shown.world.procedures) (sym same) (defined_grow runner.store.names at.store.names h.names runner.procedures shown.bodies shown.world.procedures shows.defined);
-}
+-- a store that shows the same shows the same world
+pub shows_still : {L : Type 0} (runner at : Runner L) (shown : ShownWorld) → Becomes runner.store at.store (shown_store runner.store) → at.procedures ≡ runner.procedures → at.entries ≡ runner.entries → Shows runner shown → Shows at shown
+shows_still runner at shown h same entries shows =
+    let ps = shown.world.procedures in
+    record {
+      store = h.shown ∙ shows.store;
+      texts = h.texts;
+      slots = h.slots;
+      listed = subst (λ (es : List Name). AreListed es ps) (sym entries) shows.listed;
+      defined = subst (λ (t : Procedures). Define at.store.names t shown.bodies (slots.procedures_in at.entries ps)) (sym same)
+          (subst (λ (es : List Name). Define at.store.names runner.procedures shown.bodies (slots.procedures_in es ps)) (sym entries)
+          (defined_grow runner.store.names at.store.names h.names runner.procedures shown.bodies (slots.procedures_in runner.entries ps) shows.defined));
+    }
 
 -- no cell could be entered
-pub kept_refused : {L : Type 0} (tree : HistoryTree) (job : Open) (runner at : Runner L) → Kept tree runner job → KeepsNoOther tree runner.procedures → IsWhole runner.store → Shows runner (shown_here tree) → Becomes runner.store at.store runner.store.sight → at.procedures ≡ runner.procedures → Kept tree at Idle
-kept_refused tree job runner at k no_other whole shows h same =
-    kept_idle tree job runner at k (nodes_ready tree runner at h.names (ap kept_in same) k.ready) (no_other_same tree runner.procedures at.procedures (ap kept_in same) no_other) h.whole (shows_still runner at (shown_here tree) whole h same shows)
+pub kept_refused : {L : Type 0} (tree : HistoryTree) (job : Open) (runner at : Runner L) → Kept tree runner job → KeepsNoOther tree runner.procedures → Shows runner (shown_here tree) → Becomes runner.store at.store (shown_store runner.store) → at.procedures ≡ runner.procedures → at.entries ≡ runner.entries → Kept tree at Idle
+kept_refused tree job runner at k no_other shows h same entries =
+    kept_idle tree job runner at k (nodes_ready tree runner at h.names (same_more runner.entries at.entries entries) (ap kept_in same) k.ready) (no_other_same tree runner.procedures at.procedures (ap kept_in same) no_other) h.whole (shows_still runner at (shown_here tree) h same entries shows)
 
 -- ---- what is kept of the nodes alone
 
@@ -147,14 +174,16 @@ placed_none tree runner e = λ n cell at. absurd (no_cell tree n cell e at)
 ordered_none : (tree : HistoryTree) → past_of tree ≡ new_state.past → AreInOrder tree
 ordered_none tree e = λ m n c d l at other. absurd (no_cell tree m c e at)
 
-placed_grown : {L : Type 0} (tree larger : HistoryTree) (node : Node EndedCell) (runner : Runner L) → larger.cells.nodes ≡ tree.cells.nodes ++ node ∷ [] →
-    NodesAreReady tree runner → IsReady runner.store.names runner.procedures node.content.program → NodesAreReady larger runner
-placed_grown tree larger node runner nodes ready new = λ n cell at.
+placed_grown : {L : Type 0} (tree larger : HistoryTree) (node : Node EndedCell) (runner : Runner L) → larger.cells.nodes ≡ tree.cells.nodes ++ node ∷ [] → IsLegal (past_of tree) →
+    NodesAreReady tree runner → CanRun runner (names_in (world_at (past_of larger) (length (nodes_of tree))).store) node.content.program → NodesAreReady larger runner
+placed_grown tree larger node runner nodes legal ready new = λ n cell at.
     elim (cases_lt (length tree.cells.nodes) n) [
       | inl high ↦
           (let last = cell_added tree larger node n cell nodes at high in
-          subst (λ (c : EndedCell). IsReady runner.store.names runner.procedures c.program) last.1 new)
-      | inr low ↦ ready n cell (cell_kept tree larger node n cell nodes at low)
+          subst (λ (m : ℕ). CanRun runner (names_in (world_at (past_of larger) m).store) cell.program) (sym last.0)
+          (subst (λ (c : EndedCell). CanRun runner (names_in (world_at (past_of larger) (length (nodes_of tree))).store) c.program) last.1 new))
+      | inr low ↦ subst (λ (w : World). CanRun runner (names_in w.store) cell.program) (sym (world_kept tree larger node nodes legal n low))
+          (ready n cell (cell_kept tree larger node n cell nodes at low))
     ]
 
 ordered_grown : (tree larger : HistoryTree) (node : Node EndedCell) → larger.cells.nodes ≡ tree.cells.nodes ++ node ∷ [] → AreInOrder tree →
@@ -330,9 +359,17 @@ position_known tree g =
 
 -- a posted cell that ended becomes a node, whose code runs as it stands, behind those of the others
 module _ {L : Type 0} (tree larger : HistoryTree) (program : Program) (n : ℕ) (runner : Runner L) (k : Kept tree runner (Inside (record { work = RunCell program; count = n; heading = GoesOn }))) (nodes : larger.cells.nodes ≡ tree.cells.nodes ++ record { parent = tree.position; content = record { program = program; steps = n } } ∷ []) where
-  pub placed_more : NodesAreReady larger runner
-  placed_more =
-      placed_grown tree larger (record { parent = tree.position; content = record { program = program; steps = n } }) runner nodes k.ready (stands_with tree (RunCell program) n false runner program refl k.stands).ready
+  -- the world to which it led has the names with which it began
+  pub placed_more : (v : World) → CodeExec (Forward (cell_of_program program)) (here (past_of tree)) n v → NodesAreReady larger runner
+  placed_more v ran =
+      let node : Node EndedCell = record { parent = tree.position; content = record { program = program; steps = n } } in
+      let s = stands_with tree (RunCell program) n false runner program refl k.stands in
+      let led : v ≡ world_at (past_of larger) (length (nodes_of tree)) = exec_end _ _ _ _ ran ∙ sym (world_added tree larger node nodes k.legal) in
+      let same : names_in v.store ≡ names_in (entered (cell_of_program program) (here (past_of tree))).store = exec_names (Forward (cell_of_program program)) (here (past_of tree)) n v ran in
+      let can : CanRun runner (names_in (entered (cell_of_program program) (here (past_of tree))).store) program =
+      record { ready = s.ready; named = listed_own runner.entries (procedures_of program) (here (past_of tree)).procedures s.listed } in
+      placed_grown tree larger node runner nodes k.legal k.ready
+      (subst (λ (w : World). CanRun runner (names_in w.store) program) led (subst (λ (g : List Name). CanRun runner g program) (sym same) can))
 
   pub ordered_more : AreInOrder larger
   ordered_more = ordered_grown tree larger (record { parent = tree.position; content = record { program = program; steps = n } }) nodes k.order k.behind
@@ -357,9 +394,9 @@ module _ {L : Type 0} (tree larger : HistoryTree) (program : Program) (n : ℕ) 
 
 -- ---- begins
 
-pub kept_entered : {L : Type 0} (tree : HistoryTree) (runner at : Runner L) (travel : Travel) → Kept tree runner (Border travel) → GoOn runner.store.names at.store.names → kept_in at.procedures ≡ kept_in runner.procedures → StandsIn tree (Move travel) 0 false at →
+pub kept_entered : {L : Type 0} (tree : HistoryTree) (runner at : Runner L) (travel : Travel) → Kept tree runner (Border travel) → GoOn runner.store.names at.store.names → at.entries ≡ runner.entries → kept_in at.procedures ≡ kept_in runner.procedures → StandsIn tree (Move travel) 0 false at →
     IsKept tree at (Inside (record { work = Move travel; count = 0; heading = GoesOn }))
-kept_entered tree runner at travel k more same stands =
+kept_entered tree runner at travel k more entries same stands =
     kept_in_time tree at (Inside (record { work = Move travel; count = 0; heading = GoesOn }))
     (record {
       legal = k.legal;
@@ -368,7 +405,7 @@ kept_entered tree runner at travel k more same stands =
       stands = stands;
       room = tt;
       path = k.path;
-      ready = nodes_ready tree runner at more same k.ready;
+      ready = nodes_ready tree runner at more (same_more runner.entries at.entries entries) same k.ready;
       order = k.order;
       behind = tt;
       no_other = no_other_same tree runner.procedures at.procedures same k.no_other;
@@ -533,10 +570,10 @@ pub program_down : (tree : HistoryTree) (work : Work) (travel : Travel) (cell : 
 program_down tree work travel cell e way at = rw e (down_is tree travel cell.program way (cell, at, refl))
 
 -- the runner has gone on, or back, in the work's program
-pub kept_at : {L : Type 0} (tree : HistoryTree) (work : Work) (count c : ℕ) (heading to : Heading) (runner at : Runner L) (p : Program) → Kept tree runner (Inside (record { work = work; count = count; heading = heading })) → GoOn runner.store.names at.store.names → kept_in at.procedures ≡ kept_in runner.procedures →
+pub kept_at : {L : Type 0} (tree : HistoryTree) (work : Work) (count c : ℕ) (heading to : Heading) (runner at : Runner L) (p : Program) → Kept tree runner (Inside (record { work = work; count = count; heading = heading })) → GoOn runner.store.names at.store.names → at.entries ≡ runner.entries → kept_in at.procedures ≡ kept_in runner.procedures →
     IsProgramOf tree work p → Stands at p (place_in tree work p c) (is_back to) → Kept tree at (Inside (record { work = work; count = c; heading = to }))
-kept_at tree work count c heading to runner at p k more same of stands =
-    kept_inside tree work count c heading to runner at k more same (record { program = p; of_work = of; stands = stands })
+kept_at tree work count c heading to runner at p k more entries same of stands =
+    kept_inside tree work count c heading to runner at k more entries same (record { program = p; of_work = of; stands = stands })
 
 -- in the form in which the calls of the runner ask for it
 pub inside_with : {L : Type 0} (tree : HistoryTree) (work : Work) (count : ℕ) (heading : Heading) (runner : Runner L) (p : Program) → Kept tree runner (Inside (record { work = work; count = count; heading = heading })) → IsProgramOf tree work p → IsInside runner p (is_back heading)
@@ -572,6 +609,13 @@ formed_next tree travel cell way legal possible at =
     let next = next_below (past_of tree) travel legal way possible in
     subst (λ (c : ACell). IsFormed c (here (past_of tree))) (sym (cell_there tree _ cell at)) (formed_below (past_of tree) (below (past_of tree) travel) legal next)
 
+-- the names of the node below are those with which its cell begins
+names_next : (tree : HistoryTree) (travel : Travel) (cell : EndedCell) → next_way travel ≡ Down → IsLegal (past_of tree) → IsPossible (nodes_of tree) tree.cells.favourites tree.position travel →
+    IsCellAt tree (below (past_of tree) travel) cell → names_in (world_at (past_of tree) (below (past_of tree) travel)).store ≡ names_in (entered (cell_of_program cell.program) (here (past_of tree))).store
+names_next tree travel cell way legal possible at =
+    let next = next_below (past_of tree) travel legal way possible in
+    names_below (past_of tree) (below (past_of tree) travel) legal next ∙ ap (λ (c : ACell). names_in (entered c (here (past_of tree))).store) (sym (cell_there tree _ cell at))
+
 -- the position stands before the node below
 before_below : (tree : HistoryTree) (travel : Travel) → next_way travel ≡ Down → IsLegal (past_of tree) → IsPossible (nodes_of tree) tree.cells.favourites tree.position travel → tree.position < below (past_of tree) travel
 before_below tree travel way legal possible =
@@ -586,7 +630,8 @@ can_go_down_to tree travel cell runner way legal possible at is ready order = re
   is = is;
   sound = here_sound tree legal;
   formed = formed_next tree travel cell way legal possible at;
-  ready = ready _ cell at;
+  ready = subst (λ (g : List Name). IsReady runner.store.names runner.entries g runner.procedures cell.program) (names_next tree travel cell way legal possible at) (ready _ cell at).ready;
+  named = (ready _ cell at).named;
   behind = cell_behind tree legal order tree.position (below (past_of tree) travel) cell (before_below tree travel way legal possible) at;
 }
 
@@ -620,7 +665,7 @@ can_go_up_from tree travel cell runner way legal possible at is ready =
       ran = subst (λ (c : ACell). CodeExec (Forward c) (world_at (past_of tree) (node_at (past_of tree) tree.position).parent) (node_at (past_of tree) tree.position).steps (here (past_of tree))) (sym (cell_there tree tree.position cell at)) run.ran;
       sound = parent_sound (past_of tree) legal some;
       formed = subst (λ (c : ACell). IsFormed c (world_at (past_of tree) (node_at (past_of tree) tree.position).parent)) (sym (cell_there tree tree.position cell at)) run.formed;
-      ready = ready _ cell at;
+      ready = (ready _ cell at).ready;
     }
 
 pub stands_next_up : {L : Type 0} (tree : HistoryTree) (travel : Travel) (cell : EndedCell) (at : Runner L) → next_way travel ≡ Up → IsCellAt tree tree.position cell →
@@ -651,11 +696,15 @@ pub ok_map : {A E : Type 0} {P Q : Type 0} (r : Result A E) → (P → Q) → On
 ok_map (Ok x) f h = f h
 ok_map (Err x) f h = tt
 
+pub if_ok_map : {A E : Type 0} {P Q : A → Type 0} (r : Result A E) → ((x : A) → P x → Q x) → IfOk r P → IfOk r Q
+if_ok_map (Ok x) f h = f x h
+if_ok_map (Err e) f h = tt
+
 -- ---- between two jobs
 
 pub idle_store : {L : Type 0} (tree : HistoryTree) (runner : Runner L) (job : Open) → StandsAt tree job runner → job_of job ≡ state.Idle →
-    (runner.store.sight ≡ (here (past_of tree)).store) × IsWhole runner.store
-idle_store tree runner Idle stands e = (sym (all_shown runner.store stands.1) ∙ stands.0.store, stands.1)
+    (shown_store runner.store ≡ (here (past_of tree)).store) × IsWhole runner.store
+idle_store tree runner Idle stands e = (stands.0.store, stands.1)
 idle_store tree runner (Border travel) stands e = absurd (cc e)
 idle_store tree runner (Inside i) stands e = absurd (cc e)
 
@@ -663,7 +712,7 @@ idle_store tree runner (Inside i) stands e = absurd (cc e)
 
 module _ {L : Type 0} (tree : HistoryTree) (runner : Runner L) (cell : EndedCell) (n : ℕ) (at : IsCellAt tree tree.position cell) (legal : IsLegal (past_of tree)) where
   -- the cell of the position is undone: what it declared and defined is left to be taken back
-  pub can_leave_up : (travel : Travel) (back : Bool) → next_way travel ≡ Up → StandsIn tree (Move travel) n back runner → IsWhole runner.store → IsReady runner.store.names runner.procedures cell.program →
+  pub can_leave_up : (travel : Travel) (back : Bool) → next_way travel ≡ Up → StandsIn tree (Move travel) n back runner → IsWhole runner.store → NodesAreReady tree runner →
       world_of (start_of (code_of (past_of tree) (state.Move travel)) (here (past_of tree))).procedures runner ≡ entered (cell_of_program cell.program) (world_at (past_of tree) (node_at (past_of tree) tree.position).parent) →
       CanLeave runner cell.program (over (bodies_at tree (node_at (past_of tree) tree.position).parent) (world_at (past_of tree) (node_at (past_of tree) tree.position).parent))
   can_leave_up travel back way stands whole ready world =
@@ -677,7 +726,7 @@ module _ {L : Type 0} (tree : HistoryTree) (runner : Runner L) (cell : EndedCell
               (subst (λ (w : World). Shows runner (over (bodies_in tree (Move travel) p) w)) world shows),
           whole,
         );
-        ready = ready;
+        within = (ready tree.position cell at).ready.within;
       }
 
 -- a redone cell has ended: its bodies are defined over those of the position, and are those of its node
@@ -697,11 +746,12 @@ shows_down tree runner travel n k way ended =
 
 -- a cell is posted: its bodies are kept behind those of all nodes
 pub posted_behind : {L : Type 0} (tree : HistoryTree) (runner : Runner L) (program : Program) → NodesAreReady tree runner → program.first ≡ length (kept_in runner.procedures) → IsBehindNodes tree (RunCell program)
-posted_behind tree runner program ready first = λ n cell is. let within = (ready n cell is).within in omega (arith, within, first)
+posted_behind tree runner program ready first = λ n cell is. let within = (ready n cell is).ready.within in omega (arith, within, first)
 
-pub nodes_more : {L : Type 0} (tree : HistoryTree) (runner at : Runner L) → GoOn runner.store.names at.store.names → take (length (kept_in runner.procedures)) (kept_in at.procedures) ≡ kept_in runner.procedures → NodesAreReady tree runner → NodesAreReady tree at
-nodes_more tree runner at more older h = λ n cell is.
-    ready_more at.store.names runner.procedures at.procedures cell.program older (ready_grows runner.store.names at.store.names more runner.procedures cell.program (h n cell is))
+pub nodes_more : {L : Type 0} (tree : HistoryTree) (runner at : Runner L) → GoOn runner.store.names at.store.names → GoOn runner.entries at.entries → take (length (kept_in runner.procedures)) (kept_in at.procedures) ≡ kept_in runner.procedures → NodesAreReady tree runner → NodesAreReady tree at
+nodes_more tree runner at more listed older h = λ n cell is.
+    (let g : List Name = names_in (world_at (past_of tree) n).store in
+    can_run_still runner at g cell.program more listed (ready_more at.store.names at.entries g runner.procedures at.procedures cell.program older) (h n cell is))
 
 pub behind_stack : (tree : HistoryTree) (program : Program) → IsLegal (past_of tree) → AreInOrder tree → IsBehindNodes tree (RunCell program) → AreBelow program.first (bodies_at tree tree.position)
 behind_stack tree program legal order behind = bodies_below tree legal order program.first tree.position (λ m cell low there. behind m cell there)
@@ -726,13 +776,13 @@ module _ {L : Type 0} (tree : HistoryTree) (runner : Runner L) (work : Work) (wh
   can_leave_cell program e whole =
       let of : IsProgramOf tree work program = rw e refl in
       let is : bodies_in tree work program ≡ with_bodies program (bodies_at tree tree.position) = rw e refl in
-      record { is = (shows_back program _ _ of is (began_cell tree work program (world_of start.procedures runner) e part_back), whole); ready = (stands_back program of).ready }
+      record { is = (shows_back program _ _ of is (began_cell tree work program (world_of start.procedures runner) e part_back), whole); within = (stands_back program of).ready.within }
 
   pub can_leave_down : (travel : Travel) (cell : EndedCell) → work ≡ Move travel → next_way travel ≡ Down → IsCellAt tree (below (past_of tree) travel) cell → IsWhole runner.store → CanLeave runner cell.program (shown_here tree)
   can_leave_down travel cell e way at whole =
       let of : IsProgramOf tree work cell.program = program_down tree work travel cell e way at in
       let is : bodies_in tree work cell.program ≡ with_bodies cell.program (bodies_at tree tree.position) = rw (e, bodies_in) (rw way refl) in
-      record { is = (shows_back cell.program _ _ of is (began_down tree work travel (world_of start.procedures runner) cell e way at part_back), whole); ready = (stands_back cell.program of).ready }
+      record { is = (shows_back cell.program _ _ of is (began_down tree work travel (world_of start.procedures runner) cell e way at part_back), whole); within = (stands_back cell.program of).ready.within }
 
   pub shows_up : (travel : Travel) → work ≡ Move travel → next_way travel ≡ Up → Shows runner (shown_here tree)
   shows_up travel e way =
@@ -760,18 +810,26 @@ module _ {L : Type 0} (tree : HistoryTree) (runner : Runner L) (work : Work) (wh
       let own : KeepsNoOther tree runner.procedures = subst (λ (w : Work). KeepsNoOtherFor tree w runner.procedures) e k.no_other in
       no_other_same tree runner.procedures t same own
 
-  pub nodes_forgotten : {M : Type 0} (old new : Runner M) (program : Program) → work ≡ RunCell program → new.store.names ≡ old.store.names → kept_in new.procedures ≡ take program.first (kept_in old.procedures) → NodesAreReady tree old → NodesAreReady tree new
-  nodes_forgotten old new program e names kept ready = λ n cell is.
+  pub nodes_forgotten : {M : Type 0} (old new : Runner M) (program : Program) → work ≡ RunCell program → new.store.names ≡ old.store.names → new.entries ≡ old.entries → kept_in new.procedures ≡ take program.first (kept_in old.procedures) → NodesAreReady tree old → NodesAreReady tree new
+  nodes_forgotten old new program e names entries kept ready = λ n cell is.
       let behind : IsBehindNodes tree (RunCell program) = subst (λ (w : Work). IsBehindNodes tree w) e k.behind in
-      subst (λ (xs : List Name). IsReady xs new.procedures cell.program) (sym names) (ready_less old.store.names old.procedures new.procedures program.first cell.program (behind n cell is) kept (ready n cell is))
+      let g : List Name = names_in (world_at (past_of tree) n).store in
+      can_run_still old new g cell.program (same_more old.store.names new.store.names names) (same_more old.entries new.entries entries)
+      (ready_less new.store.names new.entries g old.procedures new.procedures program.first cell.program (behind n cell is) kept) (ready n cell is)
 
 -- what is shown stays where bodies that are not defined are dropped
-pub shows_forgotten : {L : Type 0} (old new : Runner L) (from : ℕ) (shown : ShownWorld) → new.store ≡ old.store → Shows old shown → AreBelow from shown.bodies → kept_in new.procedures ≡ take from (kept_in old.procedures) → AreDefined new.procedures shown.bodies → Shows new shown
-shows_forgotten old new from shown same shows low kept defined = record {
-  store = ap (λ (h : StoreState). shown_store h) same ∙ shows.store;
-  one_number = subst (λ (h : StoreState). HaveOneNumber h.names) (sym same) shows.one_number;
-  defined = subst (λ (h : StoreState). Define h.names new.procedures shown.bodies shown.world.procedures) (sym same) (forgotten_still_defined old.store.names old.procedures new.procedures shown.bodies shown.world.procedures from shows.defined low kept defined);
-}
+pub shows_forgotten : {L : Type 0} (old new : Runner L) (from : ℕ) (shown : ShownWorld) → new.store ≡ old.store → new.entries ≡ old.entries → Shows old shown → AreBelow from shown.bodies → kept_in new.procedures ≡ take from (kept_in old.procedures) → AreDefined new.procedures shown.bodies → Shows new shown
+shows_forgotten old new from shown same entries shows low kept defined =
+    let ps = shown.world.procedures in
+    record {
+      store = ap (λ (h : StoreState). shown_store h) same ∙ shows.store;
+      texts = subst (λ (h : StoreState). length h.texts ≡ h.declared) (sym same) shows.texts;
+      slots = subst (λ (h : StoreState). AreSlots h.names) (sym same) shows.slots;
+      listed = subst (λ (es : List Name). AreListed es ps) (sym entries) shows.listed;
+      defined = subst (λ (h : StoreState). Define h.names new.procedures shown.bodies (slots.procedures_in new.entries ps)) (sym same)
+          (subst (λ (es : List Name). Define old.store.names new.procedures shown.bodies (slots.procedures_in es ps)) (sym entries)
+          (forgotten_still_defined old.store.names old.procedures new.procedures shown.bodies (slots.procedures_in old.entries ps) from shows.defined low kept defined));
+    }
 
 -- ---- a posted cell that could not be entered
 
@@ -781,6 +839,7 @@ pub record IsUnentered {L : Type 0} (tree : HistoryTree) (old : Runner L) (made 
   pub nodes : made.cells.nodes ≡ tree.cells.nodes
   pub position : made.position ≡ tree.position
   pub names : GoOn old.store.names at.store.names
+  pub entries : GoOn old.entries at.entries
   pub whole : IsWhole at.store
   pub shows : Shows at (shown_here tree)
   pub older : take (length (kept_in old.procedures)) (kept_in at.procedures) ≡ kept_in old.procedures
@@ -788,11 +847,12 @@ pub record IsUnentered {L : Type 0} (tree : HistoryTree) (old : Runner L) (made 
 
 -- its bodies are dropped
 pub kept_dropped : {L : Type 0} (tree made : HistoryTree) (old at new : Runner L) (job : Open) (first : ℕ) → Kept tree old Idle → IsUnentered tree old made at job → first ≡ length (kept_in old.procedures) → AreBelow first (bodies_at tree tree.position) →
-    new.store ≡ at.store → kept_in new.procedures ≡ take first (kept_in at.procedures) → ((stack : List ℕ) → AreDefined at.procedures stack → AreBelow first stack → AreDefined new.procedures stack) → IsKept made new job
-kept_dropped tree made old at new job first k un is low store kept defined =
+    new.store ≡ at.store → new.entries ≡ at.entries → kept_in new.procedures ≡ take first (kept_in at.procedures) → ((stack : List ℕ) → AreDefined at.procedures stack → AreBelow first stack → AreDefined new.procedures stack) → IsKept made new job
+kept_dropped tree made old at new job first k un is low store entries kept defined =
     let same : kept_in new.procedures ≡ kept_in old.procedures = kept ∙ ap (λ (n : ℕ). take n (kept_in at.procedures)) is ∙ un.older in
     let names : GoOn old.store.names new.store.names = subst (λ (h : StoreState). GoOn old.store.names h.names) (sym store) un.names in
+    let listed : GoOn old.entries new.entries = subst (λ (es : List Name). GoOn old.entries es) (sym entries) un.entries in
     let whole : IsWhole new.store = subst (λ (h : StoreState). IsWhole h) (sym store) un.whole in
-    let shows = shows_forgotten at new first (shown_here tree) store un.shows low kept (defined (bodies_at tree tree.position) un.shows.defined.defined low) in
-    let idle = kept_idle tree Idle old new k (nodes_ready tree old new names same k.ready) (no_other_same tree old.procedures new.procedures same k.no_other) whole shows in
+    let shows = shows_forgotten at new first (shown_here tree) store entries un.shows low kept (defined (bodies_at tree tree.position) un.shows.defined.defined low) in
+    let idle = kept_idle tree Idle old new k (nodes_ready tree old new names listed same k.ready) (no_other_same tree old.procedures new.procedures same k.no_other) whole shows in
     subst (λ (j : Open). IsKept made new j) (sym un.idle) (idle_in_time made new (kept_with_room tree made new idle un.past un.nodes un.position))

@@ -4,7 +4,9 @@ use Rattle.std.specs.Prelude.{◌≡◌, ℕ, zero, suc, ◌+◌, ◌-◌, ◌<�
 use Rattle.std.specs.Prelude.{length, map, slice_get, sum_by}
 use Rattle.cell_tree.specs.Tree.{contents_of}
 use Rattle.cell_tree.specs.declared.node.Node.{Node}
-use Rattle.janus_meaning.specs.Syntax.{Proc}
+use Rattle.janus_meaning.specs.Syntax.{Name, Proc}
+use Rattle.janus_slots.specs.Slots.{names_in}
+use Rattle.janus_slots.specs.Law.{AreListed}
 use Rattle.janus_machine.specs.Procedures.{kept_in}
 use Rattle.janus_machine.specs.declared.procedures.Procedures.{Procedures}
 use Rattle.janus_meaning.specs.World.{define}
@@ -12,7 +14,7 @@ use Rattle.janus_syntax.specs.Tree.{procedures_view}
 use Rattle.janus_syntax.specs.View.{plain_procedure}
 use Rattle.janus_syntax.specs.declared.tree.Procedure.{Procedure}
 use Rattle.kernel_machine.specs.Language.{start_of}
-use Rattle.kernel_machine.specs.State.{here, below, code_of}
+use Rattle.kernel_machine.specs.State.{here, below, code_of, world_at}
 use Rattle.kernel_machine.specs.declared.travel.Way.TheVariants.{Up, Down}
 use Rattle.kernel_machine.specs.Travel.{next_way}
 use Rattle.kernel_history.specs.Fields.{past_of, work_of}
@@ -75,9 +77,16 @@ procedures_in tree work = (start_of (code_of (past_of tree) (work_of work)) (her
 
 -- ---- which bodies are kept, and in which order
 
--- each node's code, read over the store's table of names, is its cell's block, and its bodies are kept
+-- The program can run where the names of g are in sight as its block begins: its code and its bodies, which are kept, are its cell's with slots in
+-- place of names, and each of its procedures is named in the table.
+pub record CanRun {L : Type 0} (runner : Runner L) (g : List Name) (program : Program) : Type 0 where
+  pub ready : IsReady runner.store.names runner.entries g runner.procedures program
+  pub named : AreListed runner.entries (procedures_of program)
+
+-- each node's program can, where the names of its world are in sight: its cell's block begins with just these, and leaves them as they are
 abbrev pub NodesAreReady : {L : Type 0} → HistoryTree → Runner L → Type 0
-NodesAreReady tree runner = (n : ℕ) (cell : EndedCell) → IsCellAt tree n cell → IsReady runner.store.names runner.procedures cell.program
+NodesAreReady tree runner =
+    (n : ℕ) (cell : EndedCell) → IsCellAt tree n cell → CanRun runner (names_in (world_at (past_of tree) n).store) cell.program
 
 -- the bodies of the one program stand before the first of the other
 abbrev pub IsBefore : Program → Program → Type 0

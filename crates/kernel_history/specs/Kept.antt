@@ -2,7 +2,7 @@
 --
 -- of the tree             `IsLegal` (`kernel_machine`, specs/Legal): parents stand before their children, and each node's world is that of its cell
 --                         `AreInOrder` (Bodies): the bodies of nodes are kept in the order of the nodes
--- of tree and runner      `NodesAreReady` (Bodies): each node's code is its cell's block, over the store's names, and its bodies are kept
+-- of tree and runner      `NodesAreReady` (Bodies): each node's code is its cell's block, with slots in place of names, and its bodies are kept
 -- of the open job         `IsPossibleAt`, `IsCountedAt` (`kernel_machine`, specs/Legal): it can go as far as it has to, by counts of 64 bits
 -- of tree and open job    `IsBehindAt` (Bodies): the bodies of a posted cell are kept behind those of all nodes
 --                         `HasRoomAt`: there is room for the node that a posted cell becomes

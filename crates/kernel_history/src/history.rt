@@ -7,8 +7,11 @@ ghost use Rattle.kernel_machine.specs.Legal.{IsLegal, IsPossible, IsCounted, Can
 ghost use Rattle.kernel_machine.specs.Slices.{IsSlice, cells};
 ghost use Rattle.kernel_machine.specs.StepsOfSlices.{WritesOnSlice};
 ghost use Rattle.kernel_machine.specs.Begins.{TakesCell, TakesMove, TakesGoto, Departs, Enters, Declares, travel_to};
+ghost use Rattle.janus_meaning.specs.World.{entered};
 ghost use Rattle.janus_names.specs.Numbers.{GoOn};
-ghost use Rattle.janus_store.specs.StoreState.{IsWhole, KeepsSight};
+ghost use Rattle.janus_slots.specs.Slots.{names_in};
+ghost use Rattle.janus_slots.specs.Law.{AreListed};
+ghost use Rattle.janus_store.specs.StoreState.{IsWhole, KeepsSight, shown_store};
 ghost use Rattle.janus_machine.specs.Procedures.{kept_in};
 ghost use Rattle.kernel_machine.specs.Text.{Accepts, Refuses};
 ghost use Rattle.kernel_runner.specs.Program.{cell_of_program, procedures_of, IsReady};
@@ -78,10 +81,11 @@ fn enter_next<L: Ledger>(
     requires ready { NodesAreReady tree.now runner.old }
     requires order { AreInOrder tree.now }
     ensures ok { OnOk result (StandsAt tree.now (Open.Inside (record { work = Work.Move travel; count = 0; heading = Heading.GoesOn })) runner.new) }
-    ensures err { OnErr result (Becomes runner.old.store runner.new.store runner.old.store.sight) }
+    ensures err { OnErr result (Becomes runner.old.store runner.new.store (shown_store runner.old.store)) }
     ensures same { OnErr result (runner.new.procedures ≡ runner.old.procedures) }
     ensures bodies { kept_in runner.new.procedures ≡ kept_in runner.old.procedures }
     ensures names { GoOn runner.old.store.names runner.new.store.names }
+    ensures entries { runner.new.entries ≡ runner.old.entries }
     ensures declares { OnErr result (Declares (past_of tree.now) travel) }
 {
     match travel.way() {
@@ -139,13 +143,16 @@ fn prepare<L: Ledger>(
     requires is { (bodies : List ℕ) × Is runner.old (Between (over bodies (here (past_of tree.now)))) }
     ensures accepts { IfOk result (λ program. Accepts (here (past_of tree.now)) text.now (cell_of_program program)) }
     ensures refuses { IfErr result (Refuses (here (past_of tree.now)) text.now) }
-    ensures ready { IfOk result (λ program. IsReady runner.new.store.names runner.new.procedures program) }
+    ensures ready { IfOk result (λ program. IsReady runner.new.store.names runner.new.entries
+        (names_in (entered (cell_of_program program) (here (past_of tree.now))).store) runner.new.procedures program) }
+    ensures named { IfOk result (λ program. AreListed runner.new.entries (procedures_of program)) }
     // Its bodies are behind those that were kept, with none behind them, and what is refused leaves those alone.
     ensures behind { IfOk result (λ program. program.first ≡ length (kept_in runner.old.procedures)) }
     ensures last { IfOk result (λ program. length (kept_in runner.new.procedures) ≡ program.first + length (procedures_of program)) }
     ensures older { KeepsOlder runner.old.procedures runner.new.procedures }
     ensures none { OnErr result (kept_in runner.new.procedures ≡ kept_in runner.old.procedures) }
     ensures kept { KeepsSight runner.old.store runner.new.store }
+    ensures entries { GoOn runner.old.entries runner.new.entries }
     ensures shown { KeepsShown runner.old runner.new }
 {
     let Ok(procedures) = procedures_here(alloc, tree, runner) else {
@@ -178,7 +185,7 @@ impl<L: Ledger> History<L> {
     /// The store between two jobs: it has the names and values of the position's world, and no local is open.
     pub fn store(&self) -> &Store<L>
         requires { self.now.job ≡ Idle }
-        ensures sight { result.now.sight ≡ (here self.now.past).store }
+        ensures shown { shown_store result.now ≡ (here self.now.past).store }
         ensures whole { IsWhole result.now }
     {
         &self.runner.store

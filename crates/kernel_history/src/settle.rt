@@ -72,6 +72,7 @@ fn settle_back<L: Ledger>(tree: &HistoryTree, runner: &mut Runner<L>, work: &Wor
     ensures ready { NodesAreReady tree.now runner.new }
     ensures no_other { KeepsNoOther tree.now runner.new.procedures }
     ensures names { GoOn runner.old.store.names runner.new.store.names }
+    ensures entries { runner.new.entries ≡ runner.old.entries }
 {
     match work {
         Work::Cell(program) => {

@@ -1,17 +1,18 @@
--- The body that is kept of a procedure stands for it.
+-- The body that is kept of a procedure stands for it, with slots in place of names.
 use Rattle.std.proofs.Common.{◌≡◌, ◌+◌, ◌<◌, ◌≤◌, ℕ, zero, suc, List, [], ◌∷◌, ◌++◌, length, get_or, map, take, refl, sym, ap, ◌∙◌, subst, arith}
 use Rattle.std.specs.Prelude.{slice_get, Some}
-use Rattle.std.proofs.lemmas.List.{length-map}
+use Rattle.std.proofs.lemmas.List.{length-map, map-append}
 use Rattle.janus_machine.proofs.BodiesInEffect.{bodies_from_before, bodies_from_more}
 use Rattle.janus_meaning.specs.Limit.{parameter_limit}
 use Rattle.janus_meaning.specs.Syntax.{Name, Proc, names_of}
+use Rattle.janus_meaning.specs.Shape.{Heads}
+use Rattle.janus_meaning.specs.Formed.{IsProc, AreProcs}
 use Rattle.janus_syntax.specs.Tree.{procedure_view, procedures_view}
 use Rattle.janus_syntax.specs.View.{plain_procedure}
 use Rattle.janus_syntax.specs.declared.tree.Procedure as Defined
-use Rattle.janus_code.specs.Met.{MeetsProc}
-use Rattle.kernel_loader.specs.Met.{AreProceduresMet}
 use Rattle.janus_names.specs.Numbers.{IsNumbered}
 use Rattle.janus_names.proofs.NameAt.{is_numbered}
+use Rattle.janus_slots.specs.Slots.{stacked, procedure_in, procedures_in}
 use Rattle.janus_code.specs.CodeBlock.{code_block}
 use Rattle.janus_code.specs.Numbered.{HaveNumbers}
 use Rattle.janus_code.specs.Procedures.{param_of, params_of, proc_of, ParametersHaveNumbers, ProcedureHasNumbers}
@@ -41,12 +42,20 @@ body_of_flat xs f b p is numbered few name parameters body books = (
   },
 )
 
+stacked_count : {A : Type 0} (l : List (Name × A)) → length (stacked l) ≡ length l
+stacked_count [] = refl
+stacked_count (e ∷ l) = ap suc (stacked_count l)
+
+-- a procedure has as many parameters with slots
+pub few_slots : (es : List Name) (p : Proc) → length p.params ≤ parameter_limit → length (procedure_in es p).params ≤ parameter_limit
+few_slots es p few = subst (λ n. n ≤ parameter_limit) (sym (stacked_count p.params)) few
+
 -- ---- several
 
-pub met_at : (xs : List Name) (ys : List Defined.Procedure) (i : ℕ) (y : Defined.Procedure) → i < length ys → get_or ys i y ≡ y → AreProceduresMet xs (map plain_procedure (procedures_view ys)) → MeetsProc xs (plain_procedure (procedure_view y)) × (length (plain_procedure (procedure_view y)).params ≤ parameter_limit)
-met_at xs [] i y l e h = absurd (omega arith)
-met_at xs (z ∷ ys) zero y l e h = subst (λ (z : Defined.Procedure). MeetsProc xs (plain_procedure (procedure_view z)) × (length (plain_procedure (procedure_view z)).params ≤ parameter_limit)) e h.0
-met_at xs (z ∷ ys) (suc i) y l e h = met_at xs ys i y (omega arith) e h.1
+pub formed_at : (hs : Heads) (ys : List Defined.Procedure) (i : ℕ) (y : Defined.Procedure) → i < length ys → get_or ys i y ≡ y → AreProcs hs (map plain_procedure (procedures_view ys)) → IsProc hs (plain_procedure (procedure_view y))
+formed_at hs [] i y l e h = absurd (omega arith)
+formed_at hs (z ∷ ys) zero y l e h = subst (λ (z : Defined.Procedure). IsProc hs (plain_procedure (procedure_view z))) e h.0
+formed_at hs (z ∷ ys) (suc i) y l e h = formed_at hs ys i y (omega arith) e h.1
 
 procedures_more : (ys : List Defined.Procedure) (i : ℕ) (y : Defined.Procedure) → i < length ys → get_or ys i y ≡ y → map plain_procedure (procedures_view (take (suc i) ys)) ≡ map plain_procedure (procedures_view (take i ys)) ++ plain_procedure (procedure_view y) ∷ []
 procedures_more [] i y l e = absurd (omega arith)
@@ -71,20 +80,29 @@ one_longer : (xs : List LinkedProcedure) (b : LinkedProcedure) → length (xs ++
 one_longer [] b = refl
 one_longer (x ∷ xs) b = ap suc (one_longer xs b)
 
--- one body more is kept
-pub kept_more : (xs : List Name) (old all new : List LinkedProcedure) (ys : List Defined.Procedure) (i : ℕ) (y : Defined.Procedure) (b : LinkedProcedure) → i < length ys → get_or ys i y ≡ y → AreBodiesFrom xs all (length old) (map plain_procedure (procedures_view (take i ys))) →
-    length all ≡ length old + i → take (length old) all ≡ old → new ≡ all ++ b ∷ [] → IsNumbered xs b.name (plain_procedure (procedure_view y)).name → IsBody xs b (plain_procedure (procedure_view y)) →
-    AreBodiesFrom xs new (length old) (map plain_procedure (procedures_view (take (i + 1) ys))) × (length new ≡ length old + (i + 1)) × (take (length old) new ≡ old)
-kept_more xs old all new ys i y b l e bodies count older made named body =
-    let ps = map plain_procedure (procedures_view (take i ys)) in
-    let p = plain_procedure (procedure_view y) in
-    let one : suc i ≡ i + 1 = omega arith in
-    let place : length all ≡ length old + length ps = count ∙ ap (λ n. length old + n) (sym (procedures_count ys i (let r : i ≤ length ys = omega arith in r))) in
-    let at : slice_get (all ++ b ∷ []) (length old + length ps) ≡ Some b = ap (slice_get (all ++ b ∷ [])) (sym place) ∙ last_one all b in
+-- one body more is kept ..
+pub kept_more : (old all new : List LinkedProcedure) (i : ℕ) (b : LinkedProcedure) → length all ≡ length old + i → take (length old) all ≡ old → new ≡ all ++ b ∷ [] → (length new ≡ length old + (i + 1)) × (take (length old) new ≡ old)
+kept_more old all new i b count older made =
     let longer = one_longer all b in (
-      subst (λ bs. AreBodiesFrom xs bs (length old) (map plain_procedure (procedures_view (take (i + 1) ys)))) (sym made)
-          (subst (λ qs. AreBodiesFrom xs (all ++ b ∷ []) (length old) qs) (sym (procedures_more ys i y l e) ∙ ap (λ n. map plain_procedure (procedures_view (take n ys))) one)
-          (bodies_from_more xs (all ++ b ∷ []) (length old) ps p (bodies_from_before xs all b (length old) ps bodies) (b, at, named, body))),
       ap (λ (bs : List LinkedProcedure). length bs) made ∙ longer ∙ (let r : suc (length all) ≡ length old + (i + 1) = omega arith in r),
       ap (take (length old)) made ∙ take_before (length old) all b (omega arith) ∙ older,
     )
+
+-- .. which is that of a procedure with slots
+pub bodies_more : (xs es : List Name) (old all new : List LinkedProcedure) (ys : List Defined.Procedure) (i : ℕ) (y : Defined.Procedure) (b : LinkedProcedure) → i < length ys → get_or ys i y ≡ y →
+    AreBodiesFrom xs all (length old) (procedures_in es (map plain_procedure (procedures_view (take i ys)))) → length all ≡ length old + i → new ≡ all ++ b ∷ [] →
+    IsNumbered xs b.name (procedure_in es (plain_procedure (procedure_view y))).name → IsBody xs b (procedure_in es (plain_procedure (procedure_view y))) →
+    AreBodiesFrom xs new (length old) (procedures_in es (map plain_procedure (procedures_view (take (i + 1) ys))))
+bodies_more xs es old all new ys i y b l e bodies count made named body =
+    let ps : List Proc = procedures_in es (map plain_procedure (procedures_view (take i ys))) in
+    let p : Proc = procedure_in es (plain_procedure (procedure_view y)) in
+    let one : suc i ≡ i + 1 = omega arith in
+    let many : length ps ≡ i = length-map (map plain_procedure (procedures_view (take i ys))) (procedure_in es) ∙ procedures_count ys i (let r : i ≤ length ys = omega arith in r) in
+    let place : length all ≡ length old + length ps = count ∙ ap (λ n. length old + n) (sym many) in
+    let at : slice_get (all ++ b ∷ []) (length old + length ps) ≡ Some b = ap (slice_get (all ++ b ∷ [])) (sym place) ∙ last_one all b in
+    let more : procedures_in es (map plain_procedure (procedures_view (take (i + 1) ys))) ≡ ps ++ p ∷ [] =
+    ap (λ n. procedures_in es (map plain_procedure (procedures_view (take n ys)))) (sym one) ∙ ap (procedures_in es) (procedures_more ys i y l e)
+    ∙ map-append (procedure_in es) (map plain_procedure (procedures_view (take i ys))) (plain_procedure (procedure_view y) ∷ []) in
+    subst (λ bs. AreBodiesFrom xs bs (length old) (procedures_in es (map plain_procedure (procedures_view (take (i + 1) ys))))) (sym made)
+    (subst (λ qs. AreBodiesFrom xs (all ++ b ∷ []) (length old) qs) (sym more)
+    (bodies_from_more xs (all ++ b ∷ []) (length old) ps p (bodies_from_before xs all b (length old) ps bodies) (b, at, named, body)))

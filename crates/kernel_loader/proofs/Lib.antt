@@ -1,6 +1,7 @@
 pub mod Kept
 pub mod OlderHeads
 pub mod Made
-pub mod NamesMet
+pub mod Listed
+pub mod CodeCalls
+pub mod Sighted
 pub mod Entries
-pub mod StillMet

@@ -1,23 +1,33 @@
--- The bodies of a cell's procedures, kept behind those of earlier cells.
-use Rattle.std.specs.Prelude.{◌≡◌, ℕ, List, [], ◌∷◌, ◌++◌, length, take}
-use Rattle.janus_meaning.specs.Syntax.{Name, Proc}
+-- The code of a cell, and the bodies of its procedures, kept behind those of earlier cells. All of it has slots in place of names, and stands for what it
+-- does over each table of slots that is as wide as told.
+use Rattle.std.specs.Prelude.{◌≡◌, ◌≤◌, ℕ, List, [], ◌∷◌, ◌++◌, length, take}
+use Rattle.janus_meaning.specs.Syntax.{Name, Blk, Proc}
 use Rattle.janus_names.specs.Numbers.{IsNumbered}
+use Rattle.janus_store.specs.StoreState.{AreSlots}
 use Rattle.janus_machine.specs.Bodies.{AreDefined, AreBodiesFrom, IsBody}
 use Rattle.janus_machine.specs.LinkedProcedure.{name_number_of}
+use Rattle.janus_machine.specs.Places.{block_in, BookHasNumbers}
 use Rattle.janus_machine.specs.Procedures.{kept_in}
+use Rattle.janus_machine.specs.declared.book.Book.{Book}
+use Rattle.janus_machine.specs.declared.book.Direction.TheVariants.{Forward}
 use Rattle.janus_machine.specs.declared.linked_procedure.LinkedProcedure.{LinkedProcedure}
 use Rattle.janus_machine.specs.declared.procedures.Procedures.{Procedures}
 
+-- the book stands for the block, and each of its numbers is that of a slot
+pub record StandsFor (width : ℕ) (book : Book) (b : Blk) : Type 0 where
+  pub block : (xs : List Name) → AreSlots xs → width ≤ length xs → block_in xs book Forward ≡ b
+  pub numbered : (xs : List Name) → AreSlots xs → width ≤ length xs → BookHasNumbers xs book
+
 -- the body of this procedure is kept behind the others
-pub record IsKeptBehind (names : List Name) (old new : Procedures) (p : Proc) : Type 0 where
+pub record IsKeptBehind (old new : Procedures) (width : ℕ) (p : Proc) : Type 0 where
   pub body : LinkedProcedure
   pub kept : kept_in new ≡ kept_in old ++ body ∷ []
-  pub name : IsNumbered names (name_number_of body) p.name
-  pub of_procedure : IsBody names body p
+  pub name : (xs : List Name) → AreSlots xs → width ≤ length xs → IsNumbered xs (name_number_of body) p.name
+  pub of_procedure : (xs : List Name) → AreSlots xs → width ≤ length xs → IsBody xs body p
 
 -- and the bodies of these, in order
-abbrev pub AreBodiesBehind : List Name → Procedures → Procedures → List Proc → Type 0
-AreBodiesBehind names old new ps = AreBodiesFrom names (kept_in new) (length (kept_in old)) ps
+abbrev pub AreBodiesBehind : Procedures → Procedures → ℕ → List Proc → Type 0
+AreBodiesBehind old new width ps = (xs : List Name) → AreSlots xs → width ≤ length xs → AreBodiesFrom xs (kept_in new) (length (kept_in old)) ps
 
 -- what was kept is, at its index
 abbrev pub KeepsOlder : Procedures → Procedures → Type 0

@@ -3,6 +3,5 @@
 pub mod Kinds
 pub mod Defined
 pub mod Known
-pub mod Met
 pub mod Keeping
 pub mod Loading

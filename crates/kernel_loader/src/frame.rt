@@ -3,7 +3,6 @@
 use janus_code::Statement;
 use janus_laying::FrameNames;
 use janus_machine::Store;
-use janus_names::Names;
 use janus_store::ValueView;
 use janus_syntax::tree::Declaration;
 use std::alloc::{AllocError, Global};
@@ -19,16 +18,16 @@ pub fn has_loop(statements: &[Statement]) -> bool {
     false
 }
 
-/// The names that a store declares, and behind them those that a cell declares. What runs compares them with the names in sight. The only
-/// error is want of memory.
+/// The slots of the names that a store declares, and behind them those of the names that a cell declares, in their order. What runs compares them with
+/// the names in sight. The only error is want of memory.
 pub fn frame_names<L: Ledger>(
     alloc: Global,
     store: &Store<L>,
-    names: &Names,
     declarations: &[Declaration],
 ) -> Result<FrameNames, AllocError> {
     let mut frame = FrameNames::new(alloc);
-    for i in 0..store.sight_len() {
+    let older = store.sight_len();
+    for i in 0..older {
         let (number, value) = store.sight_entry(i);
         match value {
             ValueView::Number(_) => frame.add_number(number)?,
@@ -37,29 +36,23 @@ pub fn frame_names<L: Ledger>(
         }
     }
     for i in 0..declarations.len() {
-        declare(names, &declarations[i], &mut frame)?;
+        match older.checked_add(i) {
+            Some(slot) => declare(slot, &declarations[i], &mut frame)?,
+            None => return Err(AllocError),
+        }
     }
     Ok(frame)
 }
 
-/// Adds the name of a declaration, where it was met.
+/// Adds the slot of the name of a declaration.
 fn declare(
-    names: &Names,
+    slot: usize,
     declaration: &Declaration,
     frame: &mut FrameNames,
 ) -> Result<(), AllocError> {
     match declaration {
-        Declaration::Int(name) => match names.number(name.text.as_str()) {
-            Some(number) => frame.add_number(number),
-            None => Ok(()),
-        },
-        Declaration::Array(name, _, _) => match names.number(name.text.as_str()) {
-            Some(number) => frame.add_array(number),
-            None => Ok(()),
-        },
-        Declaration::Stack(name) => match names.number(name.text.as_str()) {
-            Some(number) => frame.add_stack(number),
-            None => Ok(()),
-        },
+        Declaration::Int(_) => frame.add_number(slot),
+        Declaration::Array(_, _, _) => frame.add_array(slot),
+        Declaration::Stack(_) => frame.add_stack(slot),
     }
 }

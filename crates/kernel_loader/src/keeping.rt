@@ -1,57 +1,74 @@
 //! The bodies of a cell's procedures, made flat and linked, and kept behind those of earlier cells.
-ghost use Rattle.std.specs.Prelude.{◌≡◌, ◌+◌, ◌≤◌, OnOk, OnErr, length, map};
-ghost use Rattle.janus_meaning.specs.Limit.{parameter_limit};
+ghost use Rattle.std.specs.Prelude.{◌≡◌, ◌+◌, ◌≤◌, IfOk, OnOk, OnErr, length, map};
+ghost use Rattle.janus_meaning.specs.Formed.{IsProc, AreProcs};
+ghost use Rattle.janus_slots.specs.Slots.{procedure_in, procedures_in};
 ghost use Rattle.janus_syntax.specs.Tree.{procedure_view, procedures_view};
 ghost use Rattle.janus_syntax.specs.View.{plain_procedure};
-ghost use Rattle.janus_code.specs.Met.{MeetsProc};
+ghost use Rattle.janus_check.specs.Sight.{heads_seen};
+ghost use Rattle.janus_code.specs.Slotted.{HasEntries};
 ghost use Rattle.janus_machine.specs.Procedures.{kept_in};
-ghost use Rattle.kernel_loader.specs.Met.{AreProceduresMet};
 ghost use Rattle.kernel_loader.specs.Keeping.{IsKeptBehind, AreBodiesBehind, KeepsOlder, KeepsDefined};
 
+use janus_check::Sight;
 use janus_code::flatten_procedure;
 use janus_machine::{LinkedProcedure, Procedures};
 use janus_names::Names;
 use janus_syntax::tree::Procedure;
 use std::alloc::{AllocError, Global};
 
-/// Keeps the bodies of procedures whose names were met, one behind another; an error for want of memory, or for a body of more statements or places
-/// than 32 bits count, after which some of them may be kept.
+/// Keeps the bodies of procedures, one behind another, and gives how many slots they need; an error for want of memory, or for a body of more
+/// statements or places than 32 bits count, after which some of them may be kept.
 pub fn keep_all(
     alloc: Global,
     procedures: &[Procedure],
-    names: &Names,
+    sight: &Sight,
+    entries: &Names,
     kept: &mut Procedures,
-) -> Result<(), AllocError>
-    requires { AreProceduresMet names.now (map plain_procedure (procedures_view procedures.now)) }
-    ensures bodies { OnOk result (AreBodiesBehind names.now kept.old kept.new (map plain_procedure (procedures_view procedures.now))) }
+) -> Result<usize, AllocError>
+    requires formed { AreProcs (heads_seen sight.now) (map plain_procedure (procedures_view procedures.now)) }
+    requires entries { HasEntries (heads_seen sight.now) entries.now }
+    ensures bodies { IfOk result (λ width.
+        AreBodiesBehind kept.old kept.new width (procedures_in entries.now (map plain_procedure (procedures_view procedures.now)))) }
     ensures count { OnOk result (length (kept_in kept.new) ≡ length (kept_in kept.old) + length procedures.now) }
     ensures older { KeepsOlder kept.old kept.new }
     ensures defined { KeepsDefined kept.old kept.new }
 {
+    let mut width = 0;
     for i in 0..procedures.len() {
-        keep(alloc, &procedures[i], names, kept)?;
+        let more = keep(alloc, &procedures[i], sight, entries, kept)?;
+        width = larger(width, more);
     }
-    Ok(())
+    Ok(width)
 }
 
-/// Keeps the body of a procedure; an error for want of memory, or for a body of more statements or places than 32 bits count, after which what was kept
-/// is.
+/// Keeps the body of a procedure, and gives how many slots it needs; an error for want of memory, or for a body of more statements or places than 32
+/// bits count, after which what was kept is.
 fn keep(
     alloc: Global,
     procedure: &Procedure,
-    names: &Names,
+    sight: &Sight,
+    entries: &Names,
     kept: &mut Procedures,
-) -> Result<(), AllocError>
-    requires met { MeetsProc names.now (plain_procedure (procedure_view procedure.now)) }
-    requires few { length (plain_procedure (procedure_view procedure.now)).params ≤ parameter_limit }
-    ensures ok { OnOk result (IsKeptBehind names.now kept.old kept.new (plain_procedure (procedure_view procedure.now))) }
+) -> Result<usize, AllocError>
+    requires formed { IsProc (heads_seen sight.now) (plain_procedure (procedure_view procedure.now)) }
+    requires entries { HasEntries (heads_seen sight.now) entries.now }
+    ensures ok { IfOk result (λ width. IsKeptBehind kept.old kept.new width (procedure_in entries.now (plain_procedure (procedure_view procedure.now)))) }
     ensures err { OnErr result (kept_in kept.new ≡ kept_in kept.old) }
     ensures defined { KeepsDefined kept.old kept.new }
 {
-    let Ok(flat) = flatten_procedure(alloc, procedure, names) else {
+    let Ok(flat) = flatten_procedure(alloc, procedure, sight, entries) else {
         return Err(AllocError);
     };
-    let body = LinkedProcedure::new(alloc, flat)?;
+    let width = flat.width;
+    let body = LinkedProcedure::new(alloc, flat.procedure)?;
     let _index = kept.add(body)?;
-    Ok(())
+    Ok(width)
+}
+
+/// The larger one of two.
+pub fn larger(one: usize, other: usize) -> usize
+    ensures one { one ≤ result }
+    ensures other { other ≤ result }
+{
+    if one < other { other } else { one }
 }

@@ -1,19 +1,27 @@
 -- Entering a cell, its inverse, and leaving it: names are declared and procedures defined, and taken back.
 use Rattle.std.proofs.Common.{◌≡◌, ℕ, ◌+◌, ◌≤◌, false, List, [], ◌∷◌, ◌++◌, length, refl, sym, ap, ◌∙◌, subst, arith}
+use Rattle.std.proofs.lemmas.List.{length-map}
+use Rattle.janus_meaning.specs.Fault.{Broken}
 use Rattle.janus_meaning.specs.Syntax.{Name, Blk, Proc, inverse_block}
+use Rattle.janus_meaning.specs.Meaning.{Block}
+use Rattle.janus_meaning.specs.Cells.{around}
+use Rattle.janus_meaning.proofs.Safe.{well_formed_is_safe}
+use Rattle.janus_slots.specs.Slots.{names_in, procedure_in, procedures_in}
+use Rattle.janus_slots.specs.Law.{AreListed}
+use Rattle.janus_slots.proofs.Laws.{runs_are_the_same, slots_stay}
 use Rattle.janus_meaning.specs.Store.{Store}
 use Rattle.janus_meaning.specs.Shape.{Shape, Heads, shape_of, heads_of}
 use Rattle.janus_meaning.specs.Formed.{IsBlk}
 use Rattle.janus_meaning.specs.FormedWorld.{with_heads}
 use Rattle.janus_meaning.specs.Stepping.{Frame, Place, BeforeBlock, AfterBlock, BeforeOne, AfterOne, To, frames_of, live}
 use Rattle.janus_meaning.specs.World.{World, Cell, entered, declare, define, stacks_in, size_of}
-use Rattle.janus_meaning.proofs.Worlds.{oldest_whole, worlds_reverse, entered_is_good}
+use Rattle.janus_meaning.proofs.Worlds.{worlds_reverse, entered_is_good}
 use Rattle.janus_meaning.proofs.FormedWorlds.{shape_declared, entered_formed}
-use Rattle.janus_names.specs.Numbers.{HaveOneNumber}
-use Rattle.janus_store.specs.StoreState.{StoreState, Caller, IsWhole, shown_store, live_stacks, stacks_lent, own_names}
+use Rattle.janus_names.specs.Numbers.{GoOn}
+use Rattle.janus_store.specs.StoreState.{StoreState, Caller, IsWhole, AreSlots, shown_store, live_stacks, stacks_lent, own_names}
 use Rattle.janus_linear.specs.Open.{locals_in}
 use Rattle.janus_linear.specs.Within.{within}
-use Rattle.janus_machine.specs.Bodies.{AreDefined, Define}
+use Rattle.janus_machine.specs.Bodies.{AreDefined, AreBodiesFrom, Define, onto}
 use Rattle.janus_machine.specs.Procedures.{kept_in}
 use Rattle.janus_machine.specs.Cursors.{outside_of, place_in, place_of, IsStanding}
 use Rattle.janus_machine.specs.Cursor.{calls_of}
@@ -31,16 +39,12 @@ use Rattle.janus_machine.proofs.BodiesInEffect.{all_defined, all_retired, bodies
 use Rattle.janus_machine.proofs.Courses.{blocks_are_safe, books_turn}
 use Rattle.kernel_machine.specs.Language.{CodeExec, IsFormed, IsSound}
 use Rattle.kernel_runner.specs.Program.{cell_of_program, procedures_of, IsReady, with_bodies}
-use Rattle.kernel_runner.specs.Runner.{ShownWorld, Becomes, Stands, entry, inverse_entry, Is, Between, CanEnter, CanReturn, CanLeave}
+use Rattle.kernel_runner.specs.Runner.{ShownWorld, Becomes, block_of, slots_of, Stands, entry, inverse_entry, Is, Between, CanEnter, CanReturn, CanLeave}
 use Rattle.kernel_runner.specs.declared.program.Program.{Program}
 use Rattle.kernel_runner.specs.declared.runner.Runner.{Runner}
-use Rattle.kernel_runner.proofs.Growing.{defined_grow, ready_grows}
+use Rattle.kernel_runner.proofs.Growing.{no_more, same_more, defined_grow, ready_grows}
+use Rattle.kernel_runner.proofs.Slotted.{slots_size, slots_stacks, IsStoreOf, whole_is}
 use Rattle.kernel_machine.proofs.LanguageLaws.{sound_good}
-
--- a store in which no local and no call is open shows all that it has
-pub all_shown : (h : StoreState) → IsWhole h → shown_store h ≡ h.sight
-all_shown h whole =
-    subst (λ (hs : List Caller). shown_store (record h { callers = hs }) ≡ h.sight) (sym whole.callers) (oldest_whole h.declared h.sight (sym whole.declared))
 
 -- ---- before the first step nothing is open
 
@@ -79,21 +83,40 @@ heads_defined : (more ps : List Proc) → heads_of (define more ps) ≡ with_hea
 heads_defined [] ps = refl
 heads_defined (p ∷ more) ps = heads_defined more (p ∷ ps)
 
-never_broken : (cell : Cell) (w : World) → IsSound w → IsFormed cell w → NeverBroken (entered cell w).procedures (stacks_in (entered cell w).store) cell.block (entered cell w).store
-never_broken cell w sound formed =
+never_broken : (entries : List Name) (cell : Cell) (w : World) → IsSound w → IsFormed cell w → AreListed entries (entered cell w).procedures →
+    NeverBroken (procedures_in entries (entered cell w).procedures) (stacks_in (entered cell w).store) (block_of entries cell.block (entered cell w)) (slots_of (entered cell w))
+never_broken entries cell w sound formed listed =
     let start : World = entered cell w in
-    (blocks_are_safe start.procedures (stacks_in start.store) cell.block start.store).formed (entered_formed cell w sound.formed formed.formed).procedures
+    (blocks_are_safe (procedures_in entries start.procedures) (stacks_in start.store) (block_of entries cell.block start) (slots_of start)).no_stop (λ n stop.
+    well_formed_is_safe (around start) n (Block cell.block) start.store Broken (entered_formed cell w sound.formed formed.formed).procedures
     (subst (λ (hs : Heads). IsBlk hs (shape_of start.store) cell.block) (sym (heads_defined cell.procedures w.procedures))
     (subst (λ (g : Shape). IsBlk (with_heads (heads_of w.procedures) cell.procedures) g cell.block) (sym (shape_declared cell.declarations w.store)) formed.formed.block))
+    ((runs_are_the_same entries (around start) cell.block start.store n listed).stopped Broken stop))
 
-ready_still : {L : Type 0} (old new : Runner L) (program : Program) → Becomes old.store new.store new.store.sight → kept_in new.procedures ≡ kept_in old.procedures → IsReady old.store.names old.procedures program → IsReady new.store.names new.procedures program
-ready_still old new program becomes kept h =
-    let more = ready_grows old.store.names new.store.names becomes.names old.procedures program h in
+-- ---- a table of procedures' names that goes on
+
+listed_more : (es : List Name) (more ps : List Proc) → AreListed es more → AreListed es ps → AreListed es (define more ps)
+listed_more es [] ps h k = k
+listed_more es (p ∷ more) ps h k = listed_more es more (p ∷ ps) h.1 (h.0, k)
+
+listed_less : (es : List Name) (more ps : List Proc) → AreListed es (define more ps) → AreListed es ps
+listed_less es [] ps h = h
+listed_less es (p ∷ more) ps h = (listed_less es more (p ∷ ps) h).1
+
+defined_in_slots : (es : List Name) (more ps : List Proc) → procedures_in es (define more ps) ≡ define (procedures_in es more) (procedures_in es ps)
+defined_in_slots es [] ps = refl
+defined_in_slots es (p ∷ more) ps = defined_in_slots es more (p ∷ ps)
+
+-- the bodies of a program stay where they are, and its code as it is, where as many bodies are kept
+ready_still : {L : Type 0} (old new : Runner L) (sight : List Name) (program : Program) → GoOn old.store.names new.store.names → new.entries ≡ old.entries → kept_in new.procedures ≡ kept_in old.procedures →
+    IsReady old.store.names old.entries sight old.procedures program → IsReady new.store.names new.entries sight new.procedures program
+ready_still old new sight program names entries kept h =
+    let more = ready_grows old.store.names new.store.names names old.entries new.entries (same_more old.entries new.entries entries) sight old.procedures program h in
     record {
       meant = more.meant;
       numbered = more.numbered;
       within = subst (λ bodies. program.first + length (procedures_of program) ≤ length bodies) (sym kept) more.within;
-      bodies = bodies_from_same new.store.names (kept_in old.procedures) (kept_in new.procedures) program.first (procedures_of program) kept more.bodies;
+      bodies = λ es onward. bodies_from_same new.store.names (kept_in old.procedures) (kept_in new.procedures) program.first (procedures_in es (procedures_of program)) kept (more.bodies es onward);
     }
 
 -- what a cursor promises before a block, over these names
@@ -103,18 +126,27 @@ pub record IsBefore (xs : List Name) (cursor : Cursor) (book : Book) (blk : Blk)
   pub counts : (cursor.count ≡ 0) × (cursor.turned ≡ false)
 
 pub entered_here : {L : Type 0} (old new : Runner L) (program : Program) (from : ShownWorld) → CanEnter old program from →
-    Becomes old.store new.store (declare (cell_of_program program).declarations old.store.sight) → kept_in new.procedures ≡ kept_in old.procedures → AreDefined new.procedures (with_bodies program from.bodies) →
+    Becomes old.store new.store (declare (cell_of_program program).declarations (shown_store old.store)) → kept_in new.procedures ≡ kept_in old.procedures → new.entries ≡ old.entries →
+    AreDefined new.procedures (with_bodies program from.bodies) →
     IsBefore new.store.names new.cursor program.book (block_in new.store.names program.book Forward) → Stands new program (entry program from) false
-entered_here old new program from can becomes kept defined before =
+entered_here old new program from can becomes kept entries defined before =
     let cell = cell_of_program program in
     let start : World = entered cell from.world in
-    let shown : old.store.sight ≡ from.world.store = sym (all_shown old.store can.is.1) ∙ can.is.0.store in
-    let same : new.store.sight ≡ start.store = becomes.sight ∙ ap (declare cell.declarations) shown in
+    let es : List Name = new.entries in
+    let shows : shown_store new.store ≡ start.store = becomes.shown ∙ ap (declare cell.declarations) can.is.0.store in
+    let is : IsStoreOf new.store start.store = whole_is new.store start.store becomes.whole becomes.texts shows in
     let standing = before.stands new.procedures new.store becomes.whole.callers in
-    let ready = ready_grows old.store.names new.store.names becomes.names old.procedures program can.ready in
-    let place : place_of new.store.names new.procedures program.book new.cursor new.store.callers ≡ BeforeBlock cell.block [] = before.place new.procedures new.store.callers ∙ ap (λ (b : Blk). BeforeBlock b []) ready.meant in
-    let grown : Define new.store.names old.procedures from.bodies from.world.procedures = defined_grow old.store.names new.store.names becomes.names old.procedures from.bodies from.world.procedures can.is.0.defined in
-    let itself : Becomes old.store new.store new.store.sight = record { sight = refl; whole = becomes.whole; names = becomes.names; one_number = becomes.one_number } in
+    let ready : IsReady new.store.names es (names_in start.store) new.procedures program = ready_still old new (names_in start.store) program becomes.names entries kept can.ready in
+    let meant : block_in new.store.names program.book Forward ≡ block_of es cell.block start = ready.meant es (no_more es) in
+    let place : place_of new.store.names new.procedures program.book new.cursor new.store.callers ≡ BeforeBlock (block_of es cell.block start) [] = before.place new.procedures new.store.callers ∙ ap (λ (b : Blk). BeforeBlock b []) meant in
+    let stacks : stacks_in new.store.sight ≡ stacks_in start.store = ap stacks_in is.sight ∙ slots_stacks start.store in
+    let listed : AreListed es start.procedures = subst (λ (es : List Name). AreListed es start.procedures) (sym entries) (listed_more old.entries cell.procedures from.world.procedures can.named can.is.0.listed) in
+    let grown : Define new.store.names old.procedures from.bodies (procedures_in es from.world.procedures) =
+    subst (λ (es : List Name). Define new.store.names old.procedures from.bodies (procedures_in es from.world.procedures)) (sym entries)
+    (defined_grow old.store.names new.store.names becomes.names old.procedures from.bodies (procedures_in old.entries from.world.procedures) can.is.0.defined) in
+    let bodies : AreBodiesFrom new.store.names (kept_in old.procedures) program.first (procedures_in es (procedures_of program)) =
+    (ready_grows old.store.names new.store.names becomes.names old.entries es (same_more old.entries es entries) (names_in start.store) old.procedures program can.ready).bodies es (no_more es) in
+    let as_many : length (procedures_in es (procedures_of program)) ≡ length (procedures_of program) = length-map (procedures_of program) (procedure_in es) in
     record {
       cell = refl;
       good = entered_is_good cell from.world (sound_good from.world can.sound);
@@ -122,29 +154,46 @@ entered_here old new program from can becomes kept defined before =
       counted = before.counts.0;
       turned = before.counts.1;
       standing = standing;
-      declared = becomes.whole.declared ∙ ap size_of same;
-      agrees = agrees_before (stacks_in start.store) new.procedures program.book new.cursor new.store cell.block becomes.whole (ap stacks_in same) standing place;
-      ready = ready_still old new program itself kept can.ready;
-      one_number = becomes.one_number can.is.0.one_number;
-      defined = all_defined new.store.names old.procedures new.procedures program.first (procedures_of program) from.bodies from.world.procedures kept grown ready.bodies defined;
-      faces = (ap (λ (r : Store). To (BeforeBlock cell.block []) r) (sym same) ∙ ap (λ (p : Place). To p new.store.sight) (sym place), never_broken cell from.world can.sound can.formed);
+      declared = becomes.whole.declared ∙ ap size_of is.sight ∙ slots_size start.store;
+      texts = is.texts;
+      agrees = agrees_before (stacks_in start.store) new.procedures program.book new.cursor new.store (block_of es cell.block start) becomes.whole stacks standing place;
+      ready = ready;
+      slots = becomes.slots;
+      listed = listed;
+      defined = subst (λ (n : ℕ). Define new.store.names new.procedures (onto program.first n from.bodies) (procedures_in es start.procedures)) as_many
+          (subst (λ (ps : List Proc). Define new.store.names new.procedures (onto program.first (length (procedures_in es (procedures_of program))) from.bodies) ps) (sym (defined_in_slots es cell.procedures from.world.procedures))
+          (all_defined new.store.names old.procedures new.procedures program.first (procedures_in es (procedures_of program)) from.bodies (procedures_in es from.world.procedures) kept grown bodies
+          (subst (λ (n : ℕ). AreDefined new.procedures (onto program.first n from.bodies)) (sym as_many) defined)));
+      faces = (
+        ap (λ (r : Store). To (BeforeBlock (block_of es cell.block start) []) r) (sym is.sight) ∙ ap (λ (p : Place). To p new.store.sight) (sym place),
+        never_broken es cell from.world can.sound can.formed listed,
+      );
     }
 
 -- ---- and its inverse
 
-pub entered_inverse_here : {L : Type 0} (old new : Runner L) (program : Program) (from : ShownWorld) → CanReturn old program from → new.store ≡ old.store → new.procedures ≡ old.procedures →
+pub entered_inverse_here : {L : Type 0} (old new : Runner L) (program : Program) (from : ShownWorld) → CanReturn old program from → new.store ≡ old.store → new.procedures ≡ old.procedures → new.entries ≡ old.entries →
     IsBefore new.store.names new.cursor program.book (block_in new.store.names program.book Inverse) → Stands new program (inverse_entry program from) false
 unfolding CodeExec
-entered_inverse_here old new program from can store procedures before =
+entered_inverse_here old new program from can store procedures entries before =
     let cell = cell_of_program program in
-    let back = worlds_reverse (entered cell can.before) cell.block can.steps from.world (entered_is_good cell can.before (sound_good can.before can.sound)) can.ran in
-    let never : NeverBroken from.world.procedures (stacks_in from.world.store) (inverse_block cell.block) from.world.store = (blocks_are_safe from.world.procedures (stacks_in from.world.store) (inverse_block cell.block) from.world.store).ended can.steps _ back.back.ran in
+    let es : List Name = new.entries in
+    let start : World = from.world in
+    let inverse : Blk = inverse_block cell.block in
+    let back = worlds_reverse (entered cell can.before) cell.block can.steps start (entered_is_good cell can.before (sound_good can.before can.sound)) can.ran in
+    let listed : AreListed es start.procedures = subst (λ (es : List Name). AreListed es start.procedures) (sym entries) can.is.0.listed in
+    let never : NeverBroken (procedures_in es start.procedures) (stacks_in start.store) (block_of es inverse start) (slots_of start) =
+    (blocks_are_safe (procedures_in es start.procedures) (stacks_in start.store) (block_of es inverse start) (slots_of start)).ended can.steps _
+    ((runs_are_the_same es (around start) inverse start.store can.steps listed).ends _ back.back.ran) in
     let now : IsWhole new.store = subst (λ (h : StoreState). IsWhole h) (sym store) can.is.1 in
-    let same : new.store.sight ≡ from.world.store = ap (λ (h : StoreState). h.sight) store ∙ sym (all_shown old.store can.is.1) ∙ can.is.0.store in
+    let is : IsStoreOf new.store start.store = subst (λ (h : StoreState). IsStoreOf h start.store) (sym store) (whole_is old.store start.store can.is.1 can.is.0.texts can.is.0.store) in
     let standing = before.stands new.procedures new.store now.callers in
-    let ready : IsReady new.store.names new.procedures program = subst (λ (h : StoreState). IsReady h.names new.procedures program) (sym store) (subst (λ (t : Procedures). IsReady old.store.names t program) (sym procedures) can.ready) in
-    let turned : block_in new.store.names program.book Inverse ≡ inverse_block cell.block = books_turn new.store.names program.book ∙ ap inverse_block ready.meant in
-    let place : place_of new.store.names new.procedures program.book new.cursor new.store.callers ≡ BeforeBlock (inverse_block cell.block) [] = before.place new.procedures new.store.callers ∙ ap (λ (b : Blk). BeforeBlock b []) turned in
+    let ready : IsReady new.store.names es (names_in start.store) new.procedures program =
+    ready_still old new (names_in start.store) program (same_more old.store.names new.store.names (ap (λ (h : StoreState). h.names) store)) entries (ap kept_in procedures) can.ready in
+    let turned : block_in new.store.names program.book Inverse ≡ block_of es inverse start =
+    books_turn new.store.names program.book ∙ ap inverse_block (ready.meant es (no_more es)) ∙ slots_stay.inverse es (names_in start.store) cell.block in
+    let place : place_of new.store.names new.procedures program.book new.cursor new.store.callers ≡ BeforeBlock (block_of es inverse start) [] = before.place new.procedures new.store.callers ∙ ap (λ (b : Blk). BeforeBlock b []) turned in
+    let stacks : stacks_in new.store.sight ≡ stacks_in start.store = ap stacks_in is.sight ∙ slots_stacks start.store in
     record {
       cell = refl;
       good = back.good;
@@ -152,25 +201,37 @@ entered_inverse_here old new program from can store procedures before =
       counted = before.counts.0;
       turned = before.counts.1;
       standing = standing;
-      declared = now.declared ∙ ap size_of same;
-      agrees = agrees_before (stacks_in from.world.store) new.procedures program.book new.cursor new.store (inverse_block cell.block) now (ap stacks_in same) standing place;
+      declared = now.declared ∙ ap size_of is.sight ∙ slots_size start.store;
+      texts = is.texts;
+      agrees = agrees_before (stacks_in start.store) new.procedures program.book new.cursor new.store (block_of es inverse start) now stacks standing place;
       ready = ready;
-      one_number = subst (λ (h : StoreState). HaveOneNumber h.names) (sym store) can.is.0.one_number;
-      defined = subst (λ (h : StoreState). Define h.names new.procedures from.bodies from.world.procedures) (sym store) (subst (λ (t : Procedures). Define old.store.names t from.bodies from.world.procedures) (sym procedures) can.is.0.defined);
-      faces = (ap (λ (r : Store). To (BeforeBlock (inverse_block cell.block) []) r) (sym same) ∙ ap (λ (p : Place). To p new.store.sight) (sym place), never);
+      slots = subst (λ (h : StoreState). AreSlots h.names) (sym store) can.is.0.slots;
+      listed = listed;
+      defined = subst (λ (h : StoreState). Define h.names new.procedures from.bodies (procedures_in es start.procedures)) (sym store)
+          (subst (λ (t : Procedures). Define old.store.names t from.bodies (procedures_in es start.procedures)) (sym procedures)
+          (subst (λ (es : List Name). Define old.store.names old.procedures from.bodies (procedures_in es start.procedures)) (sym entries) can.is.0.defined));
+      faces = (ap (λ (r : Store). To (BeforeBlock (block_of es inverse start) []) r) (sym is.sight) ∙ ap (λ (p : Place). To p new.store.sight) (sym place), never);
     }
 
 -- ---- leaving a cell
 
 pub left_here : {L : Type 0} (old new : Runner L) (program : Program) (to : ShownWorld) → CanLeave old program to → Becomes old.store new.store to.world.store →
-    kept_in new.procedures ≡ kept_in old.procedures → AreDefined new.procedures to.bodies → Is new (Between to)
-left_here old new program to can becomes kept defined = (
-  record {
-    store = all_shown new.store becomes.whole ∙ becomes.sight;
-    one_number = becomes.one_number can.is.0.one_number;
-    defined =
-        all_retired new.store.names old.procedures new.procedures program.first (procedures_of program) to.bodies to.world.procedures kept
-        (defined_grow old.store.names new.store.names becomes.names old.procedures (with_bodies program to.bodies) (entered (cell_of_program program) to.world).procedures can.is.0.defined) defined;
-  },
-  becomes.whole,
-)
+    kept_in new.procedures ≡ kept_in old.procedures → new.entries ≡ old.entries → AreDefined new.procedures to.bodies → Is new (Between to)
+left_here old new program to can becomes kept entries defined =
+    let cell = cell_of_program program in
+    let es : List Name = old.entries in
+    let as_many : length (procedures_in es (procedures_of program)) ≡ length (procedures_of program) = length-map (procedures_of program) (procedure_in es) in
+    let before : Define new.store.names old.procedures (onto program.first (length (procedures_in es (procedures_of program))) to.bodies) (define (procedures_in es cell.procedures) (procedures_in es to.world.procedures)) =
+    subst (λ (n : ℕ). Define new.store.names old.procedures (onto program.first n to.bodies) (define (procedures_in es cell.procedures) (procedures_in es to.world.procedures))) (sym as_many)
+    (subst (λ (ps : List Proc). Define new.store.names old.procedures (with_bodies program to.bodies) ps) (defined_in_slots es cell.procedures to.world.procedures)
+    (defined_grow old.store.names new.store.names becomes.names old.procedures (with_bodies program to.bodies) (procedures_in es (entered cell to.world).procedures) can.is.0.defined)) in (
+      record {
+        store = becomes.shown;
+        texts = becomes.texts;
+        slots = becomes.slots;
+        listed = subst (λ (es : List Name). AreListed es to.world.procedures) (sym entries) (listed_less es cell.procedures to.world.procedures can.is.0.listed);
+        defined = subst (λ (es : List Name). Define new.store.names new.procedures to.bodies (procedures_in es to.world.procedures)) (sym entries)
+            (all_retired new.store.names old.procedures new.procedures program.first (procedures_in es (procedures_of program)) to.bodies (procedures_in es to.world.procedures) kept before defined);
+      },
+      becomes.whole,
+    )

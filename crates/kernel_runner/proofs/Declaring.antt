@@ -1,23 +1,28 @@
 -- Names that are declared one after another, and retired again.
-use Rattle.std.proofs.Common.{get_or, ◌≡◌, ℕ, pos, ◌-◌, ◌<◌, ◌≤◌, inl, inr, List, [], ◌∷◌, length, map, take, zero, suc, Bool, true, false, Some, None, refl, ap, sym, ◌∙◌, subst, arith}
+use Rattle.std.proofs.Common.{get_or, ◌≡◌, ℕ, pos, ◌+◌, ◌-◌, ◌<◌, ◌≤◌, inl, inr, List, [], ◌∷◌, length, map, take, zero, suc, Bool, true, false, Some, None, refl, ap, sym, ◌∙◌, subst, arith}
 use Rattle.std.proofs.lemmas.Bool.{cases_lt}
 use Rattle.janus_meaning.specs.Fault.{Res, Bad, Broken}
 use Rattle.janus_meaning.specs.Syntax.{Name, Kind, ANumber, AnArray, AStack}
 use Rattle.janus_meaning.specs.Store.{Val, Num, Arr, Stk, Lent, Store, Bare, Slot, zeros, look, look_at, same_name}
 use Rattle.janus_meaning.specs.Shape.{Shape, stack_count, shape_of, with_slot, kind_of, kind_at, pick_newest}
 use Rattle.janus_meaning.specs.FormedWorld.{AreNew, declared_kind, HasRoom, HaveValues}
+use Rattle.janus_meaning.proofs.Stores.{same_name_self}
 use Rattle.janus_meaning.proofs.Scopes.{without_other}
 use Rattle.janus_meaning.specs.World.{Declaration, DeclareInt, DeclareArray, DeclareStack, declare, declare_one, declared_name, dropped, stacks_in, size_of}
 use Rattle.janus_meaning.specs.Limit.{live_stack_limit}
 use Rattle.janus_syntax.specs.Tree.{declaration_view, declarations_view}
 use Rattle.janus_syntax.specs.View.{plain_declaration}
 use Rattle.janus_syntax.specs.declared.tree.Declaration as Tree
-use Rattle.janus_names.specs.Numbers.{HaveOneNumber}
-use Rattle.janus_store.specs.StoreState.{StoreState, IsWhole, Declares, KeepsSight}
+use Rattle.janus_names.specs.Numbers.{IsUnmet}
+use Rattle.janus_slots.specs.Slots.{slot, names_in, in_slots, under_names}
+use Rattle.janus_store.specs.StoreState.{StoreState, IsWhole, AreSlots, Declares, KeepsSight, declared_store, shown_store}
 use Rattle.janus_store.specs.Stores.{IsFirstOnTop, rest_of}
 use Rattle.kernel_runner.specs.Declarable.{HasStackRoom}
 use Rattle.kernel_runner.specs.Runner.{Becomes}
 use Rattle.kernel_runner.proofs.Growing.{no_more, more_yet}
+use Rattle.kernel_runner.proofs.Slotted.{names_size, slots_stacks, all_declared}
+use Rattle.std.specs.Prelude.{reverse, ◌++◌}
+use Rattle.std.proofs.lemmas.List.{reverse-append, reverse-reverse, length-append, length-take-le, take_at}
 
 -- one name more is dropped
 pub dropped_more : (i : ℕ) (s : Store) → dropped (suc i) s ≡ rest_of (dropped i s)
@@ -53,6 +58,10 @@ first_on_top (d ∷ ds) s i l = elim (cases_lt i (length ds)) [
   | inr last ↦ (let e : i ≡ length ds = omega arith in
       subst IsFirstOnTop (sym (ap (λ i. dropped i (declare ds (declare_one d s))) e ∙ dropped_all ds (declare_one d s))) (declared_on_top d s))
 ]
+
+-- in slots too
+pub first_in_slots : (s : Store) → IsFirstOnTop s → IsFirstOnTop (in_slots s)
+first_in_slots s h = subst (λ (t : Store). IsFirstOnTop (in_slots t)) (sym h.3) (slot (length (names_in h.2)), h.1, in_slots h.2, refl, h.4)
 
 -- ---- new names
 
@@ -155,35 +164,149 @@ room_at [] s i d h new l = absurd (omega arith)
 room_at (e ∷ ds) s zero d h new l = room_by e s h new.0.extent
 room_at (e ∷ ds) s (suc i) d h new l = room_at ds (declare_one e s) i d (declared_lend_nothing (e ∷ []) s h) (subst (λ g. AreNew g ds) (sym (declared_shape e s)) new.1) (omega arith)
 
+pub room_in_slots : (d : Declaration) (s : Store) → HasStackRoom d s → HasStackRoom d (in_slots s)
+room_in_slots (DeclareInt x) s h = tt
+room_in_slots (DeclareArray x n) s h = tt
+room_in_slots (DeclareStack x) s h = subst (λ n. n < live_stack_limit) (sym (slots_stacks s)) h
+
+-- ---- no text is declared twice
+
+some_same : (x y : Name) → Some x ≡ Some y → x ≡ y
+some_same x y e = cc
+
+-- one name more behind the others
+unmet_behind : (xs : List Name) (x y : Name) → IsUnmet xs x → (y ≡ x → ⊥) → IsUnmet (xs ++ y ∷ []) x
+unmet_behind [] x y none other zero at = other (some_same y x at)
+unmet_behind [] x y none other (suc k) at = cc
+unmet_behind (z ∷ xs) x y none other zero at = none zero at
+unmet_behind (z ∷ xs) x y none other (suc k) at = unmet_behind xs x y (λ j. none (suc j)) other k at
+
+pub unmet_reversed : (xs : List Name) (x : Name) → IsUnmet xs x → IsUnmet (reverse xs) x
+unmet_reversed [] x none = none
+unmet_reversed (y ∷ xs) x none =
+    subst (λ (l : List Name). IsUnmet l x) (sym (reverse-append (y ∷ []) xs))
+    (unmet_behind (reverse xs) x y (unmet_reversed xs x (λ k. none (suc k))) (λ e. none zero (ap Some e)))
+
+true_is_false : {P : Type 0} → true ≡ false → P
+true_is_false e = cc
+
+-- the newest name is another one, where the name is out of sight
+other_newest : (x y : Name) (k : Kind) (g : Shape) (b : Bool) → same_name x y ≡ b → kind_at x ((y, k) ∷ g) ≡ None → (same_name x y ≡ false) × (kind_at x g ≡ None)
+other_newest x y k g true e none = some_is_none k (sym (ap (λ b. pick_newest b k (kind_at x g)) e) ∙ none)
+other_newest x y k g false e none = (e, sym (ap (λ b. pick_newest b k (kind_at x g)) e) ∙ none)
+
+unmet_newest : (x y : Name) (k : Kind) (s : Store) → kind_at x ((y, k) ∷ shape_of s) ≡ None → (kind_at x (shape_of s) ≡ None → IsUnmet (names_in s) x) → IsUnmet (y ∷ names_in s) x
+unmet_newest x y k s none rest zero at =
+    let other = other_newest x y k (shape_of s) (same_name x y) refl none in
+    true_is_false (sym (same_name_self x) ∙ ap (same_name x) (sym (some_same y x at)) ∙ other.0)
+unmet_newest x y k s none rest (suc i) at = rest (other_newest x y k (shape_of s) (same_name x y) refl none).1 i at
+
+nothing_met : (x : Name) → IsUnmet [] x
+nothing_met x zero at = cc
+nothing_met x (suc k) at = cc
+
+-- a name that is out of sight is none of those of a store that lends nothing
+out_of_sight : (x : Name) (s : Store) → LendNothing s → kind_at x (shape_of s) ≡ None → IsUnmet (names_in s) x
+out_of_sight x Bare h e = nothing_met x
+out_of_sight x (Slot y (Num n) s) h e = unmet_newest x y ANumber s e (out_of_sight x s h)
+out_of_sight x (Slot y (Arr l) s) h e = unmet_newest x y AnArray s e (out_of_sight x s h)
+out_of_sight x (Slot y (Stk l) s) h e = unmet_newest x y AStack s e (out_of_sight x s h)
+out_of_sight x (Slot y Lent s) h e = absurd h
+
+-- each of the names is new behind those before it
+pub unmet_at : (ds : List Declaration) (s : Store) (i : ℕ) (d : Declaration) → LendNothing s → AreNew (shape_of s) ds → i < length ds → IsUnmet (names_in (declare (take i ds) s)) (declared_name (get_or ds i d))
+unmet_at [] s i d h new l = absurd (omega arith)
+unmet_at (e ∷ ds) s zero d h new l = out_of_sight (declared_name e) s h new.0.name
+unmet_at (e ∷ ds) s (suc i) d h new l = unmet_at ds (declare_one e s) i d (declared_lend_nothing (e ∷ []) s h) (subst (λ g. AreNew g ds) (sym (declared_shape e s)) new.1) (omega arith)
+
 -- ---- what a store becomes
 
 -- nothing yet
-pub becomes_itself : (h : StoreState) → IsWhole h → Becomes h h h.sight
-becomes_itself h whole = record { sight = refl; whole = whole; names = no_more h.names; one_number = λ one. one }
+pub becomes_itself : (h : StoreState) → IsWhole h → length h.texts ≡ h.declared → AreSlots h.names → Becomes h h (shown_store h)
+becomes_itself h whole many slots = record { shown = refl; texts = many; whole = whole; names = no_more h.names; slots = slots }
 
 pub becomes_then : (a b c : StoreState) (s t : Store) → Becomes a b s → Becomes b c t → Becomes a c t
-becomes_then a b c s t h k = record { sight = k.sight; whole = k.whole; names = more_yet a.names b.names c.names h.names k.names; one_number = λ one. k.one_number (h.one_number one) }
+becomes_then a b c s t h k = record { shown = k.shown; texts = k.texts; whole = k.whole; names = more_yet a.names b.names c.names h.names k.names; slots = k.slots }
 
 -- one name more is declared
-pub becomes_declared : (old new : StoreState) (x : Name) (v : Val) → IsWhole old → HaveOneNumber new.names → Declares old new x v → Becomes old new (Slot x v old.sight)
-becomes_declared old new x v whole one h = record { sight = h.sight; whole = record { declared = h.declared ∙ ap suc whole.declared ∙ sym (ap size_of h.sight); callers = h.callers ∙ whole.callers }; names = h.names; one_number = λ old_one. one }
+pub becomes_declared : (old new : StoreState) (x : Name) (v : Val) → IsWhole old → length old.texts ≡ old.declared → AreSlots new.names → Declares old new x v → Becomes old new (Slot x v (shown_store old))
+becomes_declared old new x v whole many slots h =
+    let depth : length (names_in old.sight) ≡ old.declared = names_size old.sight ∙ sym whole.declared in
+    let now : IsWhole new = record {
+      declared = h.declared ∙ ap suc whole.declared ∙ sym (ap size_of h.sight);
+      callers = h.callers ∙ whole.callers;
+      slots = ap in_slots h.sight ∙ ap (λ (n : ℕ). Slot (slot n) v (in_slots old.sight)) depth ∙ ap (Slot (slot old.declared) v) whole.slots ∙ sym h.sight;
+    } in
+    record {
+      shown = ap (under_names (reverse new.texts)) (all_declared new now ∙ h.sight)
+          ∙ ap (λ (g : List Name). under_names g (Slot (slot old.declared) v old.sight)) (ap reverse h.texts ∙ reverse-append old.texts (x ∷ []))
+          ∙ ap (λ (s : Store). Slot x v (under_names (reverse old.texts) s)) (sym (all_declared old whole));
+      texts = ap length h.texts ∙ length-append old.texts (x ∷ []) ∙ (let e : length old.texts + 1 ≡ suc (length old.texts) = omega arith in e) ∙ ap suc many ∙ sym h.declared;
+      whole = now;
+      names = h.names;
+      slots = slots;
+    }
 
 -- what is declared stays
-pub becomes_kept : (old new : StoreState) → IsWhole old → HaveOneNumber new.names → KeepsSight old new → Becomes old new old.sight
-becomes_kept old new whole one h = record { sight = h.sight; whole = record { declared = h.declared ∙ whole.declared ∙ sym (ap size_of h.sight); callers = h.callers ∙ whole.callers }; names = h.names; one_number = λ old_one. one }
+pub becomes_kept : (old new : StoreState) → IsWhole old → length old.texts ≡ old.declared → AreSlots new.names → KeepsSight old new → Becomes old new (shown_store old)
+becomes_kept old new whole many slots h =
+    let now : IsWhole new = record {
+      declared = h.declared ∙ whole.declared ∙ sym (ap size_of h.sight);
+      callers = h.callers ∙ whole.callers;
+      slots = ap in_slots h.sight ∙ whole.slots ∙ sym h.sight;
+    } in
+    record {
+      shown = ap (under_names (reverse new.texts)) (all_declared new now ∙ h.sight ∙ sym (all_declared old whole)) ∙ ap (λ (g : List Name). under_names (reverse g) (declared_store old)) h.texts;
+      texts = ap length h.texts ∙ many ∙ sym h.declared;
+      whole = now;
+      names = h.names;
+      slots = slots;
+    }
 
 rest_size : (s : Store) → size_of (rest_of s) ≡ size_of s - 1
 rest_size Bare = refl
 rest_size (Slot x v s) = omega arith
 
+rest_slots : (s : Store) → in_slots (rest_of s) ≡ rest_of (in_slots s)
+rest_slots Bare = refl
+rest_slots (Slot x v s) = refl
+
+-- a list without its first item
+abbrev rest_names : List Name → List Name
+rest_names [] = []
+rest_names (x ∷ g) = g
+
+rest_under : (g : List Name) (s : Store) → under_names (rest_names g) (rest_of s) ≡ rest_of (under_names g s)
+rest_under [] Bare = refl
+rest_under [] (Slot y v s) = refl
+rest_under (x ∷ []) Bare = refl
+rest_under (x ∷ y ∷ g) Bare = refl
+rest_under (x ∷ g) (Slot y v s) = refl
+
+-- the last text is taken away
+last_taken : (ys : List Name) → reverse (take (length (reverse ys) - 1) (reverse ys)) ≡ rest_names ys
+last_taken [] = refl
+last_taken (y ∷ ys) =
+    let all : reverse (y ∷ ys) ≡ reverse ys ++ y ∷ [] = reverse-append (y ∷ []) ys in
+    let less : length (reverse (y ∷ ys)) - 1 ≡ length (reverse ys) = ap (λ (l : List Name). length l - 1) all ∙ ap (λ (n : ℕ). n - 1) (length-append (reverse ys) (y ∷ [])) ∙ (omega arith) in
+    ap (λ (n : ℕ). reverse (take n (reverse (y ∷ ys)))) less ∙ ap (λ (l : List Name). reverse (take (length (reverse ys)) l)) all ∙ ap reverse (take_at (reverse ys) (y ∷ []) (length (reverse ys)) refl) ∙ reverse-reverse ys
+
 -- the newest name is taken away
-pub becomes_rest : (old new : StoreState) → IsWhole old → new ≡ record { sight = rest_of old.sight; declared = old.declared - 1; names = old.names; callers = [] } → Becomes old new (rest_of old.sight)
-becomes_rest old new whole e = subst (λ (h : StoreState). Becomes old h (rest_of old.sight)) (sym e) (record {
-  sight = refl;
-  whole = record { declared = ap (λ (n : ℕ). n - 1) whole.declared ∙ sym (rest_size old.sight); callers = refl };
-  names = no_more old.names;
-  one_number = λ one. one;
-})
+pub becomes_rest : (old new : StoreState) → IsWhole old → length old.texts ≡ old.declared → AreSlots old.names →
+    new ≡ record { sight = rest_of old.sight; declared = old.declared - 1; texts = take (old.declared - 1) old.texts; names = old.names; callers = [] } → Becomes old new (rest_of (shown_store old))
+becomes_rest old new whole many slots e =
+    let rest : StoreState = record { sight = rest_of old.sight; declared = old.declared - 1; texts = take (old.declared - 1) old.texts; names = old.names; callers = [] } in
+    let now : IsWhole rest = record { declared = ap (λ (n : ℕ). n - 1) whole.declared ∙ sym (rest_size old.sight); callers = refl; slots = rest_slots old.sight ∙ ap rest_of whole.slots } in
+    let texts : reverse (take (old.declared - 1) old.texts) ≡ rest_names (reverse old.texts) =
+    ap (λ (n : ℕ). reverse (take (n - 1) old.texts)) (sym many) ∙ subst (λ (l : List Name). reverse (take (length l - 1) l) ≡ rest_names (reverse old.texts)) (reverse-reverse old.texts) (last_taken (reverse old.texts)) in
+    subst (λ (h : StoreState). Becomes old h (rest_of (shown_store old))) (sym e) (record {
+      shown = ap (under_names (reverse rest.texts)) (all_declared rest now) ∙ ap (λ (g : List Name). under_names g (rest_of old.sight)) texts ∙ rest_under (reverse old.texts) old.sight
+          ∙ ap (λ (s : Store). rest_of (under_names (reverse old.texts) s)) (sym (all_declared old whole));
+      texts = length-take-le (old.declared - 1) old.texts (omega (arith, many));
+      whole = now;
+      names = no_more old.names;
+      slots = slots;
+    })
 
 -- for a store that is the same
 pub becomes_same : (a b : StoreState) (s t : Store) → s ≡ t → Becomes a b s → Becomes a b t

@@ -1,11 +1,14 @@
 -- A runner that goes on or back through the code of a cell: what a slice of the machine makes of where it stood.
 use Rattle.std.proofs.Common.{◌≡◌, ℕ, List, ◌+◌, ◌-◌, ◌<◌, ◌≤◌, Bool, true, false, sym, ap, ◌∙◌, subst, arith, inl, inr}
-use Rattle.janus_meaning.specs.Syntax.{Name, Proc}
+use Rattle.janus_meaning.specs.Syntax.{Name, Blk, Proc}
+use Rattle.janus_meaning.specs.Cells.{around}
 use Rattle.janus_meaning.specs.Stepping.{Halt}
 use Rattle.janus_meaning.specs.World.{stacks_in}
 use Rattle.janus_meaning.specs.Limit.{step_limit}
-use Rattle.janus_names.specs.Numbers.{HaveOneNumber}
-use Rattle.janus_store.specs.StoreState.{StoreState}
+use Rattle.janus_slots.specs.Slots.{names_in, procedures_in}
+use Rattle.janus_slots.specs.Law.{RunsTheSame}
+use Rattle.janus_slots.proofs.Laws.{runs_are_the_same}
+use Rattle.janus_store.specs.StoreState.{StoreState, AreSlots}
 use Rattle.janus_machine.specs.Bodies.{AreInEffect, Define}
 use Rattle.janus_machine.specs.Counts.{counted, Counts, IsWritten}
 use Rattle.janus_machine.specs.Cursors.{IsStanding, has_ended}
@@ -21,20 +24,32 @@ use Rattle.janus_machine.proofs.BodiesInEffect.{defined_in_effect}
 use Rattle.janus_machine.proofs.Courses.{runs_mean, backs_mean}
 use Rattle.kernel_machine.specs.Language.{CodeStop, run_block}
 use Rattle.kernel_runner.specs.Program.{IsReady}
-use Rattle.kernel_runner.specs.Runner.{Place, at_count, start_at, Stands}
+use Rattle.kernel_runner.specs.Runner.{Place, at_count, start_at, block_of, slots_of, Stands}
 use Rattle.kernel_runner.specs.declared.program.Program.{Program}
 use Rattle.kernel_runner.specs.declared.runner.Runner.{Runner}
+use Rattle.kernel_runner.proofs.Slotted.{good_slots, slots_once}
 
 module _ {L : Type 0} (runner : Runner L) (program : Program) (at : Place) where
-  pub in_effect : (back : Bool) → Stands runner program at back → AreInEffect runner.store.names runner.procedures (start_at at).procedures
-  in_effect back h = defined_in_effect runner.store.names runner.procedures at.bodies (start_at at).procedures h.one_number h.defined
+  -- the start of the code, with slots in place of names
+  abbrev pub start_procedures : List Proc
+  start_procedures = procedures_in runner.entries (start_at at).procedures
+
+  abbrev pub start_block : Blk
+  start_block = block_of runner.entries (run_block at.code) (start_at at)
+
+  pub in_effect : (back : Bool) → Stands runner program at back → AreInEffect runner.store.names runner.procedures start_procedures
+  in_effect back h = defined_in_effect runner.store.names runner.procedures at.bodies start_procedures (slots_once runner.store.names h.slots) h.defined
 
   -- the laws of the machine, at a runner
-  pub run_means : Stands runner program at false → RunMeans (start_at at).procedures (stacks_in (start_at at).store) (run_block at.code) (start_at at).store at.count runner.procedures program.book runner.cursor runner.store
+  pub run_means : Stands runner program at false → RunMeans start_procedures (stacks_in (start_at at).store) start_block (slots_of (start_at at)) at.count runner.procedures program.book runner.cursor runner.store
   run_means h = runs_mean _ _ _ _ _ _ _ _ _ h.standing h.faces.0
 
-  pub back_means : Stands runner program at true → BackMeans (start_at at).procedures (stacks_in (start_at at).store) (run_block at.code) (start_at at).store at.count runner.procedures program.book runner.cursor runner.store
-  back_means h = backs_mean _ _ _ _ _ _ _ _ _ h.good h.standing h.faces
+  pub back_means : Stands runner program at true → BackMeans start_procedures (stacks_in (start_at at).store) start_block (slots_of (start_at at)) at.count runner.procedures program.book runner.cursor runner.store
+  back_means h = backs_mean _ _ _ _ _ _ _ _ _ (good_slots runner.entries (start_at at) h.good) h.standing h.faces
+
+  -- that slots run as names do
+  pub the_same : (back : Bool) (n : ℕ) → Stands runner program at back → RunsTheSame runner.entries (around (start_at at)) (run_block at.code) (start_at at).store n
+  the_same back n h = runs_are_the_same runner.entries (around (start_at at)) (run_block at.code) (start_at at).store n h.listed
 
   pub safe_on : (m : ℕ) → Stands runner program at false → IsSafeAhead runner.procedures program.book m runner.cursor runner.store
   safe_on m h = (run_means h).safe m (in_effect false h) h.agrees h.faces.1
@@ -43,15 +58,15 @@ module _ {L : Type 0} (runner : Runner L) (program : Program) (at : Place) where
   safe_back m h = (back_means h).safe m (in_effect true h) h.agrees
 
   pub stops_at : (f : machine.Fault) → Stands runner program at false → at.count < step_limit →
-      next_of (start_at at).procedures (stacks_in (start_at at).store) runner.procedures program.book runner.cursor runner.store ≡ Halt (fault_of f) → CodeStop at.code at.world at.count (fault_of f)
+      next_of start_procedures (stacks_in (start_at at).store) runner.procedures program.book runner.cursor runner.store ≡ Halt (fault_of f) → CodeStop at.code at.world at.count (fault_of f)
   unfolding CodeStop
-  stops_at f h early halts = inl (early, (run_means h).stop (fault_of f) halts)
+  stops_at f h early halts = inl (early, (the_same false at.count h).stopped (fault_of f) ((run_means h).stop (fault_of f) halts))
 
   pub at_start : Stands runner program at true → has_ended runner.cursor ≡ true → at.count ≡ 0
   at_start h ended = (back_means h).begun.0 ended
 
   pub no_fault_back : (f : machine.Fault) → Stands runner program at true →
-      next_of (start_at at).procedures (stacks_in (start_at at).store) runner.procedures program.book runner.cursor runner.store ≡ Halt (fault_of f) → ⊥
+      next_of start_procedures (stacks_in (start_at at).store) runner.procedures program.book runner.cursor runner.store ≡ Halt (fault_of f) → ⊥
   no_fault_back f h halts = (back_means h).fault (fault_of f) halts
 
 module _ {L : Type 0} (runner : Runner L) (program : Program) (at : Place) where
@@ -66,7 +81,7 @@ module _ {L : Type 0} (runner : Runner L) (program : Program) (at : Place) where
     KeepsAgreement = (k : ℕ) → Agrees k runner.procedures program.book runner.cursor runner.store → Agrees k runner.procedures program.book cursor store
 
     abbrev pub gone : Runner L
-    gone = record { store = store; cursor = cursor; procedures = runner.procedures }
+    gone = record { store = store; cursor = cursor; procedures = runner.procedures; entries = runner.entries }
 
     pub gone_on : (m : ℕ) → Stands runner program at false → IsStanding runner.procedures program.book cursor store → KeepsMet runner.store store → KeepsAgreement → Counts t runner.cursor cursor → TakesSteps m
         → Stands gone program (at_count (at.count + t) at) false
@@ -81,10 +96,12 @@ module _ {L : Type 0} (runner : Runner L) (program : Program) (at : Place) where
           turned = counts.turned ∙ h.turned;
           standing = standing;
           declared = names.declared ∙ h.declared;
+          texts = names.texts ∙ h.texts;
           agrees = agrees _ h.agrees;
-          ready = subst (λ (xs : List Name). IsReady xs runner.procedures program) (sym names.names) h.ready;
-          one_number = subst (λ (xs : List Name). HaveOneNumber xs) (sym names.names) h.one_number;
-          defined = subst (λ (xs : List Name). Define xs runner.procedures at.bodies (start_at at).procedures) (sym names.names) h.defined;
+          ready = subst (λ (xs : List Name). IsReady xs runner.entries (names_in (start_at at).store) runner.procedures program) (sym names.names) h.ready;
+          slots = subst (λ (xs : List Name). AreSlots xs) (sym names.names) h.slots;
+          listed = h.listed;
+          defined = subst (λ (xs : List Name). Define xs runner.procedures at.bodies (procedures_in runner.entries (start_at at).procedures)) (sym names.names) h.defined;
           faces = (
             (run_means runner program at h).more t cursor store (steps _ _ (in_effect runner program at false h) h.agrees ((run_means runner program at h).unbroken m h.faces.1)),
             h.faces.1,
@@ -106,10 +123,12 @@ module _ {L : Type 0} (runner : Runner L) (program : Program) (at : Place) where
             turned = counts.turned ∙ h.turned;
             standing = standing;
             declared = names.declared ∙ h.declared;
+            texts = names.texts ∙ h.texts;
             agrees = agrees _ h.agrees;
-            ready = subst (λ (xs : List Name). IsReady xs runner.procedures program) (sym names.names) h.ready;
-            one_number = subst (λ (xs : List Name). HaveOneNumber xs) (sym names.names) h.one_number;
-            defined = subst (λ (xs : List Name). Define xs runner.procedures at.bodies (start_at at).procedures) (sym names.names) h.defined;
+            ready = subst (λ (xs : List Name). IsReady xs runner.entries (names_in (start_at at).store) runner.procedures program) (sym names.names) h.ready;
+            slots = subst (λ (xs : List Name). AreSlots xs) (sym names.names) h.slots;
+            listed = h.listed;
+            defined = subst (λ (xs : List Name). Define xs runner.procedures at.bodies (procedures_in runner.entries (start_at at).procedures)) (sym names.names) h.defined;
             faces = means.back t cursor store within taken;
           },
           within,

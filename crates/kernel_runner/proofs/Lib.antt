@@ -3,3 +3,4 @@ pub mod Going
 pub mod Declaring
 pub mod Growing
 pub mod Running
+pub mod Slotted

@@ -1,18 +1,18 @@
 -- What a runner shows where it stands, at the end of its code, and where it turns round.
-use Rattle.std.proofs.Common.{◌≡◌, ◌≢◌, inl, inr, ℕ, ◌+◌, ◌<◌, ◌≤◌, Bool, ◌&&◌, true, false, not, List, [], ◌∷◌, refl, sym, ap, ◌∙◌, subst, arith}
+use Rattle.std.proofs.Common.{◌≡◌, ◌≢◌, inl, inr, ℕ, ◌+◌, ◌<◌, ◌≤◌, Bool, ◌&&◌, true, false, not, List, [], ◌∷◌, refl, sym, ap, ◌∙◌, subst, length, arith}
+use Rattle.std.proofs.lemmas.List.{reverse-reverse}
 use Rattle.std.specs.Prelude.{reverse}
 use Rattle.janus_meaning.specs.Fault.{StepLimit}
 use Rattle.janus_meaning.specs.Syntax.{Name}
 use Rattle.janus_meaning.specs.Store.{Store}
 use Rattle.janus_meaning.specs.Stepping.{mirror}
-use Rattle.janus_meaning.specs.Meaning.{Block, Exec as BlockExec}
+use Rattle.janus_meaning.specs.Meaning.{Block, Part, Exec as BlockExec}
 use Rattle.janus_meaning.specs.World.{World, stacks_in, size_of, oldest}
 use Rattle.janus_meaning.specs.Cells.{around}
 use Rattle.janus_meaning.specs.Limit.{step_limit}
 use Rattle.janus_meaning.proofs.Worlds.{worlds_start_and_end}
-use Rattle.janus_meaning.proofs.Cleared.{same_size}
-use Rattle.janus_meaning.proofs.Shapes.{keeps_shape}
-use Rattle.janus_store.specs.StoreState.{Caller, IsWhole, given_back}
+use Rattle.janus_slots.specs.Slots.{names_in, in_slots, under_names, outside_in, procedures_in}
+use Rattle.janus_store.specs.StoreState.{Caller, IsWhole, declared_store, shown_store, given_back}
 use Rattle.janus_machine.specs.Open.{Agrees}
 use Rattle.janus_machine.specs.Nested.{AreOpenCalls}
 use Rattle.janus_machine.specs.Cursors.{place_of, has_ended, IsStanding}
@@ -28,11 +28,13 @@ use Rattle.janus_machine.specs.declared.cursor.Cursor.{Cursor}
 use Rattle.janus_machine.specs.declared.procedures.Procedures.{Procedures}
 use Rattle.janus_machine.proofs.Seen.{seen_is}
 use Rattle.kernel_machine.specs.Language.{CodePart, CodeExec, CodeStop, run_block}
-use Rattle.kernel_runner.specs.Runner.{Place, at_count, start_at, world_inside, Stands}
+use Rattle.kernel_runner.specs.Runner.{Place, at_count, start_at, block_of, slots_of, world_inside, Stands}
 use Rattle.kernel_runner.specs.declared.program.Program.{Program}
 use Rattle.kernel_runner.specs.declared.runner.Runner.{Runner}
-use Rattle.kernel_runner.proofs.Borders.{all_shown}
-use Rattle.kernel_runner.proofs.Going.{run_means, back_means, stops_at}
+use Rattle.kernel_runner.proofs.Going.{run_means, back_means, the_same, stops_at}
+use Rattle.kernel_runner.proofs.Slotted.{names_size, slots_size, slots_twice, under_named, shown_whole}
+use Rattle.janus_meaning.proofs.Cleared.{same_size}
+use Rattle.janus_meaning.proofs.Shapes.{keeps_shape}
 
 -- ---- at an end no call is open
 
@@ -55,46 +57,71 @@ module _ {L : Type 0} (runner : Runner L) (program : Program) (at : Place) where
       no_callers runner.store.names runner.procedures program.book runner.cursor.direction (calls_of runner.cursor) runner.store.callers
       (none_called runner.cursor.calls.items (second _ (are_no_calls runner.cursor.calls.items) ended)) standing.calls
 
-  -- the world shown is what is seen at the cursor of the declared names
-  world_seen : IsStanding runner.procedures program.book runner.cursor runner.store → runner.store.declared ≡ size_of (start_at at).store →
-      world_inside at runner ≡ record (start_at at) { store = oldest (size_of (start_at at).store) (seen_at (start_at at).procedures runner.procedures program.book runner.cursor runner.store) }
-  world_seen standing declared =
-      ap (λ (n : ℕ). record { store = oldest n (given_back runner.store.sight runner.store.callers); procedures = (start_at at).procedures }) declared
-      ∙ ap (λ (s : Store). record { store = oldest (size_of (start_at at).store) s; procedures = (start_at at).procedures }) (sym (seen_is (start_at at).procedures runner.procedures program.book runner.cursor runner.store standing))
+  abbrev seen : Store
+  seen = seen_at (procedures_in runner.entries (start_at at).procedures) runner.procedures program.book runner.cursor runner.store
+
+  -- the declared names, with what is seen at the cursor in their slots
+  shown_at : (back : Bool) → Stands runner program at back → shown_store runner.store ≡ under_names (names_in (start_at at).store) (oldest (size_of (start_at at).store) seen)
+  shown_at back h =
+      let size = size_of (start_at at).store in
+      let declared : declared_store runner.store ≡ oldest size seen = ap (λ (n : ℕ). oldest n (given_back runner.store.sight runner.store.callers)) h.declared ∙ ap (oldest size) (sym (seen_is (procedures_in runner.entries (start_at at).procedures) runner.procedures program.book runner.cursor runner.store h.standing)) in
+      ap (under_names (reverse runner.store.texts)) declared ∙ ap (λ (g : List Name). under_names g (oldest size seen)) (ap reverse h.texts ∙ reverse-reverse (names_in (start_at at).store))
+
+  -- the world shown is that after the counted steps
+  part_at : (back : Bool) → Stands runner program at back → Part (outside_in runner.entries (around (start_at at))) (Block (block_of runner.entries (run_block at.code) (start_at at))) (slots_of (start_at at)) at.count seen → CodePart at.code at.world at.count (world_inside at runner)
+  unfolding CodePart
+  part_at back h part =
+      let by = (the_same runner program at back at.count h).shown seen part in
+      record {
+        limit = h.few;
+        store = by.store;
+        part = by.part;
+        shown = ap (λ (s : Store). record { store = s; procedures = (start_at at).procedures }) (shown_at back h ∙ by.declared);
+      }
 
   -- the store is the world after the counted steps
   pub stands_part : (back : Bool) → Stands runner program at back → CodePart at.code at.world at.count (world_inside at runner)
-  unfolding CodePart
-  stands_part false h = record {
-    limit = h.few;
-    store = seen_at (start_at at).procedures runner.procedures program.book runner.cursor runner.store;
-    part = (run_means runner program at h).part;
-    shown = world_seen h.standing h.declared;
-  }
-  stands_part true h = record {
-    limit = h.few;
-    store = seen_at (start_at at).procedures runner.procedures program.book runner.cursor runner.store;
-    part = (back_means runner program at h).part;
-    shown = world_seen h.standing h.declared;
-  }
+  stands_part false h = part_at false h (run_means runner program at h).part
+  stands_part true h = part_at true h (back_means runner program at h).part
 
-  -- at the end of the code no local and no call is open
+  -- At the end of the code the store has the slots of the world to which it has led.
+  record EndsIn : Type 0 where
+    store : Store
+    ran : BlockExec (around (start_at at)) (Block (run_block at.code)) (start_at at).store at.count store
+    slots : in_slots store ≡ runner.store.sight
+    names : names_in store ≡ names_in (start_at at).store
+
+  ends_in : Stands runner program at false → has_ended runner.cursor ≡ true → EndsIn
+  ends_in h ended =
+      let same = the_same runner program at false at.count h in
+      let run = (run_means runner program at h).ended ended in
+      let g = names_in (start_at at).store in
+      let end : Store = under_names g runner.store.sight in
+      let ran = same.ended runner.store.sight run in
+      let kept : in_slots end ≡ runner.store.sight = same.kept runner.store.sight run in
+      let size : size_of end ≡ size_of (start_at at).store = same_size end (start_at at).store (keeps_shape _ _ _ _ _ ran) in
+      let many : length g ≡ size_of runner.store.sight = names_size (start_at at).store ∙ sym size ∙ sym (slots_size end) ∙ ap size_of kept in
+      record { store = end; ran = ran; slots = kept; names = under_named g runner.store.sight many }
+
   pub whole_at_end : Stands runner program at false → has_ended runner.cursor ≡ true → IsWhole runner.store
   whole_at_end h ended =
-      let ran = (run_means runner program at h).ended ended in
+      let end = ends_in h ended in
       record {
-        declared = h.declared ∙ sym (same_size runner.store.sight (start_at at).store (keeps_shape _ _ _ _ _ ran));
+        declared = h.declared ∙ sym (names_size (start_at at).store) ∙ ap length (sym end.names) ∙ names_size end.store ∙ sym (slots_size end.store) ∙ ap size_of end.slots;
         callers = ended_callers h.standing ended;
+        slots = ap in_slots (sym end.slots) ∙ slots_twice end.store ∙ end.slots;
       }
 
   pub at_end : Stands runner program at false → has_ended runner.cursor ≡ true → CodeExec at.code at.world at.count (world_inside at runner)
   unfolding CodeExec
-  at_end h ended = record {
-    limit = h.few;
-    ran = subst (λ (s : Store). BlockExec (around (start_at at)) (Block (run_block at.code)) (start_at at).store at.count s) (sym (all_shown runner.store (whole_at_end h ended)))
-        ((run_means runner program at h).ended ended);
-    procedures = refl;
-  }
+  at_end h ended =
+      let end = ends_in h ended in
+      let shows : shown_store runner.store ≡ end.store = shown_whole runner.store end.store (whole_at_end h ended) (record { sight = sym end.slots; texts = h.texts ∙ ap reverse (sym end.names) }) in
+      record {
+        limit = h.few;
+        ran = subst (λ (s : Store). BlockExec (around (start_at at)) (Block (run_block at.code)) (start_at at).store at.count s) (sym shows) end.ran;
+        procedures = refl;
+      }
 
   -- code that is under way has no end within the counted steps
   pub not_ended : Stands runner program at false → has_ended runner.cursor ≡ false → (i : ℕ) (u : World) → CodeExec at.code at.world i u → at.count < i
@@ -102,25 +129,27 @@ module _ {L : Type 0} (runner : Runner L) (program : Program) (at : Place) where
   not_ended h going i u e =
       let means = run_means runner program at h in
       let early : at.count ≤ i = (worlds_start_and_end (start_at at) (run_block at.code)).in_time i at.count u (world_inside at runner) e (stands_part false h) in
-      let other : i ≢ at.count = λ (same : i ≡ at.count). means.going going u.store (subst (λ (x : ℕ). BlockExec (around (start_at at)) (Block (run_block at.code)) (start_at at).store x u.store) same e.ran) in
+      let other : i ≢ at.count = λ (same : i ≡ at.count). means.going going (in_slots u.store) ((the_same runner program at false at.count h).ends u.store (subst (λ (x : ℕ). BlockExec (around (start_at at)) (Block (run_block at.code)) (start_at at).store x u.store) same e.ran)) in
       omega arith
 
   limit_met : Stands runner program at false → at.count ≡ step_limit → has_ended runner.cursor ≡ false → CodeStop at.code at.world at.count StepLimit
   unfolding CodeStop
   limit_met h limit going =
       let means = run_means runner program at h in
+      let same = the_same runner program at false at.count h in
+      let by = same.shown seen means.part in
       inr (
         limit,
         refl,
-        elim means.part [
-          | inl under_way ↦ (seen_at (start_at at).procedures runner.procedures program.book runner.cursor runner.store, under_way)
-          | inr done ↦ absurd (means.going going _ done)
+        elim by.part [
+          | inl under_way ↦ (by.store, under_way)
+          | inr done ↦ absurd (means.going going (in_slots by.store) (same.ends by.store done))
         ],
       )
 
   -- why the next step is refused
   pub refused_at : (f : machine.Fault) → Stands runner program at false → has_ended runner.cursor ≡ false →
-      Refuses (start_at at).procedures (stacks_in (start_at at).store) runner.procedures program.book runner.cursor runner.store f → CodeStop at.code at.world at.count (fault_of f)
+      Refuses (procedures_in runner.entries (start_at at).procedures) (stacks_in (start_at at).store) runner.procedures program.book runner.cursor runner.store f → CodeStop at.code at.world at.count (fault_of f)
   refused_at f h going refuses =
       elim refuses [
         | inl limited ↦ subst (λ (x : machine.Fault). CodeStop at.code at.world at.count (fault_of x)) (sym limited.1) (limit_met h (sym h.counted ∙ limited.0.all) going)
@@ -136,7 +165,7 @@ module _ {L : Type 0} (runner : Runner L) (program : Program) (at : Place) where
       place_of runner.store.names runner.procedures program.book cursor runner.store.callers ≡ mirror (place_of runner.store.names runner.procedures program.book runner.cursor runner.store.callers) →
       ((k : ℕ) → Agrees k runner.procedures program.book runner.cursor runner.store → Agrees k runner.procedures program.book cursor runner.store) →
       (cursor.count ≡ runner.cursor.count) × (cursor.turned ≡ not runner.cursor.turned) →
-      Stands {L = L} (record { store = runner.store; cursor = cursor; procedures = runner.procedures }) program at true
+      Stands {L = L} (record { store = runner.store; cursor = cursor; procedures = runner.procedures; entries = runner.entries }) program at true
   turned_round cursor h standing place agrees counts = record {
     cell = h.cell;
     good = h.good;
@@ -145,9 +174,11 @@ module _ {L : Type 0} (runner : Runner L) (program : Program) (at : Place) where
     turned = counts.1 ∙ ap not h.turned;
     standing = standing;
     declared = h.declared;
+    texts = h.texts;
     agrees = agrees _ h.agrees;
     ready = h.ready;
-    one_number = h.one_number;
+    slots = h.slots;
+    listed = h.listed;
     defined = h.defined;
     faces = (run_means runner program at h).turned cursor place;
   }
@@ -156,7 +187,12 @@ module _ {L : Type 0} (runner : Runner L) (program : Program) (at : Place) where
 pub whole_at_start : {L : Type 0} (runner : Runner L) (program : Program) (at : Place) → at.count ≡ 0 → Stands runner program at true → IsWhole runner.store
 whole_at_start runner program at none h =
     let means = back_means runner program at h in
-    record { declared = h.declared ∙ sym (ap size_of (means.at_start none)); callers = ended_callers runner program at h.standing (means.begun.1 none) }
+    let start : runner.store.sight ≡ in_slots (start_at at).store = means.at_start none in
+    record {
+      declared = h.declared ∙ sym (slots_size (start_at at).store) ∙ sym (ap size_of start);
+      callers = ended_callers runner program at h.standing (means.begun.1 none);
+      slots = ap in_slots start ∙ slots_twice (start_at at).store ∙ sym start;
+    }
 
 -- ---- by why a slice ends, after t steps of m
 
@@ -169,7 +205,7 @@ module _ {L : Type 0} (runner : Runner L) (program : Program) (at : Place) (t m 
 
   -- one whose next step is refused
   pub run_stopped : (n : ℕ) (f : machine.Fault) → t < m → n ≡ runner.cursor.count → has_ended runner.cursor ≡ false →
-      Refuses (start_at at).procedures (stacks_in (start_at at).store) runner.procedures program.book runner.cursor runner.store f →
+      Refuses (procedures_in runner.entries (start_at at).procedures) (stacks_in (start_at at).store) runner.procedures program.book runner.cursor runner.store f →
       CodePart at.code at.world n (world_inside at runner) × CodeStop at.code at.world n (fault_of f) × (n < at.count + m)
   run_stopped n f low is going refuses =
       let e : n ≡ at.count + t = is ∙ s.counted in (

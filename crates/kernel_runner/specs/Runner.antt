@@ -1,20 +1,23 @@
 -- The model of a runner, and what its calls do to it. Between two cells it shows a world. Inside a cell it stands at a place in the code, and its
 -- next steps go on or back.
-use Rattle.std.specs.Prelude.{◌≡◌, ℕ, ◌+◌, ◌-◌, ◌≤◌, Bool, true, false, List, length}
-use Rattle.janus_meaning.specs.Syntax.{Blk, Proc}
+use Rattle.std.specs.Prelude.{◌≡◌, ℕ, ◌+◌, ◌-◌, ◌≤◌, Bool, true, false, List, length, reverse}
+use Rattle.janus_meaning.specs.Syntax.{Name, Blk, Proc}
 use Rattle.janus_meaning.specs.Store.{Store}
 use Rattle.janus_meaning.specs.World.{World, Declaration, declare, entered, stacks_in, size_of}
 use Rattle.janus_meaning.specs.Cells.{IsGoodWorld}
 use Rattle.janus_meaning.specs.Limit.{step_limit}
-use Rattle.janus_names.specs.Numbers.{GoOn, HaveOneNumber}
-use Rattle.janus_store.specs.StoreState.{StoreState, IsWhole, shown_store}
+use Rattle.janus_names.specs.Numbers.{GoOn}
+use Rattle.janus_slots.specs.Slots.{names_in, in_slots, block_in, procedures_in}
+use Rattle.janus_slots.specs.Law.{AreListed}
+use Rattle.janus_store.specs.StoreState.{StoreState, IsWhole, AreSlots, shown_store}
 use Rattle.janus_machine.specs.Open.{Agrees}
 use Rattle.janus_machine.specs.Bodies.{AreBelow, Define}
 use Rattle.janus_machine.specs.Cursor as cursors
 use Rattle.janus_machine.specs.Cursors.{IsStanding}
 use Rattle.janus_machine.specs.Law.{HasRun, FacesBack, NeverBroken}
 use Rattle.kernel_machine.specs.Language.{Code, Forward, Backward, CodeExec, IsFormed, IsSound, cell_of, run_block, start_of}
-use Rattle.kernel_runner.specs.Program.{cell_of_program, IsReady, with_bodies}
+use Rattle.janus_machine.specs.Procedures.{kept_in}
+use Rattle.kernel_runner.specs.Program.{cell_of_program, procedures_of, IsReady, with_bodies}
 use Rattle.kernel_runner.specs.declared.program.Program.{Program}
 use Rattle.kernel_machine.specs.Reached.{Reaches}
 use Rattle.kernel_machine.specs.declared.progress.Progress.{Progress}
@@ -37,24 +40,27 @@ over bodies w = record { bodies = bodies; world = w }
 abbrev pub world_of : {L : Type 0} → List Proc → Runner L → World
 world_of ps runner = record { store = shown_store runner.store; procedures = ps }
 
--- the runner shows this world, and its bodies are those of the world's procedures
+-- The runner shows this world; each of its procedures is named in the table, and its bodies are those of the procedures, with slots in place of names.
 pub record Shows {L : Type 0} (runner : Runner L) (shown : ShownWorld) : Type 0 where
   pub store : shown_store runner.store ≡ shown.world.store
-  pub one_number : HaveOneNumber runner.store.names
-  pub defined : Define runner.store.names runner.procedures shown.bodies shown.world.procedures
+  pub texts : length runner.store.texts ≡ runner.store.declared
+  pub slots : AreSlots runner.store.names
+  pub listed : AreListed runner.entries shown.world.procedures
+  pub defined : Define runner.store.names runner.procedures shown.bodies (procedures_in runner.entries shown.world.procedures)
 
--- The store has become this one: no local is open, and each name that was met has kept its number, which is its only one.
+-- The store has become one that shows this: no local is open, and its slots are as many as before, or more.
 pub record Becomes (old new : StoreState) (s : Store) : Type 0 where
-  pub sight : new.sight ≡ s
+  pub shown : shown_store new ≡ s
+  pub texts : length new.texts ≡ new.declared
   pub whole : IsWhole new
   pub names : GoOn old.names new.names
-  pub one_number : HaveOneNumber old.names → HaveOneNumber new.names
+  pub slots : AreSlots new.names
 
 -- `count` names, with the values that they were declared with, stand above this store
 pub record IsDeclaredOver (h : StoreState) (count : ℕ) (before : Store) : Type 0 where
   pub declarations : List Declaration
   pub many : length declarations ≡ count
-  pub declared : h.sight ≡ declare declarations before
+  pub declared : shown_store h ≡ declare declarations before
 
 -- ---- inside a cell
 
@@ -93,13 +99,23 @@ world_inside at runner = world_of (start_at at).procedures runner
 abbrev pub count_of : {L : Type 0} → Runner L → ℕ
 count_of runner = cursors.count_in runner.cursor
 
--- `count` steps of the block from the world w have led to the cursor and the store; or the cursor has turned round, and come back to there.
+-- the block, the procedures and the store of a world, with slots in place of names
+abbrev pub block_of : List Name → Blk → World → Blk
+block_of entries b w = block_in entries (names_in w.store) b
+
+abbrev pub slots_of : World → Store
+slots_of w = in_slots w.store
+
+-- With slots in place of names, `count` steps of the block from the world w have led to the cursor and the store; or the cursor has turned round, and
+-- come back to there.
 abbrev pub Faces : {L : Type 0} → Bool → Runner L → Program → Blk → World → ℕ → Type 0
 Faces false runner program b w count =
-    HasRun w.procedures (stacks_in w.store) b w.store count runner.procedures program.book runner.cursor runner.store
-    × NeverBroken w.procedures (stacks_in w.store) b w.store
+    HasRun (procedures_in runner.entries w.procedures) (stacks_in w.store) (block_of runner.entries b w) (slots_of w) count runner.procedures program.book
+    runner.cursor runner.store
+    × NeverBroken (procedures_in runner.entries w.procedures) (stacks_in w.store) (block_of runner.entries b w) (slots_of w)
 Faces true runner program b w count =
-    FacesBack w.procedures (stacks_in w.store) b w.store count runner.procedures program.book runner.cursor runner.store
+    FacesBack (procedures_in runner.entries w.procedures) (stacks_in w.store) (block_of runner.entries b w) (slots_of w) count runner.procedures program.book
+    runner.cursor runner.store
 
 -- The runner stands at this place in the program's code. Its next steps go on, or, once it is turned, back.
 pub record Stands {L : Type 0} (runner : Runner L) (program : Program) (at : Place) (is_turned : Bool) : Type 0 where
@@ -112,11 +128,13 @@ pub record Stands {L : Type 0} (runner : Runner L) (program : Program) (at : Pla
   pub standing : IsStanding runner.procedures program.book runner.cursor runner.store
   -- the store has the names of the world in which the steps began, and above them what is open at the cursor
   pub declared : runner.store.declared ≡ size_of (start_at at).store
+  pub texts : runner.store.texts ≡ reverse (names_in (start_at at).store)
   pub agrees : Agrees (stacks_in (start_at at).store) runner.procedures program.book runner.cursor runner.store
   -- what runs is the program's cell
-  pub ready : IsReady runner.store.names runner.procedures program
-  pub one_number : HaveOneNumber runner.store.names
-  pub defined : Define runner.store.names runner.procedures at.bodies (start_at at).procedures
+  pub ready : IsReady runner.store.names runner.entries (names_in (start_at at).store) runner.procedures program
+  pub slots : AreSlots runner.store.names
+  pub listed : AreListed runner.entries (start_at at).procedures
+  pub defined : Define runner.store.names runner.procedures at.bodies (procedures_in runner.entries (start_at at).procedures)
   pub faces : Faces is_turned runner program (run_block at.code) (start_at at) at.count
 
 -- ---- the model
@@ -143,7 +161,8 @@ pub record CanEnter {L : Type 0} (runner : Runner L) (program : Program) (from :
   pub is : Is runner (Between from)
   pub sound : IsSound from.world
   pub formed : IsFormed (cell_of_program program) from.world
-  pub ready : IsReady runner.store.names runner.procedures program
+  pub ready : IsReady runner.store.names runner.entries (names_in (entered (cell_of_program program) from.world).store) runner.procedures program
+  pub named : AreListed runner.entries (procedures_of program)
   pub behind : AreBelow program.first from.bodies
 
 -- the program has led to the world that is shown
@@ -154,7 +173,7 @@ pub record CanReturn {L : Type 0} (runner : Runner L) (program : Program) (from 
   pub ran : CodeExec (Forward (cell_of_program program)) before steps from.world
   pub sound : IsSound before
   pub formed : IsFormed (cell_of_program program) before
-  pub ready : IsReady runner.store.names runner.procedures program
+  pub ready : IsReady runner.store.names runner.entries (names_in from.world.store) runner.procedures program
 
 -- the world in which the program's statements begin, where it was entered in this one
 abbrev pub begun_in : Program → ShownWorld → ShownWorld
@@ -163,7 +182,7 @@ begun_in program to = over (with_bodies program to.bodies) (entered (cell_of_pro
 -- that world is shown
 pub record CanLeave {L : Type 0} (runner : Runner L) (program : Program) (to : ShownWorld) : Type 0 where
   pub is : Is runner (Between (begun_in program to))
-  pub ready : IsReady runner.store.names runner.procedures program
+  pub within : program.first + length (procedures_of program) ≤ length (kept_in runner.procedures)
 
 -- ---- what its calls do to the model: from whatever it was, to what it is
 

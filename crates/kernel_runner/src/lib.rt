@@ -1,8 +1,9 @@
 //! The runner of one cell: it alone runs the machine of `janus_machine`.
 //!
-//! - `Program` is a cell as it was checked, with its code both ways. It is ready where its code, read over the table of names, is the cell's
-//!   block, and the bodies of its procedures are kept. `kernel_loader` makes one of a text.
-//! - `Runner` has the one store, the procedures in effect and the place in the code of the open cell. Contracts see its configuration: it shows
+//! - `Program` is a cell as it was checked, with its code both ways. It is ready where its code is the cell's block with slots in place of names,
+//!   and the bodies of its procedures are kept. `kernel_loader` makes one of a text.
+//! - `Runner` has the one store, the procedures in effect with the table of their names, and the place in the code of the open cell. Code and store
+//!   have slots alone; that a run of slots is one of names is a law of `janus_slots`. Contracts see a runner's configuration: it shows
 //!   a world, or is at a place in a program's code. `enter` and `enter_inverse` lead inside a cell, `run` takes steps onward, `turn` faces round,
 //!   `back` takes steps back, and `leave` takes back what the begin declared and defined. Of these `enter` alone takes memory.
 //!

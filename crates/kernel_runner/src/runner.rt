@@ -1,18 +1,17 @@
 //! The one store, the procedures in effect, and the place in the code of the open cell.
 //!
 //! It alone runs the machine of Janus: what stands above runs cells by these contracts.
-ghost use Rattle.std.specs.Prelude.{◌≡◌, [], map, IfOk, OnOk, OnErr, IsOk, true, false};
-ghost use Rattle.janus_meaning.specs.Store.{Store as TheStore, look};
+ghost use Rattle.std.specs.Prelude.{◌≡◌, [], map, length, IfOk, OnOk, OnErr, IsOk, true, false};
+ghost use Rattle.janus_meaning.specs.Store.{Store as TheStore};
 ghost use Rattle.janus_meaning.specs.Shape.{shape_of};
 ghost use Rattle.janus_meaning.specs.FormedWorld.{AreNew, HaveValues};
 ghost use Rattle.janus_meaning.specs.World.{empty_world, declare as declared_in, declare_one as declared_one_in, declared_name};
-ghost use Rattle.janus_meaning.specs.Fault.{Bad, Broken};
 ghost use Rattle.kernel_runner.specs.Declarable.{HasStackRoom};
 ghost use Rattle.janus_syntax.specs.Tree.{declaration_view, declarations_view};
 ghost use Rattle.janus_syntax.specs.View.{plain_declaration};
 ghost use Rattle.kernel_runner.specs.Program.{cell_of_program};
-ghost use Rattle.janus_names.specs.Numbers.{GoOn};
-ghost use Rattle.janus_store.specs.StoreState.{IsWhole};
+ghost use Rattle.janus_names.specs.Numbers.{GoOn, IsUnmet};
+ghost use Rattle.janus_store.specs.StoreState.{IsWhole, shown_store};
 ghost use Rattle.janus_machine.specs.Procedures.{kept_in};
 ghost use Rattle.janus_machine.specs.Counts.{IsWritten};
 ghost use Rattle.kernel_runner.specs.Runner.{ShownWorld, over, Becomes, IsDeclaredOver, count_of, Is, Between, IsInside};
@@ -21,6 +20,7 @@ ghost use Rattle.kernel_machine.specs.StepsOfSlices.{steps_on, steps_back};
 
 use crate::program::Program;
 use janus_machine::{Cursor, End, Procedures, Store, Writes, slice};
+use janus_names::Names;
 use janus_syntax::tree::Declaration;
 use kernel_machine::Progress;
 use std::alloc::{AllocError, Global};
@@ -32,6 +32,8 @@ pub struct Runner<L: Ledger> {
     pub store: Store<L>,
     pub cursor: Cursor,
     pub procedures: Procedures,
+    /// The names of all procedures that cells ever defined, each with its number.
+    pub entries: Names,
 }
 
 impl<L: Ledger> Runner<L> {
@@ -45,6 +47,7 @@ impl<L: Ledger> Runner<L> {
             store: Store::new(alloc)?,
             cursor,
             procedures: Procedures::new(alloc),
+            entries: Names::new(alloc),
         })
     }
 
@@ -52,10 +55,11 @@ impl<L: Ledger> Runner<L> {
     pub fn enter(&mut self, program: &Program) -> Result<(), AllocError>
         requires { (from : ShownWorld) × CanEnter self.old program.now from }
         ensures ok { OnOk result (Enters program.now self.old self.new) }
-        ensures err { OnErr result (Becomes self.old.store self.new.store self.old.store.sight) }
+        ensures err { OnErr result (Becomes self.old.store self.new.store (shown_store self.old.store)) }
         ensures same { OnErr result (self.new.procedures ≡ self.old.procedures) }
         ensures kept { kept_in self.new.procedures ≡ kept_in self.old.procedures }
         ensures names { GoOn self.old.store.names self.new.store.names }
+        ensures entries { self.new.entries ≡ self.old.entries }
         // Without names it takes no memory.
         ensures none { (cell_of_program program.now).declarations ≡ [] → IsOk result }
     {
@@ -72,6 +76,7 @@ impl<L: Ledger> Runner<L> {
         ensures enters { EntersInverse program.now self.old self.new }
         ensures store { self.new.store ≡ self.old.store }
         ensures procedures { self.new.procedures ≡ self.old.procedures }
+        ensures entries { self.new.entries ≡ self.old.entries }
     {
         self.cursor.enter_inverse(&program.book);
     }
@@ -89,6 +94,7 @@ impl<L: Ledger> Runner<L> {
         ensures runs { Runs program.now m result self.old self.new }
         ensures names { self.new.store.names ≡ self.old.store.names }
         ensures procedures { self.new.procedures ≡ self.old.procedures }
+        ensures entries { self.new.entries ≡ self.old.entries }
         ensures written { IsWritten (steps_on (count_of self.old) m result) writes.old writes.new }
     {
         let sliced = slice(
@@ -113,6 +119,7 @@ impl<L: Ledger> Runner<L> {
         ensures turns { Turns program.now self.old self.new }
         ensures store { self.new.store ≡ self.old.store }
         ensures procedures { self.new.procedures ≡ self.old.procedures }
+        ensures entries { self.new.entries ≡ self.old.entries }
     {
         self.cursor.mirror(&self.procedures, &program.book);
     }
@@ -123,6 +130,7 @@ impl<L: Ledger> Runner<L> {
         ensures goes { GoesBack program.now m self.old self.new }
         ensures names { self.new.store.names ≡ self.old.store.names }
         ensures procedures { self.new.procedures ≡ self.old.procedures }
+        ensures entries { self.new.entries ≡ self.old.entries }
         ensures written { IsWritten (steps_back (count_of self.old) m) writes.old writes.new }
     {
         let _sliced = slice(
@@ -141,6 +149,7 @@ impl<L: Ledger> Runner<L> {
         ensures leaves { Leaves program.now self.old self.new }
         ensures kept { kept_in self.new.procedures ≡ kept_in self.old.procedures }
         ensures names { GoOn self.old.store.names self.new.store.names }
+        ensures entries { self.new.entries ≡ self.old.entries }
     {
         retire(&mut self.store, program.declarations().len());
         self.procedures
@@ -151,10 +160,12 @@ impl<L: Ledger> Runner<L> {
 /// Takes the newest names away, which have the values that they were declared with.
 fn retire<L: Ledger>(store: &mut Store<L>, count: usize)
     requires declared { (before : TheStore) × IsDeclaredOver store.old count before }
+    requires texts { length store.old.texts ≡ store.old.declared }
     requires whole { IsWhole store.old }
     ensures becomes { (before : TheStore) → IsDeclaredOver store.old count before → Becomes store.old store.new before }
     ensures names { store.new.names ≡ store.old.names }
 {
+    store.slots_law();
     for _i in 0..count {
         store.retire();
     }
@@ -162,13 +173,15 @@ fn retire<L: Ledger>(store: &mut Store<L>, count: usize)
 
 /// Declares new names, which are 0 or empty then. An error for want of memory leaves what is declared.
 fn declare<L: Ledger>(store: &mut Store<L>, declarations: &[Declaration]) -> Result<(), AllocError>
-    requires values { HaveValues store.old.sight }
-    requires new { AreNew (shape_of store.old.sight) (map plain_declaration (declarations_view declarations.now)) }
+    requires values { HaveValues (shown_store store.old) }
+    requires new { AreNew (shape_of (shown_store store.old)) (map plain_declaration (declarations_view declarations.now)) }
+    requires texts { length store.old.texts ≡ store.old.declared }
     requires whole { IsWhole store.old }
-    ensures ok { OnOk result (Becomes store.old store.new (declared_in (map plain_declaration (declarations_view declarations.now)) store.old.sight)) }
-    ensures err { OnErr result (Becomes store.old store.new store.old.sight) }
+    ensures ok { OnOk result (Becomes store.old store.new (declared_in (map plain_declaration (declarations_view declarations.now)) (shown_store store.old))) }
+    ensures err { OnErr result (Becomes store.old store.new (shown_store store.old)) }
     ensures none { declarations.now ≡ [] → IsOk result }
 {
+    store.slots_law();
     for i in 0..declarations.len() {
         if let Err(error) = declare_one(store, &declarations[i]) {
             retire(store, i);
@@ -180,17 +193,20 @@ fn declare<L: Ledger>(store: &mut Store<L>, declarations: &[Declaration]) -> Res
 
 /// Declares a new name. An error for want of memory leaves what is declared.
 fn declare_one<L: Ledger>(store: &mut Store<L>, declaration: &Declaration) -> Result<(), AllocError>
-    requires absent { look (declared_name (plain_declaration (declaration_view declaration.now))) store.old.sight ≡ Bad Broken }
+    requires absent { IsUnmet store.old.texts (declared_name (plain_declaration (declaration_view declaration.now))) }
+    requires texts { length store.old.texts ≡ store.old.declared }
     requires whole { IsWhole store.old }
     requires room { HasStackRoom (plain_declaration (declaration_view declaration.now)) store.old.sight }
-    ensures ok { OnOk result (Becomes store.old store.new (declared_one_in (plain_declaration (declaration_view declaration.now)) store.old.sight)) }
-    ensures err { OnErr result (Becomes store.old store.new store.old.sight) }
+    ensures ok { OnOk result (Becomes store.old store.new (declared_one_in (plain_declaration (declaration_view declaration.now)) (shown_store store.old))) }
+    ensures err { OnErr result (Becomes store.old store.new (shown_store store.old)) }
 {
-    match declaration {
+    let declared = match declaration {
         Declaration::Int(name) => store.declare(name.text.as_str()),
         Declaration::Array(name, length, _) => {
             store.declare_array(name.text.as_str(), *length as usize)
         }
         Declaration::Stack(name) => store.declare_stack(name.text.as_str()),
-    }
+    };
+    store.slots_law();
+    declared
 }

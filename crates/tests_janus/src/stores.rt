@@ -1,5 +1,5 @@
 //! Rows of the store: `new` is a new one, `number`, `array` with a length, and `stack` one in which a name was declared so. It is told whether no
-//! name is declared, how many are, how many stacks may still be, the number of the name, and its value.
+//! name is declared, how many are, how many stacks may still be, the number of the name's text among theirs, and its value.
 use crate::values::write_value;
 use janus_machine::Store;
 use std::alloc::AllocError;
@@ -46,7 +46,7 @@ fn tell_store<L: Ledger>(store: &Store<L>, name: &str, sheet: &mut Sheet) {
     sheet.write(" ");
     sheet.show(&store.stacks_left());
     sheet.write(" ");
-    sheet.show(&store.names().number(name));
+    sheet.show(&store.texts().number(name));
     sheet.write(" ");
     match store.value(name) {
         Some(value) => write_value(value, sheet),

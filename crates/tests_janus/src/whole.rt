@@ -1,4 +1,5 @@
-//! Rows of whole statements, run over a store. The store declares `x`, `y`, `a` with two elements and `s`; inside of a local `z` is open too.
+//! Rows of whole statements, run over a store. The store declares `x`, `y`, `a` with two elements and `s`; inside of a local `z` is open too. In the
+//! code a name is the slot in which it stands there.
 //!
 //! The word of a call says whether the local is open: `outside` or `inside`. Behind it stand the names over which a row is laid, `[]` behind an array and
 //! `()` behind a stack; behind `|` the place where it begins and the most steps; and behind `|` the statements: three of them without blocks, or one alone,
@@ -13,7 +14,6 @@ ghost use Rattle.janus_store.specs.StoreState.{empty_state, IsWhole};
 use janus_code::{Block, Code, FlatExp, Statement, Symbol};
 use janus_laying::{FlatRow, FrameNames, RESULT_LIMIT, lay_row};
 use janus_linear::{Linear, Order, link};
-use janus_names::Names;
 use janus_rows::{are_in_sight, run_row};
 use janus_store::{Store, Writes};
 use janus_syntax::parse_cell;
@@ -63,7 +63,7 @@ fn answer_over<L: Ledger>(
     if fill(store, word == "inside").is_err() {
         return sheet.refuse();
     }
-    match frame_of(sheet.alloc(), frame, store.names()) {
+    match frame_of(sheet.alloc(), frame) {
         Ok(frame) => tell_over(&frame, row, store, writes, sheet),
         Err(_) => sheet.refuse(),
     }
@@ -75,12 +75,12 @@ fn fill<L: Ledger>(store: &mut Store<L>, is_inside: bool) -> Result<(), AllocErr
 {
     declare(store)?;
     if is_inside {
-        open(store);
+        open(store)?;
     }
     Ok(())
 }
 
-/// Declares the names of a new store, and meets that of the local.
+/// Declares the names of a new store, in the slots from 0 on.
 fn declare<L: Ledger>(store: &mut Store<L>) -> Result<(), AllocError>
     requires { store.old ≡ empty_state }
     ensures { OnOk result (IsWhole store.new) }
@@ -88,42 +88,49 @@ fn declare<L: Ledger>(store: &mut Store<L>) -> Result<(), AllocError>
     store.declare("x")?;
     store.declare("y")?;
     store.declare_array("a", 2)?;
-    store.declare_stack("s")?;
-    store.meet("z")
+    store.declare_stack("s")
 }
 
-/// Opens the local.
-fn open<L: Ledger>(store: &mut Store<L>)
+/// Opens the local in the slot above them.
+fn open<L: Ledger>(store: &mut Store<L>) -> Result<(), AllocError>
     requires { IsWhole store.old }
 {
-    if let Some(name) = store.names().number("z") {
-        store.enter_local(name, 0);
-    }
+    store.reach(5)?;
+    store.slots_law();
+    store.enter_local(4, 0);
+    Ok(())
 }
 
 /// The names over which a row is laid, from words.
-fn frame_of(alloc: Global, words: &str, names: &Names) -> Result<FrameNames, AllocError> {
+fn frame_of(alloc: Global, words: &str) -> Result<FrameNames, AllocError> {
     let mut frame = FrameNames::new(alloc);
     for word in words.split_whitespace() {
-        add_name(word, names, &mut frame)?;
+        add_name(word, &mut frame)?;
     }
     Ok(frame)
 }
 
 /// Adds a name.
-fn add_name(word: &str, names: &Names, frame: &mut FrameNames) -> Result<(), AllocError> {
+fn add_name(word: &str, frame: &mut FrameNames) -> Result<(), AllocError> {
     if let Some(name) = word.strip_suffix("[]") {
-        return frame.add_array(number_of(name, names));
+        return frame.add_array(number_of(name));
     }
     match word.strip_suffix("()") {
-        Some(name) => frame.add_stack(number_of(name, names)),
-        None => frame.add_number(number_of(word, names)),
+        Some(name) => frame.add_stack(number_of(name)),
+        None => frame.add_number(number_of(word)),
     }
 }
 
-/// The number of a name; one that no name has where it was not met.
-fn number_of(name: &str, names: &Names) -> usize {
-    names.number(name).unwrap_or(usize::MAX)
+/// The slot of a name; one that no name has for any other.
+fn number_of(name: &str) -> usize {
+    match name {
+        "x" => 0,
+        "y" => 1,
+        "a" => 2,
+        "s" => 3,
+        "z" => 4,
+        _ => usize::MAX,
+    }
 }
 
 /// What is told of a row over these names.
@@ -135,44 +142,39 @@ fn tell_over<L: Ledger>(
     sheet: &mut Sheet,
 ) {
     let (steps, text) = cut_cell(row);
-    match row_of(sheet.alloc(), text, store.names(), frame) {
+    match row_of(sheet.alloc(), text, frame) {
         Ok(row) => tell_row(&row, frame, steps, store, writes, sheet),
         Err(_) => sheet.refuse(),
     }
 }
 
 /// The statements of a text, laid over names.
-fn row_of(
-    alloc: Global,
-    text: &str,
-    names: &Names,
-    frame: &FrameNames,
-) -> Result<FlatRow, AllocError>
+fn row_of(alloc: Global, text: &str, frame: &FrameNames) -> Result<FlatRow, AllocError>
     ensures { IfOk result (λ row. (l : Linear) × IsLaidOf frame.now l row) }
 {
-    let code = code_of_text(alloc, text, names)?;
+    let code = code_of_text(alloc, text)?;
     let linear = link(alloc, code, Order::Straight)?;
     lay_row(alloc, &linear, frame)
 }
 
 /// The code of a text.
-fn code_of_text(alloc: Global, text: &str, names: &Names) -> Result<Code, AllocError> {
+fn code_of_text(alloc: Global, text: &str) -> Result<Code, AllocError> {
     match parse_cell(alloc, text) {
-        Ok(cell) => code_of(alloc, &cell.statements, names),
+        Ok(cell) => code_of(alloc, &cell.statements),
         Err(_) => Err(AllocError),
     }
 }
 
 /// The code of three statements without blocks, or of one alone behind those of its blocks.
-fn code_of(alloc: Global, statements: &[Stm], names: &Names) -> Result<Code, AllocError> {
+fn code_of(alloc: Global, statements: &[Stm]) -> Result<Code, AllocError> {
     let is_alone = statements.len() == 1;
     let (first, second) = plain_ones(statements);
     let last = statements.get(if is_alone { 0 } else { 2 });
     let members = Vec::from_slice(alloc, &[0usize, 1, 2])?;
     let mut made = Vec::new(alloc);
-    made.push(plain(alloc, first, names)?)?;
-    made.push(plain(alloc, second, names)?)?;
-    made.push(whole(alloc, last, names)?)?;
+    made.push(plain(alloc, first)?)?;
+    made.push(plain(alloc, second)?)?;
+    made.push(whole(alloc, last)?)?;
     Ok(Code {
         statements: made,
         members,
@@ -194,105 +196,94 @@ fn plain_ones(statements: &[Stm]) -> (Option<&Stm>, Option<&Stm>) {
 }
 
 /// A statement without blocks; `skip` for another one.
-fn plain(alloc: Global, statement: Option<&Stm>, names: &Names) -> Result<Statement, AllocError>
+fn plain(alloc: Global, statement: Option<&Stm>) -> Result<Statement, AllocError>
     ensures { IfOk result (λ s. (members : List ℕ) (n : ℕ) → BlocksAreBelow members n s) }
 {
     match statement {
         Some(Stm::Assign(name, update, exp)) => {
-            let exp = flat_of(alloc, exp, names)?;
-            Ok(Statement::Assign(symbol(name, names), *update, exp))
+            let exp = flat_of(alloc, exp)?;
+            Ok(Statement::Assign(symbol(name), *update, exp))
         }
         Some(Stm::AssignElement(name, index, update, exp)) => {
-            let (index, exp) = two_of(alloc, index, exp, names)?;
-            Ok(Statement::AssignElement(symbol(name, names), index, *update, exp))
+            let (index, exp) = two_of(alloc, index, exp)?;
+            Ok(Statement::AssignElement(symbol(name), index, *update, exp))
         }
-        Some(Stm::Push(name, stack)) => {
-            Ok(Statement::Push(symbol(name, names), symbol(stack, names)))
-        }
-        Some(Stm::Pop(name, stack)) => {
-            Ok(Statement::Pop(symbol(name, names), symbol(stack, names)))
-        }
-        Some(Stm::Swap(name, other)) => {
-            Ok(Statement::Swap(symbol(name, names), symbol(other, names)))
-        }
-        Some(Stm::Call(name, _)) => Ok(Statement::Call(symbol(name, names), Vec::new(alloc))),
+        Some(Stm::Push(name, stack)) => { Ok(Statement::Push(symbol(name), symbol(stack))) }
+        Some(Stm::Pop(name, stack)) => { Ok(Statement::Pop(symbol(name), symbol(stack))) }
+        Some(Stm::Swap(name, other)) => { Ok(Statement::Swap(symbol(name), symbol(other))) }
+        Some(Stm::Call(name, _)) => Ok(Statement::Call(symbol(name), Vec::new(alloc))),
         _ => Ok(Statement::Skip),
     }
 }
 
 /// A statement whose blocks are the first two ones.
-fn whole(alloc: Global, statement: Option<&Stm>, names: &Names) -> Result<Statement, AllocError>
+fn whole(alloc: Global, statement: Option<&Stm>) -> Result<Statement, AllocError>
     ensures { IfOk result (BlocksAreBelow (0 ∷ 1 ∷ 2 ∷ []) 2) }
 {
     let one = Block { start: 0, end: 1 };
     let other = Block { start: 1, end: 2 };
     match statement {
         Some(Stm::If(test, _, _, last)) => {
-            let (test, last) = two_of(alloc, test, last, names)?;
+            let (test, last) = two_of(alloc, test, last)?;
             Ok(Statement::If(test, one, other, last))
         }
         Some(Stm::Loop(test, _, _, last)) => {
-            let (test, last) = two_of(alloc, test, last, names)?;
+            let (test, last) = two_of(alloc, test, last)?;
             Ok(Statement::Loop(test, one, other, last))
         }
         Some(Stm::LocalInt(name, first, _, _, last)) => {
-            let (first, last) = two_of(alloc, first, last, names)?;
-            Ok(Statement::LocalInt(symbol(name, names), first, one, last))
+            let (first, last) = two_of(alloc, first, last)?;
+            Ok(Statement::LocalInt(symbol(name), first, one, last))
         }
-        _ => plain(alloc, statement, names),
+        _ => plain(alloc, statement),
     }
 }
 
-/// A name, by its number.
-fn symbol(name: &Name, names: &Names) -> Symbol {
+/// A name, by its slot.
+fn symbol(name: &Name) -> Symbol {
     Symbol {
-        number: number_of(&name.text, names),
+        number: number_of(&name.text),
     }
 }
 
-/// Two expressions with numbers in place of names.
-fn two_of(
-    alloc: Global,
-    one: &Exp,
-    other: &Exp,
-    names: &Names,
-) -> Result<(FlatExp, FlatExp), AllocError> {
-    let one = flat_of(alloc, one, names)?;
-    Ok((one, flat_of(alloc, other, names)?))
+/// Two expressions with slots in place of names.
+fn two_of(alloc: Global, one: &Exp, other: &Exp) -> Result<(FlatExp, FlatExp), AllocError> {
+    let one = flat_of(alloc, one)?;
+    Ok((one, flat_of(alloc, other)?))
 }
 
-/// An expression with numbers in place of names.
+/// An expression with slots in place of names.
 #[cycle(flat)]
-fn flat_of(alloc: Global, exp: &Exp, names: &Names) -> Result<FlatExp, AllocError> {
+fn flat_of(alloc: Global, exp: &Exp) -> Result<FlatExp, AllocError> {
     match exp {
         Exp::Number(number, _) => Ok(FlatExp::Number(*number)),
-        Exp::Variable(name) => Ok(FlatExp::Variable(symbol(name, names))),
+        Exp::Variable(name) => Ok(FlatExp::Variable(symbol(name))),
         Exp::Element(name, index) => {
-            let index = boxed_of(alloc, index, names)?;
-            Ok(FlatExp::Element(symbol(name, names), index))
+            let index = boxed_of(alloc, index)?;
+            Ok(FlatExp::Element(symbol(name), index))
         }
-        Exp::Empty(name) => Ok(FlatExp::Empty(symbol(name, names))),
-        Exp::Top(name) => Ok(FlatExp::Top(symbol(name, names))),
-        Exp::Negative(operand) => Ok(FlatExp::Negative(boxed_of(alloc, operand, names)?)),
+        Exp::Empty(name) => Ok(FlatExp::Empty(symbol(name))),
+        Exp::Top(name) => Ok(FlatExp::Top(symbol(name))),
+        Exp::Negative(operand) => Ok(FlatExp::Negative(boxed_of(alloc, operand)?)),
         Exp::Binary(operator, left, right) => {
-            let left = boxed_of(alloc, left, names)?;
-            Ok(FlatExp::Binary(*operator, left, boxed_of(alloc, right, names)?))
+            let left = boxed_of(alloc, left)?;
+            Ok(FlatExp::Binary(*operator, left, boxed_of(alloc, right)?))
         }
         Exp::And(left, right) => {
-            let left = boxed_of(alloc, left, names)?;
-            Ok(FlatExp::And(left, boxed_of(alloc, right, names)?))
+            let left = boxed_of(alloc, left)?;
+            Ok(FlatExp::And(left, boxed_of(alloc, right)?))
         }
         Exp::Or(left, right) => {
-            let left = boxed_of(alloc, left, names)?;
-            Ok(FlatExp::Or(left, boxed_of(alloc, right, names)?))
+            let left = boxed_of(alloc, left)?;
+            Ok(FlatExp::Or(left, boxed_of(alloc, right)?))
         }
     }
 }
 
 /// The same in a box.
 #[cycle(flat)]
-fn boxed_of(alloc: Global, exp: &Exp, names: &Names) -> Result<Box<FlatExp>, AllocError> {
-    let flat = flat_of(alloc, exp, names)?;
+fn boxed_of(alloc: Global, exp: &Exp) -> Result<Box<FlatExp>, AllocError> {
+    let flat = flat_of(alloc, exp)?;
     match Box::new(alloc, flat) {
         Ok(boxed) => Ok(boxed),
         Err(_) => Err(AllocError),

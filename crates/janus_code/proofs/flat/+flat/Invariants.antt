@@ -1,11 +1,15 @@
-use Rattle.std.proofs.Common.{◌≡◌, ℕ, ◌<◌, length, get_or}
+use Rattle.std.proofs.Common.{◌≡◌, ℕ, ◌<◌, ◌≤◌, List, length, get_or}
 use Rattle.std.specs.Prelude.{slice_get, Some}
 use Rattle.janus_syntax.specs.View.{stm_of, block_of}
-use Rattle.janus_code.proofs.Meeting.{stm_weight, block_weight}
+use Rattle.janus_code.proofs.Seeing.{stm_weight, block_weight}
 use Rattle.janus_syntax.specs.declared.tree.Stm as code_stm
 use Rattle.janus_code.specs.Flat.{tree_at}
 use Rattle.janus_code.specs.Grown.{Grows}
 use Rattle.janus_code.specs.Numbered.{HaveNumbers}
+use Rattle.janus_check.specs.Sight.{in_sight}
+use Rattle.janus_meaning.specs.Syntax.{Name, names_of}
+use Rattle.janus_slots.specs.Slots.{stm_in}
+use Rattle.janus_code.specs.Slotted.{all_slots}
 use Rattle.janus_code.proofs.flat.+flat.Given as goal
 
 abbrev pub invariant-flat_block-loop-i : goal.invariant-flat_block-loop-i
@@ -13,8 +17,9 @@ invariant-flat_block-loop-i l = record {
   as_many : length l.numbers.items ≡ l.i;
   grows : Grows l.fn.draft.members.items l.fn.draft.statements.items l.draft.members.items l.draft.statements.items;
   below : (j : ℕ) → j < l.i → get_or l.numbers.items j 0 < length l.draft.statements.items;
-  trees : (j : ℕ) (s : code_stm.Stm) → j < l.i → slice_get l.block j ≡ Some s → tree_at l.names l.draft.members.items l.draft.statements.items (get_or l.numbers.items j 0) ≡ stm_of s;
-  numbered : HaveNumbers l.names l.fn.draft.statements.items → HaveNumbers l.names l.draft.statements.items;
+  trees : (j : ℕ) (s : code_stm.Stm) → j < l.i → slice_get l.block j ≡ Some s → tree_at all_slots l.draft.members.items l.draft.statements.items (get_or l.numbers.items j 0) ≡ stm_in l.entries (names_of (in_sight l.sight)) (stm_of s);
+  numbered : (xs : List Name) → l.draft.width ≤ length xs → HaveNumbers xs l.fn.draft.statements.items → HaveNumbers xs l.draft.statements.items;
+  wider : l.fn.draft.width ≤ l.draft.width;
 }
 
 abbrev pub decreases-flat_block : goal.decreases-flat_block

@@ -52,4 +52,9 @@ returns-clause-names g c =
     let t = stack_on_top x c.args.store.now.sight c.requires.safe in
     let none = no_values t.values (sym (c.is_empty.ensures x t.values at t.there) ∙ c.if-not-is_empty.false) in
     let left = c.leave_local_stack.ensures x t.rest (t.top ∙ ap (λ l. Slot x (Stk l) t.rest) none) in
-    record { declared = ap (λ (h : StoreState). h.declared) left; names = ap (λ (h : StoreState). h.names) left; callers = ap (λ (h : StoreState). h.callers) left }
+    record {
+      declared = ap (λ (h : StoreState). h.declared) left;
+      texts = ap (λ (h : StoreState). h.texts) left;
+      names = ap (λ (h : StoreState). h.names) left;
+      callers = ap (λ (h : StoreState). h.callers) left;
+    }

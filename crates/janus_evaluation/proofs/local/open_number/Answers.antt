@@ -30,6 +30,7 @@ returns-in-Ok-clause-names g c =
     let entered = c.enter_local.ensures (symbol_name xs c.args.name.now) at in
     record {
       declared = ap (λ (h : StoreState). h.declared) entered;
+      texts = ap (λ (h : StoreState). h.texts) entered;
       names = ap (λ (h : StoreState). h.names) entered;
       callers = ap (λ (h : StoreState). h.callers) entered;
     }

@@ -350,7 +350,7 @@ returns-clause-names g c =
     let made = c.lend.ensures (names_of f.0.params) (subst (λ xs. AreNamed h.names xs (names_of f.0.params)) (sym c.deref.ensures.value) f.2.parameters) in
     let to_go : c.last-cursor.result ≡ block_size (block_in h.names body.book d) - 1 = c.last-cursor.ensures h.names ∙ ap (λ (l : Linear). block_size (code_block h.names l.code) - 1) c.linear.ensures in
     let new_used : u.used + (16383 - room) + 2 ≡ u.used + (frame_limit - 1 - room) + 2 = refl in
-    record { declared = made.declared; names = made.names }
+    record { declared = made.declared; texts = made.texts; names = made.names }
 
 pub returns-clause-agrees : goal.returns-clause-agrees
 returns-clause-agrees g c =

@@ -5,6 +5,7 @@ use Rattle.janus_syntax.specs.Text.{IsParsedExp, Refuses}
 use Rattle.janus_syntax.specs.declared.tree.Exp as code
 use Rattle.janus_syntax.specs.declared.fault.SyntaxFault.{SyntaxFault}
 use Rattle.janus_syntax.specs.declared.fault.SyntaxFault.TheVariants as fault
+use Rattle.janus_store.specs.StoreState.{shown_store}
 use Rattle.kernel_core.specs.Text.{refused_by_syntax}
 use Rattle.kernel_core.specs.outcome.Refusal.{Refusal}
 use Rattle.kernel_ask.specs.declared.done.ExpFault.TheVariants.{Refused}
@@ -26,4 +27,4 @@ returns-in-Ok g c = λ text read.
 
 pub returns-in-Err : goal.returns-in-Err
 returns-in-Err g c = λ text read.
-    told c.args.store.now.sight text c.in-Err.fault c.of_syntax.result (subst (λ (r : Result code.Exp SyntaxFault). IsParsedExp text r) c.in-Err.is read) c.of_syntax.ensures
+    told (shown_store c.args.store.now) text c.in-Err.fault c.of_syntax.result (subst (λ (r : Result code.Exp SyntaxFault). IsParsedExp text r) c.in-Err.is read) c.of_syntax.ensures

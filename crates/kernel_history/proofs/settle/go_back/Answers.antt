@@ -22,7 +22,7 @@ settle_back-requires-clause-kept g c =
     let stands = c.back.ensures.goes _ (stands_with c.args.tree.now c.args.entered.now.work c.args.entered.now.count true c.args.runner.now c.program_of.result.now c.program_of.ensures c.requires.stands) in (
       c.args.why,
       subst (λ (n : ℕ). Kept c.args.tree.now c.back.new.self (Inside (record { work = c.args.entered.now.work; count = n; heading = GoesBack c.args.why }))) e
-          (kept_at c.args.tree.now c.args.entered.now.work c.args.entered.now.count (c.args.entered.now.count - c.args.m) (GoesBack c.args.why) (GoesBack c.args.why) c.args.runner.now c.back.new.self c.program_of.result.now c.requires (same_more c.args.runner.now.store.names c.back.new.self.store.names c.back.ensures.names)
+          (kept_at c.args.tree.now c.args.entered.now.work c.args.entered.now.count (c.args.entered.now.count - c.args.m) (GoesBack c.args.why) (GoesBack c.args.why) c.args.runner.now c.back.new.self c.program_of.result.now c.requires (same_more c.args.runner.now.store.names c.back.new.self.store.names c.back.ensures.names) c.back.ensures.entries
           (ap (λ (t : Procedures). kept_in t) c.back.ensures.procedures) c.program_of.ensures stands),
     )
 
@@ -45,7 +45,7 @@ returns-else-left-eq0-clause-kept g c =
     let tree = c.args.tree.now in
     let p = c.program_of.result.now in
     let stands = c.back.ensures.goes _ (stands_with tree work c.args.entered.now.count true c.args.runner.now p c.program_of.ensures c.requires.stands) in
-    kept_at tree work c.args.entered.now.count c.saturating_sub-left.result (GoesBack c.args.why) (GoesBack c.args.why) c.args.runner.now c.back.new.self p c.requires (same_more c.args.runner.now.store.names c.back.new.self.store.names c.back.ensures.names)
+    kept_at tree work c.args.entered.now.count c.saturating_sub-left.result (GoesBack c.args.why) (GoesBack c.args.why) c.args.runner.now c.back.new.self p c.requires (same_more c.args.runner.now.store.names c.back.new.self.store.names c.back.ensures.names) c.back.ensures.entries
     (ap (λ (t : Procedures). kept_in t) c.back.ensures.procedures) c.program_of.ensures
     (subst (λ (n : ℕ). Stands c.back.new.self p (place_in tree work p n) true) (sym c.saturating_sub-left.ensures) stands)
 

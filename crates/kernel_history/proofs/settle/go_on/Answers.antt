@@ -43,7 +43,7 @@ returns-in-Ended-clause-end g c =
       within = came.reaches.1;
       come = record {
         kept =
-            kept_at c.args.tree.now c.args.entered.now.work c.args.entered.now.count c.in-Ended.n GoesOn GoesOn c.args.runner.now c.run.new.self c.program_of.result.now kept (same_more c.args.runner.now.store.names c.run.new.self.store.names c.run.ensures.names)
+            kept_at c.args.tree.now c.args.entered.now.work c.args.entered.now.count c.in-Ended.n GoesOn GoesOn c.args.runner.now c.run.new.self c.program_of.result.now kept (same_more c.args.runner.now.store.names c.run.new.self.store.names c.run.ensures.names) c.run.ensures.entries
             (ap (λ (t : Procedures). kept_in t) c.run.ensures.procedures) c.program_of.ensures came.is;
         ended = came.reaches.0;
         whole = came.whole;
@@ -53,7 +53,7 @@ returns-in-Ended-clause-end g c =
 pub turn_back-requires : goal.turn_back-requires
 turn_back-requires g c =
     let kept = onward c.args.tree.now c.args.runner.now c.args.entered.now c.requires.kept c.requires.onward in
-    kept_at c.args.tree.now c.args.entered.now.work c.args.entered.now.count c.in-Stopped.j GoesOn GoesOn c.args.runner.now c.run.new.self c.program_of.result.now kept (same_more c.args.runner.now.store.names c.run.new.self.store.names c.run.ensures.names) (ap (λ (t : Procedures). kept_in t) c.run.ensures.procedures) c.program_of.ensures
+    kept_at c.args.tree.now c.args.entered.now.work c.args.entered.now.count c.in-Stopped.j GoesOn GoesOn c.args.runner.now c.run.new.self c.program_of.result.now kept (same_more c.args.runner.now.store.names c.run.new.self.store.names c.run.ensures.names) c.run.ensures.entries (ap (λ (t : Procedures). kept_in t) c.run.ensures.procedures) c.program_of.ensures
     ((c.in-Stopped.ensures.runs _ (stands_with c.args.tree.now c.args.entered.now.work c.args.entered.now.count false c.args.runner.now c.program_of.result.now c.program_of.ensures kept.stands)).is)
 
 -- an entered cell at another count, which goes on
@@ -78,7 +78,7 @@ returns-in-Went-clause-kept g c =
     let came = c.in-Went.ensures.runs _ (stands_with c.args.tree.now c.args.entered.now.work c.args.entered.now.count false c.args.runner.now c.program_of.result.now c.program_of.ensures kept.stands) in
     let went = moved_to c.args.entered.now _ _ (c.count-entered.ensures ∙ came.is.counted) c.requires.onward in
     subst (λ (e : Entered). Kept c.args.tree.now c.run.new.self (Inside e)) (sym went)
-    (kept_at c.args.tree.now c.args.entered.now.work c.args.entered.now.count (c.args.entered.now.count + c.args.m) GoesOn GoesOn c.args.runner.now c.run.new.self c.program_of.result.now kept (same_more c.args.runner.now.store.names c.run.new.self.store.names c.run.ensures.names)
+    (kept_at c.args.tree.now c.args.entered.now.work c.args.entered.now.count (c.args.entered.now.count + c.args.m) GoesOn GoesOn c.args.runner.now c.run.new.self c.program_of.result.now kept (same_more c.args.runner.now.store.names c.run.new.self.store.names c.run.ensures.names) c.run.ensures.entries
     (ap (λ (t : Procedures). kept_in t) c.run.ensures.procedures) c.program_of.ensures came.is)
 
 pub returns-in-Stopped-clause-step : goal.returns-in-Stopped-clause-step

@@ -33,5 +33,5 @@ returns-clause-kept g c =
     let larger : HistoryTree = record { cells = c.set_favourite.new.self; position = c.add-number.result } in
     kept_grown c.args.tree.now larger (cell_of_program c.args.program) c.args.n c.args.runner.now (world_of (start_of (Forward (cell_of_program c.args.program)) (here (past_of c.args.tree.now))).procedures c.args.runner.now) more favourites number c.requires.kept.legal c.requires.kept.possible c.requires.ended
     (shown_more c.args.tree.now larger c.args.program c.args.n c.args.runner.now c.requires.kept nodes number) c.requires.whole
-    (placed_more c.args.tree.now larger c.args.program c.args.n c.args.runner.now c.requires.kept nodes) (ordered_more c.args.tree.now larger c.args.program c.args.n c.args.runner.now c.requires.kept nodes)
+    (placed_more c.args.tree.now larger c.args.program c.args.n c.args.runner.now c.requires.kept nodes _ c.requires.ended) (ordered_more c.args.tree.now larger c.args.program c.args.n c.args.runner.now c.requires.kept nodes)
     (no_other_more c.args.tree.now larger c.args.program c.args.n c.args.runner.now c.requires.kept nodes)

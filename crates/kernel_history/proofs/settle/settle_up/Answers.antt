@@ -8,6 +8,7 @@ use Rattle.kernel_history.specs.Bodies.{IsCellAt}
 use Rattle.kernel_machine.specs.Slices.{Arrives, cells}
 use Rattle.kernel_machine.specs.declared.travel.Travel.{Travel}
 use Rattle.kernel_runner.specs.Runner.{world_of}
+use Rattle.kernel_runner.proofs.Growing.{same_more}
 use Rattle.kernel_history.proofs.Nodes.{parent_there}
 use Rattle.kernel_history.proofs.Standing.{kept_up, up_names, settled_up, nodes_ready, no_other_same, can_leave_up}
 use Rattle.kernel_machine.proofs.Trees.{up_possible}
@@ -21,7 +22,7 @@ leave-requires g c =
     let at : IsCellAt tree tree.position c.content.result.now = (some, c.content.ensures) in
     let w : World = world_of (start_of (code_of (past_of tree) (state.Move c.args.travel)) (here (past_of tree))).procedures c.args.runner.now in
     let names = up_names tree c.args.travel c.args.n w c.content.result.now c.requires.way k.legal k.possible c.requires.come.ended at in
-    (_, can_leave_up tree c.args.runner.now c.content.result.now c.args.n at k.legal c.args.travel false c.requires.way k.stands c.requires.come.whole (k.ready tree.position c.content.result.now at) names)
+    (_, can_leave_up tree c.args.runner.now c.content.result.now c.args.n at k.legal c.args.travel false c.requires.way k.stands c.requires.come.whole k.ready names)
 
 pub returns-clause-step : goal.returns-clause-step
 returns-clause-step g c =
@@ -39,8 +40,8 @@ returns-clause-kept g c =
     let at : IsCellAt tree tree.position c.content.result.now = (some, c.content.ensures) in
     let w : World = world_of (start_of (code_of (past_of tree) (state.Move c.args.travel)) (here (past_of tree))).procedures c.args.runner.now in
     let names = up_names tree c.args.travel c.args.n w c.content.result.now c.requires.way k.legal k.possible c.requires.come.ended at in
-    let can = can_leave_up tree c.args.runner.now c.content.result.now c.args.n at k.legal c.args.travel false c.requires.way k.stands c.requires.come.whole (k.ready tree.position c.content.result.now at) names in
+    let can = can_leave_up tree c.args.runner.now c.content.result.now c.args.n at k.legal c.args.travel false c.requires.way k.stands c.requires.come.whole k.ready names in
     kept_up tree c.parent-tree.result c.args.travel c.leave.new.self c.arrive.result.1 c.arrive.result.0 c.requires.way k.legal k.possible k.counted k.path
-    (nodes_ready tree c.args.runner.now c.leave.new.self c.leave.ensures.names c.leave.ensures.kept k.ready) k.order (no_other_same tree c.args.runner.now.procedures c.leave.new.self.procedures c.leave.ensures.kept k.no_other) (c.leave.ensures.leaves _ can).1
+    (nodes_ready tree c.args.runner.now c.leave.new.self c.leave.ensures.names (same_more c.args.runner.now.entries c.leave.new.self.entries c.leave.ensures.entries) c.leave.ensures.kept k.ready) k.order (no_other_same tree c.args.runner.now.procedures c.leave.new.self.procedures c.leave.ensures.kept k.no_other) (c.leave.ensures.leaves _ can).1
     (c.parent-tree.ensures.parent ∙ sym (parent_there tree tree.position)) (c.leave.ensures.leaves _ can).0
     (subst (λ (t : Travel). Arrives (cells t) (past_of (record tree { position = c.parent-tree.result })) t c.arrive.result.1 (state_of (record tree { position = c.parent-tree.result }) c.arrive.result.0)) c.stepped.ensures (c.arrive.ensures _))

@@ -1,33 +1,48 @@
-use Rattle.std.proofs.Common.{◌≡◌, ℕ, ◌+◌, List, length, take, refl, sym, ap, ◌∙◌, subst}
-use Rattle.janus_meaning.specs.Syntax.{Name}
-use Rattle.janus_syntax.specs.View.{plain_cell}
+use Rattle.std.proofs.Common.{◌≡◌, ℕ, ◌+◌, List, length, map, take, refl, sym, ap, ◌∙◌, subst}
+use Rattle.janus_meaning.specs.Syntax.{Name, Proc}
+use Rattle.janus_slots.specs.Law.{AreListed}
+use Rattle.janus_syntax.specs.Tree as tree
+use Rattle.janus_syntax.specs.Tree.{procedures_view}
+use Rattle.janus_syntax.specs.View.{plain_cell, plain_procedure}
 use Rattle.janus_check.specs.Checked.{cell_in}
-use Rattle.janus_code.specs.Met.{MeetsBlk}
 use Rattle.janus_machine.specs.Bodies.{AreBelow}
 use Rattle.janus_machine.specs.Procedures.{kept_in}
 use Rattle.kernel_runner.specs.declared.program.Program.{Program}
-use Rattle.kernel_loader.specs.Met.{AreProceduresMet}
-use Rattle.kernel_loader.proofs.Made.{all_kept, shows_more, bodies_within, cell_met, ready_made}
+use Rattle.kernel_loader.proofs.Sighted.{names_here, entries_here}
+use Rattle.kernel_loader.proofs.Made.{keeps_same, all_kept, shows_more, bodies_within, ready_made}
 use Rattle.kernel_loader.proofs.loader.link.Goals as goal
 
-pub returns-in_err-met-clause-shown : goal.returns-in_err-met-clause-shown
-returns-in_err-met-clause-shown g c = λ shown h.
-    shows_more c.args.runner.now _ shown c.meet_cell-met.ensures.kept c.names-names.ensures.one_number (all_kept (kept_in c.args.runner.now.procedures) (kept_in c.args.runner.now.procedures) refl) (λ d. d) h
+pub returns-in_err-listed-clause-shown : goal.returns-in_err-listed-clause-shown
+returns-in_err-listed-clause-shown g c = λ shown h.
+    shows_more c.args.runner.now _ shown (keeps_same c.args.runner.now.store) c.slots_law.ensures.slots c.list_all-listed.ensures.onward
+    (all_kept (kept_in c.args.runner.now.procedures) (kept_in c.args.runner.now.procedures) refl) (λ d. d) h
 
-pub keep_and_link-requires-clause-block : goal.keep_and_link-requires-clause-block
-keep_and_link-requires-clause-block g c =
-    subst (λ (xs : List Name). MeetsBlk xs (plain_cell (cell_in c.args.checked.now)).block) (sym c.names-names.ensures.names)
-    (cell_met c.args.runner.now c.meet_cell-met.new.store c.requires.0 _ (cell_in c.args.checked.now) c.requires.1 c.meet_cell-met.ensures.kept c.names-names.ensures.known c.cell.ensures c.in_ok-met.ensures.declared c.in_ok-met.ensures.procedures c.in_ok-met.ensures.locals).0
+pub keep_and_link-kept-requires-clause-entries : goal.keep_and_link-kept-requires-clause-entries
+keep_and_link-kept-requires-clause-entries g c =
+    let same : map plain_procedure (procedures_view c.deref.result.now) ≡ (plain_cell (cell_in c.args.checked.now)).procedures =
+    ap (λ l. map plain_procedure (procedures_view l)) c.deref.ensures.value ∙ ap (λ (t : tree.Cell). (plain_cell t).procedures) c.cell.ensures in
+    entries_here c.args.runner.now c.args.env.now c.in_ok-own.own (cell_in c.args.checked.now) c.requires.0 c.list_all-listed.new.entries c.requires.1 c.in_ok-own.ensures c.list_all-listed.ensures.onward
+    (subst (λ (ps : List Proc). AreListed c.list_all-listed.new.entries ps) same c.in_ok-listed.ensures.listed)
 
-pub keep_and_link-requires-clause-procedures : goal.keep_and_link-requires-clause-procedures
-keep_and_link-requires-clause-procedures g c =
-    subst (λ (xs : List Name). AreProceduresMet xs (plain_cell (cell_in c.args.checked.now)).procedures) (sym c.names-names.ensures.names)
-    (cell_met c.args.runner.now c.meet_cell-met.new.store c.requires.0 _ (cell_in c.args.checked.now) c.requires.1 c.meet_cell-met.ensures.kept c.names-names.ensures.known c.cell.ensures c.in_ok-met.ensures.declared c.in_ok-met.ensures.procedures c.in_ok-met.ensures.locals).1
+pub returns-in-Ok-clause-named : goal.returns-in-Ok-clause-named
+returns-in-Ok-clause-named g c =
+    let same : map plain_procedure (procedures_view c.deref.result.now) ≡ (plain_cell (cell_in c.args.checked.now)).procedures =
+    ap (λ l. map plain_procedure (procedures_view l)) c.deref.ensures.value ∙ ap (λ (t : tree.Cell). (plain_cell t).procedures) c.cell.ensures in
+    subst (λ (ps : List Proc). AreListed c.list_all-listed.new.entries ps) same c.in_ok-listed.ensures.listed
 
 pub returns-in-Ok-clause-ready : goal.returns-in-Ok-clause-ready
 returns-in-Ok-clause-ready g c =
+    let es : List Name = c.list_all-listed.new.entries in
+    let cell = cell_in c.args.checked.now in
+    let same : map plain_procedure (procedures_view c.deref.result.now) ≡ (plain_cell cell).procedures =
+    ap (λ l. map plain_procedure (procedures_view l)) c.deref.ensures.value ∙ ap (λ (t : tree.Cell). (plain_cell t).procedures) c.cell.ensures in
+    let listed : AreListed es (plain_cell cell).procedures = subst (λ (ps : List Proc). AreListed es ps) same c.in_ok-listed.ensures.listed in
     let program : Program = record { book = c.in-Ok.book; checked = c.args.checked.now; first = c.len-first.result } in
-    ready_made c.meet_cell-met.new.store.names c.names-names.result.now c.args.runner.now.procedures c.keep_and_link.new.kept program c.in-Ok.ensures.block c.names-names.ensures.names c.in-Ok.ensures.numbered c.len-first.ensures c.in-Ok.ensures.bodies c.in-Ok.ensures.count
+    ready_made c.keep_and_link-kept.new.store.names es _ _ _ _ c.args.runner.now.procedures c.keep_and_link-kept.new.kept program c.in-Ok.ensures.block
+    (names_here c.args.runner.now c.args.env.now c.in_ok-own.own cell c.requires.0 c.requires.1 c.in_ok-own.ensures)
+    c.in-Ok.ensures.numbered c.len-first.ensures c.in-Ok.ensures.bodies c.in-Ok.ensures.count
+    (entries_here c.args.runner.now c.args.env.now c.in_ok-own.own cell c.requires.0 es c.requires.1 c.in_ok-own.ensures c.list_all-listed.ensures.onward listed)
+    listed c.in_ok-own.ensures.block c.in_ok-own.ensures.procedures
 
 pub returns-in-Ok-clause-last : goal.returns-in-Ok-clause-last
 returns-in-Ok-clause-last g c =
@@ -35,20 +50,11 @@ returns-in-Ok-clause-last g c =
 
 pub returns-in-Ok-clause-shown : goal.returns-in-Ok-clause-shown
 returns-in-Ok-clause-shown g c = λ shown h.
-    shows_more c.args.runner.now _ shown c.meet_cell-met.ensures.kept c.names-names.ensures.one_number c.keep_and_link.ensures.older (λ d. c.keep_and_link.ensures.defined shown.bodies d) h
+    shows_more c.args.runner.now _ shown c.keep_and_link-kept.ensures.sight c.slots_law-2.ensures.slots c.list_all-listed.ensures.onward c.keep_and_link-kept.ensures.older (λ d. c.keep_and_link-kept.ensures.defined shown.bodies d) h
 
--- the bodies that were kept are forgotten
-pub returns-in-Err-clause-none : goal.returns-in-Err-clause-none
-returns-in-Err-clause-none g c = c.forget.ensures.kept ∙ ap (λ (n : ℕ). take n (kept_in c.keep_and_link.new.kept)) c.len-first.ensures ∙ c.keep_and_link.ensures.older
-
-pub returns-in-Err-clause-older : goal.returns-in-Err-clause-older
-returns-in-Err-clause-older g c =
-    let same : kept_in c.forget.new.self ≡ kept_in c.args.runner.now.procedures = c.forget.ensures.kept ∙ ap (λ (n : ℕ). take n (kept_in c.keep_and_link.new.kept)) c.len-first.ensures ∙ c.keep_and_link.ensures.older in
-    all_kept (kept_in c.args.runner.now.procedures) (kept_in c.forget.new.self) same
-
-pub returns-in-Err-clause-shown : goal.returns-in-Err-clause-shown
-returns-in-Err-clause-shown g c = λ shown h.
-    let same : kept_in c.forget.new.self ≡ kept_in c.args.runner.now.procedures = c.forget.ensures.kept ∙ ap (λ (n : ℕ). take n (kept_in c.keep_and_link.new.kept)) c.len-first.ensures ∙ c.keep_and_link.ensures.older in
-    let below : AreBelow c.len-first.result shown.bodies = subst (λ (n : ℕ). AreBelow n shown.bodies) (sym c.len-first.ensures) (bodies_within c.args.runner.now.store.names (kept_in c.args.runner.now.procedures) shown.bodies shown.world.procedures h.0.defined.bodies) in
-    shows_more c.args.runner.now _ shown c.meet_cell-met.ensures.kept c.names-names.ensures.one_number (all_kept (kept_in c.args.runner.now.procedures) (kept_in c.forget.new.self) same)
-    (λ d. c.forget.ensures.defined shown.bodies (c.keep_and_link.ensures.defined shown.bodies d) below) h
+pub returns-clause-shown : goal.returns-clause-shown
+returns-clause-shown g c = λ shown h.
+    let same : kept_in c.forget.new.self ≡ kept_in c.args.runner.now.procedures = c.forget.ensures.kept ∙ ap (λ (n : ℕ). take n (kept_in c.keep_and_link-kept.new.kept)) c.len-first.ensures ∙ c.keep_and_link-kept.ensures.older in
+    let below : AreBelow c.len-first.result shown.bodies = subst (λ (n : ℕ). AreBelow n shown.bodies) (sym c.len-first.ensures) (bodies_within c.args.runner.now.store.names (kept_in c.args.runner.now.procedures) shown.bodies _ h.0.defined.bodies) in
+    shows_more c.args.runner.now _ shown c.keep_and_link-kept.ensures.sight c.slots_law-2.ensures.slots c.list_all-listed.ensures.onward (all_kept (kept_in c.args.runner.now.procedures) (kept_in c.forget.new.self) same)
+    (λ d. c.forget.ensures.defined shown.bodies (c.keep_and_link-kept.ensures.defined shown.bodies d) below) h

@@ -1,15 +1,17 @@
+use Rattle.std.proofs.Common.{rules}
 use Rattle.janus_meaning.specs.World.{World}
-use Rattle.kernel_machine.proofs.Texts.{accepted_formed}
+use Rattle.kernel_machine.specs.Text.{Refuses}
 use Rattle.kernel_runner.specs.Runner.{world_of, over}
 use Rattle.kernel_loader.specs.Defined.{in_a_row}
+use Rattle.kernel_loader.specs.Known.{IsKnownOf}
 use Rattle.kernel_loader.proofs.loader.load.Goals as goal
 
-pub cell_of_text-requires-clause-values : goal.cell_of_text-requires-clause-values
-cell_of_text-requires-clause-values g c =
+pub known_over-requires-clause-values : goal.known_over-requires-clause-values
+known_over-requires-clause-values g c =
     c.requires.sound.formed.values
 
-pub cell_of_text-requires-clause-distinct : goal.cell_of_text-requires-clause-distinct
-cell_of_text-requires-clause-distinct g c =
+pub known_over-requires-clause-distinct : goal.known_over-requires-clause-distinct
+known_over-requires-clause-distinct g c =
     c.requires.sound.formed.names
 
 pub link-requires : goal.link-requires
@@ -18,10 +20,21 @@ link-requires g c =
       over c.requires.is.0 w,
       record {
         is = c.requires.is.1;
-        formed = (accepted_formed w c.args.text.now _ c.in_ok-checked.ensures.accepts).formed;
+        known = record { names = c.in-Ok.ensures.names; heads = c.in-Ok.ensures.heads };
+        formed = c.in_ok-checked.ensures.formed;
         values = c.requires.sound.formed.values;
       },
     )
 
-pub returns-in-Ok-clause-accepts : goal.returns-in-Ok-clause-accepts
-returns-in-Ok-clause-accepts g c = c.in_ok-checked.ensures.accepts
+pub returns-in-Ok-link-clause-accepts : goal.returns-in-Ok-link-clause-accepts
+returns-in-Ok-link-clause-accepts g c =
+    let w : World = world_of (in_a_row c.args.procedures.now) c.args.runner.now in
+    let known : IsKnownOf c.in-Ok.env w = record { names = c.in-Ok.ensures.names; heads = c.in-Ok.ensures.heads } in
+    c.in_ok-checked.ensures.accepts w known
+
+pub returns-in_err-checked-clause-refuses : goal.returns-in_err-checked-clause-refuses
+returns-in_err-checked-clause-refuses g c =
+    let w : World = world_of (in_a_row c.args.procedures.now) c.args.runner.now in
+    let known : IsKnownOf c.in-Ok.env w = record { names = c.in-Ok.ensures.names; heads = c.in-Ok.ensures.heads } in
+    let told : Refuses w c.args.text.now c.in_err-checked.field-0.0 = c.in_err-checked.ensures.refuses w known in
+    search (rules, told)

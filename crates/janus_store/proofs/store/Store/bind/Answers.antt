@@ -3,7 +3,7 @@ use Rattle.std.specs.Prelude.{reverse}
 use Rattle.std.proofs.lemmas.List.{reverse-append, length-reverse}
 use Rattle.janus_store.specs.Calls.{CanLend, IsEntered}
 use Rattle.janus_store.specs.StoreState.{StoreState, live_stacks, values_held}
-use Rattle.janus_store.specs.Inside.{held_in, IsHeld, holdings}
+use Rattle.janus_store.specs.Inside.{held_in, IsHeld, holdings, slots_of}
 use Rattle.janus_store.specs.declared.store.Call.{Call}
 use Rattle.janus_store.proofs.Laid.{laid_of, as_many}
 use Rattle.janus_store.proofs.Standing.{calls_are_held}
@@ -13,12 +13,16 @@ use Rattle.janus_store.specs.Places.{lengths_before, marks_of, AreCounted}
 use Rattle.janus_store.specs.Values.{Holdings}
 use Rattle.janus_store.proofs.Beside.{same_beside, held_longer}
 use Rattle.janus_store.proofs.Marks.{marks_both, marks_long, counted_call}
+use Rattle.janus_store.proofs.Laid.{row_long}
+use Rattle.janus_store.proofs.Oldest.{enough}
+use Rattle.janus_store.proofs.Slots.{same_slots, kept_over}
+use Rattle.janus_store.proofs.Told.{told_more}
 use Rattle.janus_store.proofs.store.Store.bind.Goals as goal
 
 pub bind_all-requires-clause-met : goal.bind_all-requires-clause-met
 bind_all-requires-clause-met g c =
     let a = c.self.inside in
-    let xs = a.names in
+    let xs = slots_of a in
     let ns = a.newest.items in
     let vs = a.variables.items in
     let cs = reverse a.calls.items in
@@ -33,7 +37,7 @@ bind_all-requires-clause-met g c =
 pub bind_all-requires-clause-placed : goal.bind_all-requires-clause-placed
 bind_all-requires-clause-placed g c =
     let a = c.self.inside in
-    let xs = a.names in
+    let xs = slots_of a in
     let ns = a.newest.items in
     let vs = a.variables.items in
     let cs = reverse a.calls.items in
@@ -48,7 +52,7 @@ bind_all-requires-clause-placed g c =
 pub bind_all-requires-clause-room : goal.bind_all-requires-clause-room
 bind_all-requires-clause-room g c =
     let a = c.self.inside in
-    let xs = a.names in
+    let xs = slots_of a in
     let ns = a.newest.items in
     let vs = a.variables.items in
     let cs = reverse a.calls.items in
@@ -59,7 +63,7 @@ bind_all-requires-clause-room g c =
 pub put_zeros-requires : goal.put_zeros-requires
 put_zeros-requires g c =
     let a = c.self.inside in
-    let xs = a.names in
+    let xs = slots_of a in
     let ns = a.newest.items in
     let vs = a.variables.items in
     let cs = reverse a.calls.items in
@@ -70,7 +74,7 @@ put_zeros-requires g c =
 pub bind_all-requires-clause-places_room : goal.bind_all-requires-clause-places_room
 bind_all-requires-clause-places_room g c =
     let a = c.self.inside in
-    let xs = a.names in
+    let xs = slots_of a in
     let ns = a.newest.items in
     let vs = a.variables.items in
     let cs = reverse a.calls.items in
@@ -81,7 +85,7 @@ bind_all-requires-clause-places_room g c =
 pub push_reserved-requires : goal.push_reserved-requires
 push_reserved-requires g c =
     let a = c.self.inside in
-    let xs = a.names in
+    let xs = slots_of a in
     let ns = a.newest.items in
     let vs = a.variables.items in
     let cs = reverse a.calls.items in
@@ -92,7 +96,7 @@ push_reserved-requires g c =
 pub invariant_of-self : goal.invariant_of-self
 invariant_of-self g c =
     let a = c.self.inside in
-    let xs = a.names in
+    let xs = slots_of a in
     let ns = a.newest.items in
     let vs = a.variables.items in
     let cs = reverse a.calls.items in
@@ -106,9 +110,9 @@ invariant_of-self g c =
     let zeros = c.put_zeros.ensures.more in
     let all = c.put_zeros.new.numbers.items in
     let fits : length vs ≤ length a.numbers.items = omega (arith, c.self.invariant.beside) in
-    let wide : Holdings = record { lists = a.stacks.lists; numbers = all } in
-    let wider : held_in (holdings a) xs d vs cs ≡ held_in wide xs d vs cs = same_beside a.stacks.lists a.numbers.items zeros.0 all zeros.1 xs d vs cs h.nested fits in
-    let k : IsHeld wide xs ns vs d cs = held_longer a.stacks.lists a.numbers.items zeros.0 all zeros.1 xs ns vs d cs fits h in
+    let wide : Holdings = record { lists = a.stacks.lists; numbers = all; texts = a.texts } in
+    let wider : held_in (holdings a) xs d vs cs ≡ held_in wide xs d vs cs = same_beside a.texts a.stacks.lists a.numbers.items zeros.0 all zeros.1 xs d vs cs h.nested fits in
+    let k : IsHeld wide xs ns vs d cs = held_longer a.texts a.stacks.lists a.numbers.items zeros.0 all zeros.1 xs ns vs d cs fits h in
     let view : held_in wide xs d vs cs ≡ H = sym wider ∙ c.self.view_is in
     let ms = c.bind_all.new.newest.items in
     let ws = c.bind_all.new.variables.items in
@@ -117,9 +121,10 @@ invariant_of-self g c =
     let end : call.end ≡ length ws = omega (arith, c.len-end.ensures, c.bind_all.new.variables.ok.0) in
     let calls : reverse c.push_reserved.new.self.items ≡ call ∷ cs = ap reverse c.push_reserved.ensures.items ∙ reverse-append a.calls.items (call ∷ []) in
     let row = c.bind_all.ensures.newest xs h.row in
+    let stay = same_slots (length ns) (length ms) (row_long xs ms ws row) in
     let more = c.bind_all.ensures.behind in
     let marks : marks_of ws ≡ marks_of vs ++ marks_of more.0 = ap marks_of more.1 ∙ marks_both vs more.0 in
-    record {
+    kept_over xs _ stay (record {
       held = subst (λ cs. IsHeld wide xs ms ws d cs) (sym calls)
           (entered_held wide xs ns vs d cs k H view js ks params.0 args.0 params.1 args.1 c.requires.count args.2.0 args.2.1 ms ws row (c.bind_all.ensures.bound xs) c.bind_all.ensures.behind call start end c.requires.room);
       stacks = omega (
@@ -146,12 +151,13 @@ invariant_of-self g c =
       counted = subst (AreCounted (marks_of ws)) (sym calls) (subst (λ l. AreCounted l (call ∷ cs)) (sym marks) (counted_call a.places (marks_of vs) (marks_of more.0) call cs c.self.invariant.sorted (omega (arith, start, marks_long vs)) c.lengths-lengths.ensures c.self.invariant.counted));
       places_room = omega (arith, c.self.invariant.places_room, c.bind_all.ensures.places_room);
       in_front = sym (ap lengths_before calls);
-    }
+      told = told_more a.texts d vs ws more.0 (enough (holdings a) xs ns d vs cs h c.self.invariant.told) more.1 c.self.invariant.told;
+    })
 
 pub returns : goal.returns
 returns g c = λ ps zs p e.
     let a = c.self.inside in
-    let xs = a.names in
+    let xs = slots_of a in
     let ns = a.newest.items in
     let vs = a.variables.items in
     let cs = reverse a.calls.items in
@@ -165,9 +171,9 @@ returns g c = λ ps zs p e.
     let zeros = c.put_zeros.ensures.more in
     let all = c.put_zeros.new.numbers.items in
     let fits : length vs ≤ length a.numbers.items = omega (arith, c.self.invariant.beside) in
-    let wide : Holdings = record { lists = a.stacks.lists; numbers = all } in
-    let wider : held_in (holdings a) xs d vs cs ≡ held_in wide xs d vs cs = same_beside a.stacks.lists a.numbers.items zeros.0 all zeros.1 xs d vs cs h.nested fits in
-    let k : IsHeld wide xs ns vs d cs = held_longer a.stacks.lists a.numbers.items zeros.0 all zeros.1 xs ns vs d cs fits h in
+    let wide : Holdings = record { lists = a.stacks.lists; numbers = all; texts = a.texts } in
+    let wider : held_in (holdings a) xs d vs cs ≡ held_in wide xs d vs cs = same_beside a.texts a.stacks.lists a.numbers.items zeros.0 all zeros.1 xs d vs cs h.nested fits in
+    let k : IsHeld wide xs ns vs d cs = held_longer a.texts a.stacks.lists a.numbers.items zeros.0 all zeros.1 xs ns vs d cs fits h in
     let view : held_in wide xs d vs cs ≡ H = sym wider ∙ c.self.view_is in
     let ms = c.bind_all.new.newest.items in
     let ws = c.bind_all.new.variables.items in
@@ -176,7 +182,9 @@ returns g c = λ ps zs p e.
     let end : call.end ≡ length ws = omega (arith, c.len-end.ensures, c.bind_all.new.variables.ok.0) in
     let calls : reverse c.push_reserved.new.self.items ≡ call ∷ cs = ap reverse c.push_reserved.ensures.items ∙ reverse-append a.calls.items (call ∷ []) in
     let row = c.bind_all.ensures.newest xs h.row in
+    let stay = same_slots (length ns) (length ms) (row_long xs ms ws row) in
     let same = named_one H.names ks args.0 zs args.1 e in
     let lends : CanLend zs H.sight = subst (λ zs. CanLend zs H.sight) same args.2 in
-    subst (λ cs. IsEntered ps zs H (held_in wide xs d ws cs)) (sym calls)
-    (entered_is wide xs ns vs d cs k H view js ks ps zs p e c.requires.count lends.0 lends.1 ms ws row (c.bind_all.ensures.bound xs) c.bind_all.ensures.behind call start end)
+    subst (λ l. IsEntered ps zs H (held_in wide l d ws (reverse c.push_reserved.new.self.items))) (sym stay)
+    (subst (λ cs. IsEntered ps zs H (held_in wide xs d ws cs)) (sym calls)
+    (entered_is wide xs ns vs d cs k H view js ks ps zs p e c.requires.count lends.0 lends.1 ms ws row (c.bind_all.ensures.bound xs) c.bind_all.ensures.behind call start end))

@@ -5,7 +5,7 @@ use Rattle.janus_meaning.specs.Store.{element, Arr}
 use Rattle.janus_store.specs.Places.{lengths_before}
 use Rattle.janus_store.specs.declared.places.Kind.TheVariants as kinds
 use Rattle.janus_store.specs.declared.places.Lengths.{Lengths}
-use Rattle.janus_store.specs.Inside.{holdings}
+use Rattle.janus_store.specs.Inside.{holdings, slots_of}
 use Rattle.janus_store.proofs.Nth.{nth_there, nth_found}
 use Rattle.janus_store.proofs.Standing.{place_fits, value_is}
 use Rattle.janus_store.proofs.store.Store.element_at.Goals as goal
@@ -13,7 +13,7 @@ use Rattle.janus_store.proofs.store.Store.element_at.Goals as goal
 pub nth-place-requires : goal.nth-place-requires
 nth-place-requires g c =
     let a = c.self.inside in
-    let xs = a.names in
+    let xs = slots_of a in
     let ns = a.newest.items in
     let vs = a.variables.items in
     let cs = reverse a.calls.items in
@@ -26,7 +26,7 @@ nth-place-requires g c =
 pub index-requires : goal.index-requires
 index-requires g c =
     let a = c.self.inside in
-    let xs = a.names in
+    let xs = slots_of a in
     let ns = a.newest.items in
     let vs = a.variables.items in
     let cs = reverse a.calls.items in
@@ -41,7 +41,7 @@ index-requires g c =
 pub returns : goal.returns
 returns g c = λ x l nth k.
     let a = c.self.inside in
-    let xs = a.names in
+    let xs = slots_of a in
     let ns = a.newest.items in
     let vs = a.variables.items in
     let cs = reverse a.calls.items in

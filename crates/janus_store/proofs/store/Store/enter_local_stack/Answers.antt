@@ -1,8 +1,8 @@
-use Rattle.std.proofs.Common.{List, length, length-append, refl, ap, ◌∙◌, sym, subst, arith, ◌≡◌, ◌≤◌, ℤ, [], ◌∷◌, ◌++◌}
+use Rattle.std.proofs.Common.{suc, List, length, length-append, refl, ap, ◌∙◌, sym, subst, arith, ◌≡◌, ◌≤◌, ℤ, [], ◌∷◌, ◌++◌}
 use Rattle.std.specs.Prelude.{slice_get, slice_index_or, reverse, pos}
 use Rattle.cell_pool.specs.Chains.{times}
 use Rattle.janus_names.specs.Numbers.{IsNumbered}
-use Rattle.janus_store.specs.Inside.{held_in, stacks_of, IsHeld, holdings}
+use Rattle.janus_store.specs.Inside.{held_in, stacks_of, IsHeld, holdings, slots_of}
 use Rattle.janus_store.specs.StoreState.{StoreState, live_stacks, opened, values_held}
 use Rattle.janus_store.specs.Values.{val_at, val_in, number_in, Holdings}
 use Rattle.janus_store.specs.declared.store.Variable.{Variable}
@@ -17,12 +17,15 @@ use Rattle.janus_store.proofs.Sight.{start_low, counted_over}
 use Rattle.janus_meaning.specs.Store.{held_by}
 use Rattle.janus_store.specs.Stacks.{total}
 use Rattle.janus_store.proofs.Beside.{same_beside, held_longer, last_number}
+use Rattle.janus_store.proofs.Oldest.{enough}
+use Rattle.janus_store.proofs.Slots.{slots_kept, kept_over}
+use Rattle.janus_store.proofs.Told.{told_more}
 use Rattle.janus_store.proofs.store.Store.enter_local_stack.Goals as goal
 
 pub put_own-requires-clause-met : goal.put_own-requires-clause-met
 put_own-requires-clause-met g c =
     let a = c.self.inside in
-    let xs = a.names in
+    let xs = slots_of a in
     let ns = a.newest.items in
     let vs = a.variables.items in
     let cs = reverse a.calls.items in
@@ -35,7 +38,7 @@ put_own-requires-clause-met g c =
 pub put_own-requires-clause-room : goal.put_own-requires-clause-room
 put_own-requires-clause-room g c =
     let a = c.self.inside in
-    let xs = a.names in
+    let xs = slots_of a in
     let ns = a.newest.items in
     let vs = a.variables.items in
     let cs = reverse a.calls.items in
@@ -46,7 +49,7 @@ put_own-requires-clause-room g c =
 pub put_own-requires-clause-places_room : goal.put_own-requires-clause-places_room
 put_own-requires-clause-places_room g c =
     let a = c.self.inside in
-    let xs = a.names in
+    let xs = slots_of a in
     let ns = a.newest.items in
     let vs = a.variables.items in
     let cs = reverse a.calls.items in
@@ -57,7 +60,7 @@ put_own-requires-clause-places_room g c =
 pub push_reserved-requires : goal.push_reserved-requires
 push_reserved-requires g c =
     let a = c.self.inside in
-    let xs = a.names in
+    let xs = slots_of a in
     let ns = a.newest.items in
     let vs = a.variables.items in
     let cs = reverse a.calls.items in
@@ -68,7 +71,7 @@ push_reserved-requires g c =
 pub invariant_of-self : goal.invariant_of-self
 invariant_of-self g c =
     let a = c.self.inside in
-    let xs = a.names in
+    let xs = slots_of a in
     let ns = a.newest.items in
     let vs = a.variables.items in
     let cs = reverse a.calls.items in
@@ -80,20 +83,21 @@ invariant_of-self g c =
     let all = c.push_reserved.new.self.items in
     let is : all ≡ a.numbers.items ++ more = c.push_reserved.ensures.items in
     let fits : length vs ≤ length a.numbers.items = omega (arith, c.self.invariant.beside) in
-    let on : List (List ℤ) → Holdings = λ ls. record { lists = ls; numbers = all } in
+    let on : List (List ℤ) → Holdings = λ ls. record { lists = ls; numbers = all; texts = a.texts } in
     let wide = on a.stacks.lists in
-    let wider : held_in (holdings a) xs a.declared vs cs ≡ held_in wide xs a.declared vs cs = same_beside a.stacks.lists a.numbers.items more all is xs a.declared vs cs h.nested fits in
-    let k : IsHeld wide xs ns vs a.declared cs = held_longer a.stacks.lists a.numbers.items more all is xs ns vs a.declared cs fits h in
+    let wider : held_in (holdings a) xs a.declared vs cs ≡ held_in wide xs a.declared vs cs = same_beside a.texts a.stacks.lists a.numbers.items more all is xs a.declared vs cs h.nested fits in
+    let k : IsHeld wide xs ns vs a.declared cs = held_longer a.texts a.stacks.lists a.numbers.items more all is xs ns vs a.declared cs fits h in
     let view : held_in wide xs a.declared vs cs ≡ H = sym wider ∙ c.self.view_is in
     let last : slice_index_or all (length vs) (pos 0) ≡ pos 0 = last_number a.numbers.items all (pos 0) (length vs) is c.self.invariant.beside in
     let y : Variable = record { name = c.args.name; hidden = slice_index_or ns c.args.name 0; place = length vs; value = c.first_value-value.result } in
     let at = read_at ns c.args.name (omega (arith, within_names xs c.args.name x named, as_many xs ns vs (laid_of (holdings a) xs ns vs a.declared cs h))) in
     let ms = c.put_own.new.newest.items in
     let ws = c.put_own.new.variables.items in
+    let same = slots_kept ns ms c.args.name (suc (length vs)) c.put_own.ensures.newest in
     let left = c.first_value-value.new.stacks.spare in
     let lists = c.first_value-value.ensures.lists in
     let spare = c.first_value-value.ensures.spare in
-    record {
+    kept_over xs _ same (record {
       held = subst (λ ls. IsHeld (on ls) xs ms ws a.declared cs) (sym lists)
           (put_held wide xs ns vs a.declared cs k y refl at ms ws c.put_own.ensures.newest c.put_own.ensures.variables H view c.requires.room);
       stacks = omega (
@@ -127,12 +131,13 @@ invariant_of-self g c =
       counted = counted_over vs ws y cs (start_low (holdings a) xs ns vs a.declared cs h) c.put_own.ensures.variables c.self.invariant.counted;
       places_room = omega (arith, c.self.invariant.places_room, c.put_own.ensures.places_room);
       in_front = c.self.invariant.in_front;
-    }
+      told = told_more a.texts a.declared vs ws (y ∷ []) (enough (holdings a) xs ns a.declared vs cs h c.self.invariant.told) c.put_own.ensures.variables c.self.invariant.told;
+    })
 
 pub returns : goal.returns
 returns g c = λ x known.
     let a = c.self.inside in
-    let xs = a.names in
+    let xs = slots_of a in
     let ns = a.newest.items in
     let vs = a.variables.items in
     let cs = reverse a.calls.items in
@@ -143,18 +148,20 @@ returns g c = λ x known.
     let all = c.push_reserved.new.self.items in
     let is : all ≡ a.numbers.items ++ more = c.push_reserved.ensures.items in
     let fits : length vs ≤ length a.numbers.items = omega (arith, c.self.invariant.beside) in
-    let on : List (List ℤ) → Holdings = λ ls. record { lists = ls; numbers = all } in
+    let on : List (List ℤ) → Holdings = λ ls. record { lists = ls; numbers = all; texts = a.texts } in
     let wide = on a.stacks.lists in
-    let wider : held_in (holdings a) xs a.declared vs cs ≡ held_in wide xs a.declared vs cs = same_beside a.stacks.lists a.numbers.items more all is xs a.declared vs cs h.nested fits in
-    let k : IsHeld wide xs ns vs a.declared cs = held_longer a.stacks.lists a.numbers.items more all is xs ns vs a.declared cs fits h in
+    let wider : held_in (holdings a) xs a.declared vs cs ≡ held_in wide xs a.declared vs cs = same_beside a.texts a.stacks.lists a.numbers.items more all is xs a.declared vs cs h.nested fits in
+    let k : IsHeld wide xs ns vs a.declared cs = held_longer a.texts a.stacks.lists a.numbers.items more all is xs ns vs a.declared cs fits h in
     let view : held_in wide xs a.declared vs cs ≡ H = sym wider ∙ c.self.view_is in
     let last : slice_index_or all (length vs) (pos 0) ≡ pos 0 = last_number a.numbers.items all (pos 0) (length vs) is c.self.invariant.beside in
     let y : Variable = record { name = c.args.name; hidden = slice_index_or ns c.args.name 0; place = length vs; value = c.first_value-value.result } in
     let at = read_at ns c.args.name (omega (arith, within_names xs c.args.name x named, as_many xs ns vs (laid_of (holdings a) xs ns vs a.declared cs h))) in
     let ms = c.put_own.new.newest.items in
     let ws = c.put_own.new.variables.items in
+    let same = slots_kept ns ms c.args.name (suc (length vs)) c.put_own.ensures.newest in
     let lists = c.first_value-value.ensures.lists in
-    ap (λ ls. held_in (on ls) xs a.declared ws cs) lists
+    ap (λ l. held_in (on c.first_value-value.new.stacks.lists) l a.declared ws cs) same
+    ∙ ap (λ ls. held_in (on ls) xs a.declared ws cs) lists
     ∙ put_over wide xs ns vs a.declared cs k y refl at ms ws c.put_own.ensures.newest c.put_own.ensures.variables H view
     ∙ ap (λ x. opened x (val_at wide (length vs) y.value) H) (name_of_number xs c.args.name x y named refl)
     ∙ ap (λ ls. opened x (val_in ls (slice_index_or all (length vs) (pos 0)) y.value) H) (sym lists)

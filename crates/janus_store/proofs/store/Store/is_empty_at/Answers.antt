@@ -4,7 +4,7 @@ use Rattle.std.proofs.lemmas.Option.{slice_get_read}
 use Rattle.std.proofs.Math.Dec.{eqb-suc-zero}
 use Rattle.janus_meaning.specs.Fault.{Fine}
 use Rattle.janus_meaning.specs.Value.{is_none}
-use Rattle.janus_store.specs.Inside.{IsStackOf, holdings}
+use Rattle.janus_store.specs.Inside.{IsStackOf, holdings, slots_of}
 use Rattle.janus_store.specs.Places.{lengths_before}
 use Rattle.janus_store.specs.declared.places.Kind.TheVariants as kinds
 use Rattle.janus_store.specs.declared.places.Lengths.{Lengths}
@@ -20,7 +20,7 @@ none_is (x ∷ l) = eqb-suc-zero (length l)
 pub nth-place-requires : goal.nth-place-requires
 nth-place-requires g c =
     let a = c.self.inside in
-    let xs = a.names in
+    let xs = slots_of a in
     let ns = a.newest.items in
     let vs = a.variables.items in
     let cs = reverse a.calls.items in
@@ -33,7 +33,7 @@ nth-place-requires g c =
 pub index-requires : goal.index-requires
 index-requires g c =
     let a = c.self.inside in
-    let xs = a.names in
+    let xs = slots_of a in
     let ns = a.newest.items in
     let vs = a.variables.items in
     let cs = reverse a.calls.items in
@@ -48,7 +48,7 @@ index-requires g c =
 pub stack-requires : goal.stack-requires
 stack-requires g c =
     let a = c.self.inside in
-    let xs = a.names in
+    let xs = slots_of a in
     let ns = a.newest.items in
     let vs = a.variables.items in
     let cs = reverse a.calls.items in
@@ -66,7 +66,7 @@ stack-requires g c =
 pub length-requires : goal.length-requires
 length-requires g c =
     let a = c.self.inside in
-    let xs = a.names in
+    let xs = slots_of a in
     let ns = a.newest.items in
     let vs = a.variables.items in
     let cs = reverse a.calls.items in
@@ -87,7 +87,7 @@ length-requires g c =
 pub returns : goal.returns
 returns g c = λ x l nth f.
     let a = c.self.inside in
-    let xs = a.names in
+    let xs = slots_of a in
     let ns = a.newest.items in
     let vs = a.variables.items in
     let cs = reverse a.calls.items in

@@ -1,13 +1,13 @@
 use Rattle.std.proofs.Common.{length, ap, ◌∙◌, sym, arith}
 use Rattle.std.specs.Prelude.{reverse}
-use Rattle.janus_store.specs.Inside.{holdings}
+use Rattle.janus_store.specs.Inside.{holdings, slots_of}
 use Rattle.janus_store.proofs.NameStack.{lent_stack, has_stack, list_is, stack_low}
 use Rattle.janus_store.proofs.store.Store.length.Goals as goal
 
 pub stack-requires : goal.stack-requires
 stack-requires g c =
     let a = c.self.inside in
-    let xs = a.names in
+    let xs = slots_of a in
     let ns = a.newest.items in
     let vs = a.variables.items in
     let cs = reverse a.calls.items in
@@ -19,7 +19,7 @@ stack-requires g c =
 pub length-requires : goal.length-requires
 length-requires g c =
     let a = c.self.inside in
-    let xs = a.names in
+    let xs = slots_of a in
     let ns = a.newest.items in
     let vs = a.variables.items in
     let cs = reverse a.calls.items in
@@ -32,7 +32,7 @@ length-requires g c =
 pub returns : goal.returns
 returns g c = λ x l named f.
     let a = c.self.inside in
-    let xs = a.names in
+    let xs = slots_of a in
     let ns = a.newest.items in
     let vs = a.variables.items in
     let cs = reverse a.calls.items in

@@ -6,7 +6,7 @@ use Rattle.janus_meaning.specs.Store.{Num}
 use Rattle.janus_store.specs.Places.{lengths_before}
 use Rattle.janus_store.specs.declared.places.Kind.TheVariants as kinds
 use Rattle.janus_store.specs.declared.places.Lengths.{Lengths}
-use Rattle.janus_store.specs.Inside.{holdings}
+use Rattle.janus_store.specs.Inside.{holdings, slots_of}
 use Rattle.janus_store.proofs.Beside.{number_is}
 use Rattle.janus_store.proofs.Nth.{nth_there, nth_found, number_value}
 use Rattle.janus_store.proofs.Standing.{place_fits}
@@ -15,7 +15,7 @@ use Rattle.janus_store.proofs.store.Store.number_at.Goals as goal
 pub nth-place-requires : goal.nth-place-requires
 nth-place-requires g c =
     let a = c.self.inside in
-    let xs = a.names in
+    let xs = slots_of a in
     let ns = a.newest.items in
     let vs = a.variables.items in
     let cs = reverse a.calls.items in
@@ -28,7 +28,7 @@ nth-place-requires g c =
 pub beside-requires : goal.beside-requires
 beside-requires g c =
     let a = c.self.inside in
-    let xs = a.names in
+    let xs = slots_of a in
     let ns = a.newest.items in
     let vs = a.variables.items in
     let cs = reverse a.calls.items in
@@ -43,7 +43,7 @@ beside-requires g c =
 pub returns : goal.returns
 returns g c = λ x nth.
     let a = c.self.inside in
-    let xs = a.names in
+    let xs = slots_of a in
     let ns = a.newest.items in
     let vs = a.variables.items in
     let cs = reverse a.calls.items in

@@ -4,7 +4,7 @@ use Rattle.std.proofs.lemmas.Int.{to_z-of_z}
 use Rattle.cell_pool.specs.Chains.{times}
 use Rattle.janus_meaning.specs.Store.{Stk}
 use Rattle.janus_store.specs.StoreState.{live_stacks, values_held}
-use Rattle.janus_store.specs.Inside.{stacks_of, holdings}
+use Rattle.janus_store.specs.Inside.{stacks_of, holdings, slots_of}
 use Rattle.janus_store.specs.Stacks.{Pooled, list_of}
 use Rattle.janus_store.specs.Stores.{write}
 use Rattle.janus_store.proofs.NameStack.{lent_stack, has_stack, list_is, stack_low, stack_there, stack_written, stack_held, stack_like, stack_live, stack_values}
@@ -13,7 +13,7 @@ use Rattle.janus_store.proofs.store.Store.pop.Goals as goal
 pub stack-stack-requires : goal.stack-stack-requires
 stack-stack-requires g c =
     let a = c.self.inside in
-    let xs = a.names in
+    let xs = slots_of a in
     let ns = a.newest.items in
     let vs = a.variables.items in
     let cs = reverse a.calls.items in
@@ -25,7 +25,7 @@ stack-stack-requires g c =
 pub pop-requires-clause-known : goal.pop-requires-clause-known
 pop-requires-clause-known g c =
     let a = c.self.inside in
-    let xs = a.names in
+    let xs = slots_of a in
     let ns = a.newest.items in
     let vs = a.variables.items in
     let cs = reverse a.calls.items in
@@ -38,7 +38,7 @@ pop-requires-clause-known g c =
 pub pop-requires-clause-some : goal.pop-requires-clause-some
 pop-requires-clause-some g c =
     let a = c.self.inside in
-    let xs = a.names in
+    let xs = slots_of a in
     let ns = a.newest.items in
     let vs = a.variables.items in
     let cs = reverse a.calls.items in
@@ -51,7 +51,7 @@ pop-requires-clause-some g c =
 pub pop-requires-clause-named : goal.pop-requires-clause-named
 pop-requires-clause-named g c =
     let a = c.self.inside in
-    let xs = a.names in
+    let xs = slots_of a in
     let ns = a.newest.items in
     let vs = a.variables.items in
     let cs = reverse a.calls.items in
@@ -66,7 +66,7 @@ pop-requires-clause-named g c =
 pub invariant_of-self : goal.invariant_of-self
 invariant_of-self g c =
     let a = c.self.inside in
-    let xs = a.names in
+    let xs = slots_of a in
     let ns = a.newest.items in
     let vs = a.variables.items in
     let cs = reverse a.calls.items in
@@ -93,12 +93,13 @@ invariant_of-self g c =
       counted = c.self.invariant.counted;
       places_room = c.self.invariant.places_room;
       in_front = c.self.invariant.in_front;
+      told = c.self.invariant.told;
     }
 
 pub returns-clause-top : goal.returns-clause-top
 returns-clause-top g c = λ x n l named f.
     let a = c.self.inside in
-    let xs = a.names in
+    let xs = slots_of a in
     let ns = a.newest.items in
     let vs = a.variables.items in
     let cs = reverse a.calls.items in
@@ -114,7 +115,7 @@ returns-clause-top g c = λ x n l named f.
 pub returns-clause-written : goal.returns-clause-written
 returns-clause-written g c = λ x n l named f.
     let a = c.self.inside in
-    let xs = a.names in
+    let xs = slots_of a in
     let ns = a.newest.items in
     let vs = a.variables.items in
     let cs = reverse a.calls.items in
@@ -134,7 +135,7 @@ returns-clause-written g c = λ x n l named f.
 pub returns-clause-shape : goal.returns-clause-shape
 returns-clause-shape g c =
     let a = c.self.inside in
-    let xs = a.names in
+    let xs = slots_of a in
     let ns = a.newest.items in
     let vs = a.variables.items in
     let cs = reverse a.calls.items in

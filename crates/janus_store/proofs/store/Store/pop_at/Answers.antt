@@ -4,7 +4,7 @@ use Rattle.std.proofs.lemmas.Int.{to_z-of_z}
 use Rattle.std.proofs.lemmas.Option.{slice_get_read}
 use Rattle.cell_pool.specs.Chains.{times}
 use Rattle.janus_meaning.specs.Store.{Stk}
-use Rattle.janus_store.specs.Inside.{stacks_of, IsStackOf, holdings}
+use Rattle.janus_store.specs.Inside.{stacks_of, IsStackOf, holdings, slots_of}
 use Rattle.janus_store.specs.Places.{lengths_before}
 use Rattle.janus_store.specs.StoreState.{live_stacks, values_held}
 use Rattle.janus_store.specs.Stacks.{Pooled, list_of}
@@ -19,7 +19,7 @@ use Rattle.janus_store.proofs.store.Store.pop_at.Goals as goal
 pub nth-place-requires : goal.nth-place-requires
 nth-place-requires g c =
     let a = c.self.inside in
-    let xs = a.names in
+    let xs = slots_of a in
     let ns = a.newest.items in
     let vs = a.variables.items in
     let cs = reverse a.calls.items in
@@ -32,7 +32,7 @@ nth-place-requires g c =
 pub index-requires : goal.index-requires
 index-requires g c =
     let a = c.self.inside in
-    let xs = a.names in
+    let xs = slots_of a in
     let ns = a.newest.items in
     let vs = a.variables.items in
     let cs = reverse a.calls.items in
@@ -47,7 +47,7 @@ index-requires g c =
 pub stack-stack-requires : goal.stack-stack-requires
 stack-stack-requires g c =
     let a = c.self.inside in
-    let xs = a.names in
+    let xs = slots_of a in
     let ns = a.newest.items in
     let vs = a.variables.items in
     let cs = reverse a.calls.items in
@@ -65,7 +65,7 @@ stack-stack-requires g c =
 pub pop-requires-clause-known : goal.pop-requires-clause-known
 pop-requires-clause-known g c =
     let a = c.self.inside in
-    let xs = a.names in
+    let xs = slots_of a in
     let ns = a.newest.items in
     let vs = a.variables.items in
     let cs = reverse a.calls.items in
@@ -84,7 +84,7 @@ pop-requires-clause-known g c =
 pub pop-requires-clause-some : goal.pop-requires-clause-some
 pop-requires-clause-some g c =
     let a = c.self.inside in
-    let xs = a.names in
+    let xs = slots_of a in
     let ns = a.newest.items in
     let vs = a.variables.items in
     let cs = reverse a.calls.items in
@@ -103,7 +103,7 @@ pop-requires-clause-some g c =
 pub pop-requires-clause-named : goal.pop-requires-clause-named
 pop-requires-clause-named g c =
     let a = c.self.inside in
-    let xs = a.names in
+    let xs = slots_of a in
     let ns = a.newest.items in
     let vs = a.variables.items in
     let cs = reverse a.calls.items in
@@ -124,7 +124,7 @@ pop-requires-clause-named g c =
 pub invariant_of-self : goal.invariant_of-self
 invariant_of-self g c =
     let a = c.self.inside in
-    let xs = a.names in
+    let xs = slots_of a in
     let ns = a.newest.items in
     let vs = a.variables.items in
     let cs = reverse a.calls.items in
@@ -157,12 +157,13 @@ invariant_of-self g c =
       counted = c.self.invariant.counted;
       places_room = c.self.invariant.places_room;
       in_front = c.self.invariant.in_front;
+      told = c.self.invariant.told;
     }
 
 pub returns-clause-top : goal.returns-clause-top
 returns-clause-top g c = λ x n l nth f.
     let a = c.self.inside in
-    let xs = a.names in
+    let xs = slots_of a in
     let ns = a.newest.items in
     let vs = a.variables.items in
     let cs = reverse a.calls.items in
@@ -184,7 +185,7 @@ returns-clause-top g c = λ x n l nth f.
 pub returns-clause-written : goal.returns-clause-written
 returns-clause-written g c = λ x n l nth f.
     let a = c.self.inside in
-    let xs = a.names in
+    let xs = slots_of a in
     let ns = a.newest.items in
     let vs = a.variables.items in
     let cs = reverse a.calls.items in
@@ -210,7 +211,7 @@ returns-clause-written g c = λ x n l nth f.
 pub returns-clause-shape : goal.returns-clause-shape
 returns-clause-shape g c =
     let a = c.self.inside in
-    let xs = a.names in
+    let xs = slots_of a in
     let ns = a.newest.items in
     let vs = a.variables.items in
     let cs = reverse a.calls.items in

@@ -4,7 +4,7 @@ use Rattle.std.proofs.lemmas.Int.{to_z-of_z}
 use Rattle.cell_pool.specs.Chains.{times}
 use Rattle.janus_meaning.specs.Store.{Stk}
 use Rattle.janus_store.specs.StoreState.{live_stacks, values_held}
-use Rattle.janus_store.specs.Inside.{stacks_of, holdings}
+use Rattle.janus_store.specs.Inside.{stacks_of, holdings, slots_of}
 use Rattle.janus_store.specs.Stacks.{Pooled}
 use Rattle.janus_store.specs.Stores.{write}
 use Rattle.janus_store.proofs.NameStack.{lent_stack, has_stack, list_is, stack_low, stack_there, stack_written, stack_held, stack_like, stack_live, stack_values}
@@ -13,7 +13,7 @@ use Rattle.janus_store.proofs.store.Store.push.Goals as goal
 pub stack-stack-requires : goal.stack-stack-requires
 stack-stack-requires g c =
     let a = c.self.inside in
-    let xs = a.names in
+    let xs = slots_of a in
     let ns = a.newest.items in
     let vs = a.variables.items in
     let cs = reverse a.calls.items in
@@ -25,7 +25,7 @@ stack-stack-requires g c =
 pub push-requires-clause-known : goal.push-requires-clause-known
 push-requires-clause-known g c =
     let a = c.self.inside in
-    let xs = a.names in
+    let xs = slots_of a in
     let ns = a.newest.items in
     let vs = a.variables.items in
     let cs = reverse a.calls.items in
@@ -41,7 +41,7 @@ push-requires-clause-room g c = omega (arith, c.requires.room, c.self.invariant.
 pub push-requires-clause-named : goal.push-requires-clause-named
 push-requires-clause-named g c =
     let a = c.self.inside in
-    let xs = a.names in
+    let xs = slots_of a in
     let ns = a.newest.items in
     let vs = a.variables.items in
     let cs = reverse a.calls.items in
@@ -56,7 +56,7 @@ push-requires-clause-named g c =
 pub invariant_of-self : goal.invariant_of-self
 invariant_of-self g c =
     let a = c.self.inside in
-    let xs = a.names in
+    let xs = slots_of a in
     let ns = a.newest.items in
     let vs = a.variables.items in
     let cs = reverse a.calls.items in
@@ -83,12 +83,13 @@ invariant_of-self g c =
       counted = c.self.invariant.counted;
       places_room = c.self.invariant.places_room;
       in_front = c.self.invariant.in_front;
+      told = c.self.invariant.told;
     }
 
 pub returns-clause-written : goal.returns-clause-written
 returns-clause-written g c = λ x l named f.
     let a = c.self.inside in
-    let xs = a.names in
+    let xs = slots_of a in
     let ns = a.newest.items in
     let vs = a.variables.items in
     let cs = reverse a.calls.items in
@@ -109,7 +110,7 @@ returns-clause-written g c = λ x l named f.
 pub returns-clause-shape : goal.returns-clause-shape
 returns-clause-shape g c =
     let a = c.self.inside in
-    let xs = a.names in
+    let xs = slots_of a in
     let ns = a.newest.items in
     let vs = a.variables.items in
     let cs = reverse a.calls.items in

@@ -4,7 +4,7 @@ use Rattle.std.proofs.lemmas.Int.{to_z-of_z}
 use Rattle.std.proofs.lemmas.Option.{slice_get_read}
 use Rattle.cell_pool.specs.Chains.{times}
 use Rattle.janus_meaning.specs.Store.{Stk}
-use Rattle.janus_store.specs.Inside.{stacks_of, IsStackOf, holdings}
+use Rattle.janus_store.specs.Inside.{stacks_of, IsStackOf, holdings, slots_of}
 use Rattle.janus_store.specs.Places.{lengths_before}
 use Rattle.janus_store.specs.StoreState.{live_stacks, values_held}
 use Rattle.janus_store.specs.Stacks.{Pooled}
@@ -19,7 +19,7 @@ use Rattle.janus_store.proofs.store.Store.push_at.Goals as goal
 pub nth-place-requires : goal.nth-place-requires
 nth-place-requires g c =
     let a = c.self.inside in
-    let xs = a.names in
+    let xs = slots_of a in
     let ns = a.newest.items in
     let vs = a.variables.items in
     let cs = reverse a.calls.items in
@@ -32,7 +32,7 @@ nth-place-requires g c =
 pub index-requires : goal.index-requires
 index-requires g c =
     let a = c.self.inside in
-    let xs = a.names in
+    let xs = slots_of a in
     let ns = a.newest.items in
     let vs = a.variables.items in
     let cs = reverse a.calls.items in
@@ -47,7 +47,7 @@ index-requires g c =
 pub stack-stack-requires : goal.stack-stack-requires
 stack-stack-requires g c =
     let a = c.self.inside in
-    let xs = a.names in
+    let xs = slots_of a in
     let ns = a.newest.items in
     let vs = a.variables.items in
     let cs = reverse a.calls.items in
@@ -65,7 +65,7 @@ stack-stack-requires g c =
 pub push-requires-clause-known : goal.push-requires-clause-known
 push-requires-clause-known g c =
     let a = c.self.inside in
-    let xs = a.names in
+    let xs = slots_of a in
     let ns = a.newest.items in
     let vs = a.variables.items in
     let cs = reverse a.calls.items in
@@ -87,7 +87,7 @@ push-requires-clause-room g c = omega (arith, c.requires.room, c.self.invariant.
 pub push-requires-clause-named : goal.push-requires-clause-named
 push-requires-clause-named g c =
     let a = c.self.inside in
-    let xs = a.names in
+    let xs = slots_of a in
     let ns = a.newest.items in
     let vs = a.variables.items in
     let cs = reverse a.calls.items in
@@ -108,7 +108,7 @@ push-requires-clause-named g c =
 pub invariant_of-self : goal.invariant_of-self
 invariant_of-self g c =
     let a = c.self.inside in
-    let xs = a.names in
+    let xs = slots_of a in
     let ns = a.newest.items in
     let vs = a.variables.items in
     let cs = reverse a.calls.items in
@@ -141,12 +141,13 @@ invariant_of-self g c =
       counted = c.self.invariant.counted;
       places_room = c.self.invariant.places_room;
       in_front = c.self.invariant.in_front;
+      told = c.self.invariant.told;
     }
 
 pub returns-clause-written : goal.returns-clause-written
 returns-clause-written g c = λ x l nth f.
     let a = c.self.inside in
-    let xs = a.names in
+    let xs = slots_of a in
     let ns = a.newest.items in
     let vs = a.variables.items in
     let cs = reverse a.calls.items in
@@ -173,7 +174,7 @@ returns-clause-written g c = λ x l nth f.
 pub returns-clause-shape : goal.returns-clause-shape
 returns-clause-shape g c =
     let a = c.self.inside in
-    let xs = a.names in
+    let xs = slots_of a in
     let ns = a.newest.items in
     let vs = a.variables.items in
     let cs = reverse a.calls.items in

@@ -7,7 +7,7 @@ use Rattle.janus_store.specs.StoreState.{live_stacks, values_held}
 use Rattle.janus_store.specs.Stores.{write}
 use Rattle.janus_store.specs.declared.places.Kind.TheVariants as kinds
 use Rattle.janus_store.specs.declared.places.Lengths.{Lengths}
-use Rattle.janus_store.specs.Inside.{holdings}
+use Rattle.janus_store.specs.Inside.{holdings, slots_of}
 use Rattle.janus_meaning.specs.Fault.{Fine}
 use Rattle.std.proofs.lemmas.List.{length-set}
 use Rattle.janus_store.proofs.Beside.{number_is, number_written, number_held, number_like, number_live, number_values}
@@ -18,7 +18,7 @@ use Rattle.janus_store.proofs.store.Store.replace_number_at.Goals as goal
 pub nth-place-requires : goal.nth-place-requires
 nth-place-requires g c =
     let a = c.self.inside in
-    let xs = a.names in
+    let xs = slots_of a in
     let ns = a.newest.items in
     let vs = a.variables.items in
     let cs = reverse a.calls.items in
@@ -31,7 +31,7 @@ nth-place-requires g c =
 pub beside-former-requires : goal.beside-former-requires
 beside-former-requires g c =
     let a = c.self.inside in
-    let xs = a.names in
+    let xs = slots_of a in
     let ns = a.newest.items in
     let vs = a.variables.items in
     let cs = reverse a.calls.items in
@@ -46,7 +46,7 @@ beside-former-requires g c =
 pub index_mut-requires : goal.index_mut-requires
 index_mut-requires g c =
     let a = c.self.inside in
-    let xs = a.names in
+    let xs = slots_of a in
     let ns = a.newest.items in
     let vs = a.variables.items in
     let cs = reverse a.calls.items in
@@ -61,7 +61,7 @@ index_mut-requires g c =
 pub invariant_of-self : goal.invariant_of-self
 invariant_of-self g c =
     let a = c.self.inside in
-    let xs = a.names in
+    let xs = slots_of a in
     let ns = a.newest.items in
     let vs = a.variables.items in
     let cs = reverse a.calls.items in
@@ -90,12 +90,13 @@ invariant_of-self g c =
       counted = c.self.invariant.counted;
       places_room = c.self.invariant.places_room;
       in_front = c.self.invariant.in_front;
+      told = c.self.invariant.told;
     }
 
 pub returns-clause-shape : goal.returns-clause-shape
 returns-clause-shape g c =
     let a = c.self.inside in
-    let xs = a.names in
+    let xs = slots_of a in
     let ns = a.newest.items in
     let vs = a.variables.items in
     let cs = reverse a.calls.items in
@@ -115,7 +116,7 @@ returns-clause-shape g c =
 pub returns-clause-written : goal.returns-clause-written
 returns-clause-written g c = λ x nth.
     let a = c.self.inside in
-    let xs = a.names in
+    let xs = slots_of a in
     let ns = a.newest.items in
     let vs = a.variables.items in
     let cs = reverse a.calls.items in
@@ -136,7 +137,7 @@ returns-clause-written g c = λ x nth.
 pub returns-clause-former : goal.returns-clause-former
 returns-clause-former g c = λ x nth.
     let a = c.self.inside in
-    let xs = a.names in
+    let xs = slots_of a in
     let ns = a.newest.items in
     let vs = a.variables.items in
     let cs = reverse a.calls.items in

@@ -4,7 +4,7 @@ use Rattle.janus_meaning.specs.Store.{Slot, cleared_val, held_by}
 use Rattle.janus_meaning.specs.World.{size_of, stacks_in, stacks_with}
 use Rattle.janus_store.specs.StoreState.{StoreState, live_stacks, stacks_lent, values_held}
 use Rattle.cell_pool.specs.Chains.{times}
-use Rattle.janus_store.specs.Inside.{held_in, name_among, IsHeld, holdings}
+use Rattle.janus_store.specs.Inside.{held_in, name_among, IsHeld, holdings, slots_of}
 use Rattle.janus_store.specs.Stacks.{Pooled, total}
 use Rattle.janus_store.specs.Values.{val_at, number_in, Holdings}
 use Rattle.janus_store.proofs.NameStack.{with_number}
@@ -18,15 +18,17 @@ use Rattle.std.specs.Prelude.{slice_set}
 use Rattle.janus_store.proofs.Opening.{left_place, left_nested}
 use Rattle.janus_store.specs.Inside.{bounds}
 use Rattle.std.proofs.lemmas.List.{take-append-drop, length-take-le}
-use Rattle.janus_store.proofs.Beside.{same_beside, held_shorter}
+use Rattle.janus_store.proofs.Beside.{same_beside, held_shorter, other_texts}
 use Rattle.janus_store.proofs.Sight.{start_of, counted_under}
 use Rattle.janus_store.proofs.Counted.{none_cleared}
+use Rattle.janus_store.proofs.Slots.{slots_kept, kept_over}
+use Rattle.janus_store.proofs.Told.{told_retired}
 use Rattle.janus_store.proofs.store.Store.retire.Goals as goal
 
 pub remove_own-value-requires-clause-met : goal.remove_own-value-requires-clause-met
 remove_own-value-requires-clause-met g c = λ i v e.
     let a = c.self.inside in
-    let xs = a.names in
+    let xs = slots_of a in
     let ns = a.newest.items in
     let vs = a.variables.items in
     let cs = reverse a.calls.items in
@@ -38,7 +40,7 @@ remove_own-value-requires-clause-met g c = λ i v e.
 pub remove_own-value-requires-clause-own : goal.remove_own-value-requires-clause-own
 remove_own-value-requires-clause-own g c = λ ws y gone.
     let a = c.self.inside in
-    let xs = a.names in
+    let xs = slots_of a in
     let ns = a.newest.items in
     let vs = a.variables.items in
     let cs = reverse a.calls.items in
@@ -52,7 +54,7 @@ remove_own-value-requires-clause-own g c = λ ws y gone.
 pub remove_own-value-requires-clause-some : goal.remove_own-value-requires-clause-some
 remove_own-value-requires-clause-some g c =
     let a = c.self.inside in
-    let xs = a.names in
+    let xs = slots_of a in
     let ns = a.newest.items in
     let vs = a.variables.items in
     let cs = reverse a.calls.items in
@@ -63,7 +65,7 @@ remove_own-value-requires-clause-some g c =
 pub take_back-requires-clause-first : goal.take_back-requires-clause-first
 take_back-requires-clause-first g c =
     let a = c.self.inside in
-    let xs = a.names in
+    let xs = slots_of a in
     let ns = a.newest.items in
     let vs = a.variables.items in
     let cs = reverse a.calls.items in
@@ -88,7 +90,7 @@ take_back-requires-clause-first g c =
 pub take_back-requires-clause-room : goal.take_back-requires-clause-room
 take_back-requires-clause-room g c =
     let a = c.self.inside in
-    let xs = a.names in
+    let xs = slots_of a in
     let ns = a.newest.items in
     let vs = a.variables.items in
     let cs = reverse a.calls.items in
@@ -111,7 +113,7 @@ take_back-requires-clause-room g c =
 pub invariant_of-self : goal.invariant_of-self
 invariant_of-self g c =
     let a = c.self.inside in
-    let xs = a.names in
+    let xs = slots_of a in
     let ns = a.newest.items in
     let vs = a.variables.items in
     let cs = reverse a.calls.items in
@@ -122,6 +124,8 @@ invariant_of-self g c =
     let ws = c.remove_own-value.new.variables.items in
     let gone = c.remove_own-value.ensures.variables in
     let newest = c.remove_own-value.ensures.newest in
+    let stay = slots_kept ns ms y.name y.hidden newest in
+    let ts = c.truncate-2.new.self in
     let alone = no_calls (holdings a) xs ns vs a.declared cs h H c.self.view_is c.requires.whole in
     let above = base_alone xs ws cs alone in
     let over = start_alone xs ws cs alone in
@@ -135,9 +139,9 @@ invariant_of-self g c =
     let was_long : length vs ≡ suc (length ws) = omega (arith, ap length gone, length-append ws (y ∷ [])) in
     let few_long : length few ≡ length ws = omega (arith, ap length cut, length-take-le n a.numbers.items (omega (arith, is_long, was_long, c.self.invariant.beside)), is_long) in
     let fits : length ws ≤ length few = omega (arith, few_long) in
-    let on : List (List ℤ) → Holdings = λ ls. record { lists = ls; numbers = few } in
+    let on : List (List ℤ) → Holdings = λ ls. record { lists = ls; numbers = few; texts = a.texts } in
     let nested = left_nested (holdings a) xs ns vs a.declared cs h y ms ws gone newest above over in
-    let shorter : held_in (on a.stacks.lists) xs a.declared ws cs ≡ held_in (holdings a) xs a.declared ws cs = same_beside a.stacks.lists few more a.numbers.items tail xs a.declared ws cs nested fits in
+    let shorter : held_in (on a.stacks.lists) xs a.declared ws cs ≡ held_in (holdings a) xs a.declared ws cs = same_beside a.texts a.stacks.lists few more a.numbers.items tail xs a.declared ws cs nested fits in
     let left = held_in (holdings a) xs a.declared ws cs in
     let top : H.sight ≡ Slot (name_among xs y) (val_at (holdings a) (length ws) y.value) left.sight = ap (λ (h : StoreState). h.sight) was in
     let slots : live_stacks H ≡ stacks_with (val_at (holdings a) (length ws) y.value) (live_stacks left) = ap live_stacks was ∙ more_stacks (val_at (holdings a) (length ws) y.value) (stacks_in left.sight) (stacks_lent left.callers) in
@@ -149,9 +153,9 @@ invariant_of-self g c =
     let both : Slot (name_among xs y) (val_at (holdings a) (length ws) y.value) left.sight ≡ Slot e.0 e.1 e.2 = sym top ∙ e.3 in
     let same : val_at (holdings a) (length ws) y.value ≡ e.1 = cc in
     let none : held_by (val_at (holdings a) (length ws) y.value) ≡ 0 = none_cleared (val_at (holdings a) (length ws) y.value) (subst (λ v. cleared_val v ≡ v) (sym same) e.4) in
-    record {
-      held = subst (λ ls. IsHeld (on ls) xs ms ws (a.declared - 1) cs) (sym lists)
-          (held_shorter a.stacks.lists few more a.numbers.items tail xs ms ws (a.declared - 1) cs fits (left_held (holdings a) xs ns vs a.declared cs h y ms ws gone newest above over (a.declared - 1) (omega arith) (omega (arith, all, long, outermost_alone (length ws) cs alone)) (omega (arith, all, long))));
+    kept_over xs _ stay (record {
+      held = other_texts c.take_back.new.stacks.lists few a.texts ts xs ms ws (a.declared - 1) cs (subst (λ ls. IsHeld (on ls) xs ms ws (a.declared - 1) cs) (sym lists)
+          (held_shorter a.texts a.stacks.lists few more a.numbers.items tail xs ms ws (a.declared - 1) cs fits (left_held (holdings a) xs ns vs a.declared cs h y ms ws gone newest above over (a.declared - 1) (omega arith) (omega (arith, all, long, outermost_alone (length ws) cs alone)) (omega (arith, all, long)))));
       stacks = omega (arith, ap live_stacks shorter, ap (λ ls. live_stacks (held_in (on ls) xs a.declared ws cs)) lists, with_number a.stacks.lists (slice_index_or a.numbers.items (length ws) (pos 0)) y.value (live_stacks left), ap length spare, length-append a.stacks.spare (number_in y.value), slots, c.self.invariant.stacks, ap live_stacks c.self.view_is);
       values = omega (arith, ap values_held shorter, ap (λ ls. values_held (held_in (on ls) xs a.declared ws cs)) lists, ap total lists, c.self.invariant.values, ap values_held c.self.view_is, ap values_held was, none);
       apart = λ i. let z = times_left vs ws y gone i in let w = ap (times i) spare in let t = times_append i a.stacks.spare (number_in y.value) in let o = c.self.invariant.apart i in omega (arith, z, w, t, o);
@@ -164,12 +168,13 @@ invariant_of-self g c =
       counted = counted_under vs ws y cs (omega (arith, over, start_of (bounds xs [] ws) (length ws) cs)) gone c.self.invariant.counted;
       places_room = omega (arith, c.self.invariant.places_room, c.remove_own-value.ensures.places_room);
       in_front = c.self.invariant.in_front;
-    }
+      told = told_retired a.texts ts a.declared (a.declared - 1) vs ws (y ∷ []) c.self.invariant.told (omega arith) c.truncate-2.ensures.names c.truncate-2.ensures.one_number gone;
+    })
 
 pub returns : goal.returns
 returns g c =
     let a = c.self.inside in
-    let xs = a.names in
+    let xs = slots_of a in
     let ns = a.newest.items in
     let vs = a.variables.items in
     let cs = reverse a.calls.items in
@@ -180,6 +185,8 @@ returns g c =
     let ws = c.remove_own-value.new.variables.items in
     let gone = c.remove_own-value.ensures.variables in
     let newest = c.remove_own-value.ensures.newest in
+    let stay = slots_kept ns ms y.name y.hidden newest in
+    let ts = c.truncate-2.new.self in
     let alone = no_calls (holdings a) xs ns vs a.declared cs h H c.self.view_is c.requires.whole in
     let above = base_alone xs ws cs alone in
     let over = start_alone xs ws cs alone in
@@ -193,18 +200,22 @@ returns g c =
     let was_long : length vs ≡ suc (length ws) = omega (arith, ap length gone, length-append ws (y ∷ [])) in
     let few_long : length few ≡ length ws = omega (arith, ap length cut, length-take-le n a.numbers.items (omega (arith, is_long, was_long, c.self.invariant.beside)), is_long) in
     let fits : length ws ≤ length few = omega (arith, few_long) in
-    let on : List (List ℤ) → Holdings = λ ls. record { lists = ls; numbers = few } in
+    let on : List (List ℤ) → Holdings = λ ls. record { lists = ls; numbers = few; texts = ts } in
+    let with_texts : Holdings = record { lists = a.stacks.lists; numbers = a.numbers.items; texts = ts } in
     let nested = left_nested (holdings a) xs ns vs a.declared cs h y ms ws gone newest above over in
-    let shorter : held_in (on a.stacks.lists) xs (a.declared - 1) ws cs ≡ held_in (holdings a) xs (a.declared - 1) ws cs = same_beside a.stacks.lists few more a.numbers.items tail xs (a.declared - 1) ws cs nested fits in
+    let shorter : held_in (on a.stacks.lists) xs (a.declared - 1) ws cs ≡ held_in with_texts xs (a.declared - 1) ws cs = same_beside ts a.stacks.lists few more a.numbers.items tail xs (a.declared - 1) ws cs nested fits in
     let left = held_in (holdings a) xs a.declared ws cs in
     let top : H.sight ≡ Slot (name_among xs y) (val_at (holdings a) (length ws) y.value) left.sight = ap (λ (h : StoreState). h.sight) was in
     let lists = ap (λ (s : Pooled). s.lists) c.take_back.ensures in
-    ap (λ ls. held_in (on ls) xs (a.declared - 1) ws cs) lists ∙ shorter ∙ held_is _ _ (sym (ap rest_of top)) (ap (λ (h : StoreState). h.declared - 1) c.self.view_is) (ap (λ (h : StoreState). h.names) c.self.view_is) (sym (ap (λ (h : StoreState). h.callers) was) ∙ c.requires.whole.callers)
+    ap (λ l. held_in (on c.take_back.new.stacks.lists) l (a.declared - 1) ws cs) stay
+    ∙ ap (λ ls. held_in (on ls) xs (a.declared - 1) ws cs) lists ∙ shorter
+    ∙ held_is _ _ (sym (ap rest_of top)) (ap (λ (h : StoreState). h.declared - 1) c.self.view_is)
+    (c.truncate-2.ensures.names ∙ ap (λ (h : StoreState). take (h.declared - 1) h.texts) c.self.view_is) (ap (λ (h : StoreState). h.names) c.self.view_is) (sym (ap (λ (h : StoreState). h.callers) was) ∙ c.requires.whole.callers)
 
 pub overflow_sub-self : goal.overflow_sub-self
 overflow_sub-self g c =
     let a = c.self.inside in
-    let xs = a.names in
+    let xs = slots_of a in
     let ns = a.newest.items in
     let vs = a.variables.items in
     let cs = reverse a.calls.items in

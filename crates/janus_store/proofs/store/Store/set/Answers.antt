@@ -2,7 +2,7 @@ use Rattle.std.proofs.Common.{◌≡◌, ap, ◌∙◌, sym, arith, w32, refl, l
 use Rattle.std.specs.Prelude.{slice_get, Some, reverse}
 use Rattle.std.proofs.lemmas.Int.{to_z-of_z}
 use Rattle.janus_meaning.specs.Store.{look, Num}
-use Rattle.janus_store.specs.Inside.{IsPlaceOf, holdings}
+use Rattle.janus_store.specs.Inside.{IsPlaceOf, holdings, slots_of}
 use Rattle.janus_store.specs.StoreState.{live_stacks, values_held}
 use Rattle.janus_store.proofs.Standing.{has_place, place_fits}
 use Rattle.janus_store.specs.Stores.{write}
@@ -13,7 +13,7 @@ use Rattle.janus_store.proofs.store.Store.set.Goals as goal
 pub place-at-requires : goal.place-at-requires
 place-at-requires g c =
     let a = c.self.inside in
-    let xs = a.names in
+    let xs = slots_of a in
     let ns = a.newest.items in
     let vs = a.variables.items in
     let cs = reverse a.calls.items in
@@ -25,7 +25,7 @@ place-at-requires g c =
 pub index_mut-requires : goal.index_mut-requires
 index_mut-requires g c =
     let a = c.self.inside in
-    let xs = a.names in
+    let xs = slots_of a in
     let ns = a.newest.items in
     let vs = a.variables.items in
     let cs = reverse a.calls.items in
@@ -38,7 +38,7 @@ index_mut-requires g c =
 pub invariant_of-self : goal.invariant_of-self
 invariant_of-self g c =
     let a = c.self.inside in
-    let xs = a.names in
+    let xs = slots_of a in
     let ns = a.newest.items in
     let vs = a.variables.items in
     let cs = reverse a.calls.items in
@@ -65,12 +65,13 @@ invariant_of-self g c =
       counted = c.self.invariant.counted;
       places_room = c.self.invariant.places_room;
       in_front = c.self.invariant.in_front;
+      told = c.self.invariant.told;
     }
 
 pub returns-clause-shape : goal.returns-clause-shape
 returns-clause-shape g c =
     let a = c.self.inside in
-    let xs = a.names in
+    let xs = slots_of a in
     let ns = a.newest.items in
     let vs = a.variables.items in
     let cs = reverse a.calls.items in
@@ -88,7 +89,7 @@ returns-clause-shape g c =
 pub returns-clause-written : goal.returns-clause-written
 returns-clause-written g c = λ x named.
     let a = c.self.inside in
-    let xs = a.names in
+    let xs = slots_of a in
     let ns = a.newest.items in
     let vs = a.variables.items in
     let cs = reverse a.calls.items in

@@ -2,7 +2,7 @@ use Rattle.std.proofs.Common.{◌≡◌, ap, ◌∙◌, sym, subst, arith, w32, 
 use Rattle.std.specs.Prelude.{slice_get, reverse, Some, slice_index_or, pos}
 use Rattle.std.proofs.lemmas.Int.{to_z-of_z}
 use Rattle.janus_meaning.specs.Store.{element, set_element, Arr, cleared_val, held_by}
-use Rattle.janus_store.specs.Inside.{IsPlaceOf, holdings}
+use Rattle.janus_store.specs.Inside.{IsPlaceOf, holdings, slots_of}
 use Rattle.janus_store.specs.StoreState.{live_stacks, values_held}
 use Rattle.janus_store.specs.Values.{val_at}
 use Rattle.std.proofs.lemmas.Option.{slice_get_read}
@@ -13,12 +13,13 @@ use Rattle.janus_store.specs.Stores.{write}
 use Rattle.janus_store.specs.Places.{AreSorted, AreCounted}
 use Rattle.std.proofs.lemmas.List.{length-set}
 use Rattle.janus_store.proofs.Marks.{marks_set, same_shape}
+use Rattle.janus_store.proofs.Told.{told_set}
 use Rattle.janus_store.proofs.store.Store.set_element.Goals as goal
 
 pub place-at-requires : goal.place-at-requires
 place-at-requires g c =
     let a = c.self.inside in
-    let xs = a.names in
+    let xs = slots_of a in
     let ns = a.newest.items in
     let vs = a.variables.items in
     let cs = reverse a.calls.items in
@@ -30,7 +31,7 @@ place-at-requires g c =
 pub index_mut-requires : goal.index_mut-requires
 index_mut-requires g c =
     let a = c.self.inside in
-    let xs = a.names in
+    let xs = slots_of a in
     let ns = a.newest.items in
     let vs = a.variables.items in
     let cs = reverse a.calls.items in
@@ -43,7 +44,7 @@ index_mut-requires g c =
 pub set_element-requires : goal.set_element-requires
 set_element-requires g c =
     let a = c.self.inside in
-    let xs = a.names in
+    let xs = slots_of a in
     let ns = a.newest.items in
     let vs = a.variables.items in
     let cs = reverse a.calls.items in
@@ -61,7 +62,7 @@ set_element-requires g c =
 pub invariant_of-self : goal.invariant_of-self
 invariant_of-self g c =
     let a = c.self.inside in
-    let xs = a.names in
+    let xs = slots_of a in
     let ns = a.newest.items in
     let vs = a.variables.items in
     let cs = reverse a.calls.items in
@@ -93,12 +94,13 @@ invariant_of-self g c =
       counted = subst (λ l. AreCounted l cs) (sym kinds) c.self.invariant.counted;
       places_room = c.self.invariant.places_room;
       in_front = c.self.invariant.in_front;
+      told = told_set a.texts a.declared vs p v (record { name = v.name; hidden = v.hidden; place = v.place; value = new }) there refl c.self.invariant.told;
     }
 
 pub returns-clause-shape : goal.returns-clause-shape
 returns-clause-shape g c =
     let a = c.self.inside in
-    let xs = a.names in
+    let xs = slots_of a in
     let ns = a.newest.items in
     let vs = a.variables.items in
     let cs = reverse a.calls.items in
@@ -113,12 +115,12 @@ returns-clause-shape g c =
     let new = c.set_element.new.self in
     let same = value_is (holdings a) xs ns vs a.declared cs h H c.self.view_is c.args.name c.requires.0 (Arr c.requires.2.0) p v c.requires.1 c.requires.2.2 q read in
     let shape : cleared_val (val_at (holdings a) p new) ≡ cleared_val (Arr c.requires.2.0) = c.set_element.ensures.extent a.stacks.lists b ∙ ap cleared_val same in
-    set_like (holdings a) xs ns vs a.declared cs h H c.self.view_is c.args.name c.requires.0 (Arr c.requires.2.0) p v c.requires.1 c.requires.2.2 q read (holdings a) (λ j ne. refl) new shape
+    set_like (holdings a) xs ns vs a.declared cs h H c.self.view_is c.args.name c.requires.0 (Arr c.requires.2.0) p v c.requires.1 c.requires.2.2 q read (holdings a) (λ j ne. refl) new shape refl
 
 pub returns-clause-written : goal.returns-clause-written
 returns-clause-written g c = λ x l named k.
     let a = c.self.inside in
-    let xs = a.names in
+    let xs = slots_of a in
     let ns = a.newest.items in
     let vs = a.variables.items in
     let cs = reverse a.calls.items in

@@ -10,18 +10,19 @@ use Rattle.janus_store.specs.Stores.{write}
 use Rattle.janus_store.specs.Values.{val_at}
 use Rattle.janus_store.specs.declared.places.Kind.TheVariants as kinds
 use Rattle.janus_store.specs.declared.places.Lengths.{Lengths}
-use Rattle.janus_store.specs.Inside.{holdings}
+use Rattle.janus_store.specs.Inside.{holdings, slots_of}
 use Rattle.std.proofs.lemmas.List.{length-set}
 use Rattle.janus_store.proofs.Marks.{marks_set, same_shape}
 use Rattle.janus_store.proofs.Nth.{nth_there, nth_found}
 use Rattle.janus_store.proofs.Owned.{stacks_written}
 use Rattle.janus_store.proofs.Standing.{place_fits, value_is, set_written, set_held, set_like, set_stacks, set_values}
+use Rattle.janus_store.proofs.Told.{told_set}
 use Rattle.janus_store.proofs.store.Store.set_element_at.Goals as goal
 
 pub nth-place-requires : goal.nth-place-requires
 nth-place-requires g c =
     let a = c.self.inside in
-    let xs = a.names in
+    let xs = slots_of a in
     let ns = a.newest.items in
     let vs = a.variables.items in
     let cs = reverse a.calls.items in
@@ -34,7 +35,7 @@ nth-place-requires g c =
 pub index_mut-requires : goal.index_mut-requires
 index_mut-requires g c =
     let a = c.self.inside in
-    let xs = a.names in
+    let xs = slots_of a in
     let ns = a.newest.items in
     let vs = a.variables.items in
     let cs = reverse a.calls.items in
@@ -50,7 +51,7 @@ index_mut-requires g c =
 pub set_element-requires : goal.set_element-requires
 set_element-requires g c =
     let a = c.self.inside in
-    let xs = a.names in
+    let xs = slots_of a in
     let ns = a.newest.items in
     let vs = a.variables.items in
     let cs = reverse a.calls.items in
@@ -69,7 +70,7 @@ set_element-requires g c =
 pub invariant_of-self : goal.invariant_of-self
 invariant_of-self g c =
     let a = c.self.inside in
-    let xs = a.names in
+    let xs = slots_of a in
     let ns = a.newest.items in
     let vs = a.variables.items in
     let cs = reverse a.calls.items in
@@ -102,12 +103,13 @@ invariant_of-self g c =
       counted = subst (λ l. AreCounted l cs) (sym marks) c.self.invariant.counted;
       places_room = c.self.invariant.places_room;
       in_front = c.self.invariant.in_front;
+      told = told_set a.texts a.declared vs p v (record { name = v.name; hidden = v.hidden; place = v.place; value = new }) there refl c.self.invariant.told;
     }
 
 pub returns-clause-shape : goal.returns-clause-shape
 returns-clause-shape g c =
     let a = c.self.inside in
-    let xs = a.names in
+    let xs = slots_of a in
     let ns = a.newest.items in
     let vs = a.variables.items in
     let cs = reverse a.calls.items in
@@ -123,12 +125,12 @@ returns-clause-shape g c =
     let new = c.set_element.new.self in
     let same = value_is (holdings a) xs ns vs a.declared cs h H c.self.view_is r.number c.requires.0 (Arr c.requires.2.0) p v r.named c.requires.2.2 r.place read in
     let shape : cleared_val (val_at (holdings a) p new) ≡ cleared_val (Arr c.requires.2.0) = c.set_element.ensures.extent a.stacks.lists b ∙ ap cleared_val same in
-    set_like (holdings a) xs ns vs a.declared cs h H c.self.view_is r.number c.requires.0 (Arr c.requires.2.0) p v r.named c.requires.2.2 r.place read (holdings a) (λ j ne. refl) new shape
+    set_like (holdings a) xs ns vs a.declared cs h H c.self.view_is r.number c.requires.0 (Arr c.requires.2.0) p v r.named c.requires.2.2 r.place read (holdings a) (λ j ne. refl) new shape refl
 
 pub returns-clause-written : goal.returns-clause-written
 returns-clause-written g c = λ x l nth k.
     let a = c.self.inside in
-    let xs = a.names in
+    let xs = slots_of a in
     let ns = a.newest.items in
     let vs = a.variables.items in
     let cs = reverse a.calls.items in

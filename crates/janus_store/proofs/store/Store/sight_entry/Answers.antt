@@ -3,7 +3,7 @@ use Rattle.std.specs.Prelude.{slice_get, slice_index_or, Some, reverse, pos}
 use Rattle.std.proofs.lemmas.Option.{slice_get_read}
 use Rattle.janus_meaning.specs.World.{listed, size_of}
 use Rattle.janus_store.specs.StoreState.{StoreState}
-use Rattle.janus_store.specs.Inside.{sight_start, holdings}
+use Rattle.janus_store.specs.Inside.{sight_start, holdings, slots_of}
 use Rattle.janus_store.specs.Values.{val_in, val_at}
 use Rattle.std.proofs.lemmas.Int.{to_z-of_z}
 use Rattle.janus_store.proofs.Laid.{laid_of, met}
@@ -14,7 +14,7 @@ use Rattle.janus_store.proofs.store.Store.sight_entry.Goals as goal
 pub overflow_add-sight_start : goal.overflow_add-sight_start
 overflow_add-sight_start g c =
     let a = c.self.inside in
-    let xs = a.names in
+    let xs = slots_of a in
     let ns = a.newest.items in
     let vs = a.variables.items in
     let cs = reverse a.calls.items in
@@ -27,7 +27,7 @@ overflow_add-sight_start g c =
 pub index-variable-requires : goal.index-variable-requires
 index-variable-requires g c =
     let a = c.self.inside in
-    let xs = a.names in
+    let xs = slots_of a in
     let ns = a.newest.items in
     let vs = a.variables.items in
     let cs = reverse a.calls.items in
@@ -40,7 +40,7 @@ index-variable-requires g c =
 pub index-requires : goal.index-requires
 index-requires g c =
     let a = c.self.inside in
-    let xs = a.names in
+    let xs = slots_of a in
     let ns = a.newest.items in
     let vs = a.variables.items in
     let cs = reverse a.calls.items in
@@ -55,7 +55,7 @@ index-requires g c =
 pub beside-requires : goal.beside-requires
 beside-requires g c =
     let a = c.self.inside in
-    let xs = a.names in
+    let xs = slots_of a in
     let ns = a.newest.items in
     let vs = a.variables.items in
     let cs = reverse a.calls.items in
@@ -70,7 +70,7 @@ beside-requires g c =
 pub view-requires : goal.view-requires
 view-requires g c =
     let a = c.self.inside in
-    let xs = a.names in
+    let xs = slots_of a in
     let ns = a.newest.items in
     let vs = a.variables.items in
     let cs = reverse a.calls.items in
@@ -88,7 +88,7 @@ view-requires g c =
 pub returns-clause-met : goal.returns-clause-met
 returns-clause-met g c =
     let a = c.self.inside in
-    let xs = a.names in
+    let xs = slots_of a in
     let ns = a.newest.items in
     let vs = a.variables.items in
     let cs = reverse a.calls.items in
@@ -104,7 +104,7 @@ returns-clause-met g c =
 pub returns-clause-entry : goal.returns-clause-entry
 returns-clause-entry g c =
     let a = c.self.inside in
-    let xs = a.names in
+    let xs = slots_of a in
     let ns = a.newest.items in
     let vs = a.variables.items in
     let cs = reverse a.calls.items in

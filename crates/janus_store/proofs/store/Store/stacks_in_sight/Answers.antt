@@ -2,14 +2,14 @@ use Rattle.std.proofs.Common.{length, ap, arith}
 use Rattle.std.specs.Prelude.{reverse}
 use Rattle.janus_store.specs.declared.places.Kind.TheVariants as kinds
 use Rattle.janus_store.specs.declared.places.Lengths.{Lengths}
-use Rattle.janus_store.specs.Inside.{holdings}
+use Rattle.janus_store.specs.Inside.{holdings, slots_of}
 use Rattle.janus_store.proofs.Nth.{count_is}
 use Rattle.janus_store.proofs.store.Store.stacks_in_sight.Goals as goal
 
 pub returns : goal.returns
 returns g c =
     let a = c.self.inside in
-    let xs = a.names in
+    let xs = slots_of a in
     let ns = a.newest.items in
     let vs = a.variables.items in
     let cs = reverse a.calls.items in
@@ -23,7 +23,7 @@ returns g c =
 pub overflow_sub-result : goal.overflow_sub-result
 overflow_sub-result g c =
     let a = c.self.inside in
-    let xs = a.names in
+    let xs = slots_of a in
     let ns = a.newest.items in
     let vs = a.variables.items in
     let cs = reverse a.calls.items in

@@ -2,14 +2,14 @@ use Rattle.std.proofs.Common.{ap, ◌∙◌, sym, arith}
 use Rattle.std.specs.Prelude.{slice_get, reverse}
 use Rattle.janus_meaning.specs.Fault.{TopEmpty}
 use Rattle.janus_store.specs.Values.{read_or}
-use Rattle.janus_store.specs.Inside.{holdings}
+use Rattle.janus_store.specs.Inside.{holdings, slots_of}
 use Rattle.janus_store.proofs.NameStack.{lent_stack, has_stack, list_is, stack_low, first_is}
 use Rattle.janus_store.proofs.store.Store.top.Goals as goal
 
 pub stack-requires : goal.stack-requires
 stack-requires g c =
     let a = c.self.inside in
-    let xs = a.names in
+    let xs = slots_of a in
     let ns = a.newest.items in
     let vs = a.variables.items in
     let cs = reverse a.calls.items in
@@ -21,7 +21,7 @@ stack-requires g c =
 pub top-requires : goal.top-requires
 top-requires g c =
     let a = c.self.inside in
-    let xs = a.names in
+    let xs = slots_of a in
     let ns = a.newest.items in
     let vs = a.variables.items in
     let cs = reverse a.calls.items in
@@ -34,7 +34,7 @@ top-requires g c =
 pub returns : goal.returns
 returns g c = λ x l named f.
     let a = c.self.inside in
-    let xs = a.names in
+    let xs = slots_of a in
     let ns = a.newest.items in
     let vs = a.variables.items in
     let cs = reverse a.calls.items in

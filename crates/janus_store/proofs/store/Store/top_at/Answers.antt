@@ -2,7 +2,7 @@ use Rattle.std.proofs.Common.{◌≡◌, ◌+◌, length, refl, ap, ◌∙◌, s
 use Rattle.std.specs.Prelude.{slice_get, Some, reverse, slice_index_or, pos}
 use Rattle.std.proofs.lemmas.Option.{slice_get_read}
 use Rattle.janus_meaning.specs.Fault.{Fine, TopEmpty}
-use Rattle.janus_store.specs.Inside.{IsStackOf, holdings}
+use Rattle.janus_store.specs.Inside.{IsStackOf, holdings, slots_of}
 use Rattle.janus_store.specs.Places.{lengths_before}
 use Rattle.janus_store.specs.Values.{read_or}
 use Rattle.janus_store.specs.declared.places.Kind.TheVariants as kinds
@@ -15,7 +15,7 @@ use Rattle.janus_store.proofs.store.Store.top_at.Goals as goal
 pub nth-place-requires : goal.nth-place-requires
 nth-place-requires g c =
     let a = c.self.inside in
-    let xs = a.names in
+    let xs = slots_of a in
     let ns = a.newest.items in
     let vs = a.variables.items in
     let cs = reverse a.calls.items in
@@ -28,7 +28,7 @@ nth-place-requires g c =
 pub index-requires : goal.index-requires
 index-requires g c =
     let a = c.self.inside in
-    let xs = a.names in
+    let xs = slots_of a in
     let ns = a.newest.items in
     let vs = a.variables.items in
     let cs = reverse a.calls.items in
@@ -43,7 +43,7 @@ index-requires g c =
 pub stack-requires : goal.stack-requires
 stack-requires g c =
     let a = c.self.inside in
-    let xs = a.names in
+    let xs = slots_of a in
     let ns = a.newest.items in
     let vs = a.variables.items in
     let cs = reverse a.calls.items in
@@ -61,7 +61,7 @@ stack-requires g c =
 pub top-requires : goal.top-requires
 top-requires g c =
     let a = c.self.inside in
-    let xs = a.names in
+    let xs = slots_of a in
     let ns = a.newest.items in
     let vs = a.variables.items in
     let cs = reverse a.calls.items in
@@ -82,7 +82,7 @@ top-requires g c =
 pub returns : goal.returns
 returns g c = λ x l nth f.
     let a = c.self.inside in
-    let xs = a.names in
+    let xs = slots_of a in
     let ns = a.newest.items in
     let vs = a.variables.items in
     let cs = reverse a.calls.items in

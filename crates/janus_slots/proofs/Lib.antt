@@ -1,0 +1,10 @@
+pub mod Results
+pub mod Names
+pub mod Stores
+pub mod Values
+pub mod Trees
+pub mod Moves
+pub mod Named
+pub mod Steps
+pub mod Shown
+pub mod Laws

@@ -1,0 +1,89 @@
+-- What a cell's block sees: the names of the store in which it begins, and procedures that are all listed.
+use Rattle.std.proofs.Common.{◌≡◌, ℕ, zero, suc, ◌<◌, Bool, true, false, List, [], ◌∷◌, length, map, take, get_or, inl, inr, refl, sym, ap, ◌∙◌, subst, arith}
+use Rattle.janus_meaning.specs.Syntax.{Name, Proc, names_of}
+use Rattle.janus_meaning.specs.Store.{Num, Arr, Stk, Lent, Store, Bare, Slot, same_name}
+use Rattle.janus_meaning.specs.Shape.{Shape, Heads, head_at, head_of, heads_of, kinds_in, pick_newest, shape_of}
+use Rattle.janus_meaning.specs.World.{Declaration, DeclareInt, DeclareArray, DeclareStack, declare, declare_one, declared_name}
+use Rattle.janus_meaning.specs.FormedWorld.{with_declared, with_heads, declared_kind}
+use Rattle.janus_meaning.proofs.Stores.{same_name_true}
+use Rattle.janus_names.specs.Numbers.{IsMet, GoOn, Adds}
+use Rattle.janus_slots.specs.Slots.{names_in}
+use Rattle.janus_slots.specs.Law.{AreListed}
+use Rattle.janus_syntax.specs.Tree as tree
+use Rattle.janus_syntax.specs.Tree.{procedure_view, procedures_view}
+use Rattle.janus_syntax.specs.View.{plain_cell, plain_procedure}
+use Rattle.janus_syntax.specs.declared.tree.Procedure as Defined
+use Rattle.janus_check.specs.Names.{Known, shape_in, heads_in, over}
+use Rattle.janus_check.specs.Sight.{heads_over}
+use Rattle.janus_check.specs.Own.{IsOwn}
+use Rattle.janus_code.specs.Slotted.{HasEntries}
+use Rattle.janus_store.specs.StoreState.{shown_store}
+use Rattle.kernel_runner.specs.Runner.{ShownWorld}
+use Rattle.kernel_runner.specs.declared.runner.Runner.{Runner}
+use Rattle.kernel_runner.proofs.Declaring.{LendNothing, values_lend_nothing}
+use Rattle.kernel_runner.proofs.Growing.{no_more}
+use Rattle.kernel_loader.specs.Loading.{IsCheckedOver}
+use Rattle.kernel_loader.proofs.Listed.{listed_still, met_still}
+
+-- ---- names
+
+-- the names in sight of a store that lends nothing
+shown_names : (s : Store) → LendNothing s → names_of (shape_of s) ≡ names_in s
+shown_names Bare h = refl
+shown_names (Slot x (Num n) s) h = ap (λ (l : List Name). x ∷ l) (shown_names s h)
+shown_names (Slot x (Arr l) s) h = ap (λ (l : List Name). x ∷ l) (shown_names s h)
+shown_names (Slot x (Stk l) s) h = ap (λ (l : List Name). x ∷ l) (shown_names s h)
+shown_names (Slot x Lent s) h = absurd h
+
+one_declared : (d : Declaration) (s : Store) → names_in (declare_one d s) ≡ declared_name d ∷ names_in s
+one_declared (DeclareInt x) s = refl
+one_declared (DeclareArray x n) s = refl
+one_declared (DeclareStack x) s = refl
+
+names_declared : (ds : List Declaration) (g : Shape) (s : Store) → names_of g ≡ names_in s → names_of (with_declared g ds) ≡ names_in (declare ds s)
+names_declared [] g s e = e
+names_declared (d ∷ ds) g s e = names_declared ds ((declared_name d, declared_kind d) ∷ g) (declare_one d s) (ap (λ (l : List Name). declared_name d ∷ l) e ∙ sym (one_declared d s))
+
+pub names_here : {L : Type 0} (runner : Runner L) (env own : Known) (cell : tree.Cell) (shown : ShownWorld) → IsCheckedOver runner env cell shown → IsOwn env own cell →
+    names_of (over (shape_in env.names) own.names) ≡ names_in (declare (plain_cell cell).declarations (shown_store runner.store))
+names_here runner env own cell shown checked is =
+    let known : names_of (shape_in env.names) ≡ names_in (shown_store runner.store) =
+    ap (λ (g : Shape). names_of g) checked.known.names ∙ shown_names shown.world.store (values_lend_nothing shown.world.store checked.values) ∙ ap names_in (sym checked.is.0.store) in
+    ap (λ (g : Shape). names_of g) is.names ∙ names_declared (plain_cell cell).declarations (shape_in env.names) (shown_store runner.store) known
+
+-- ---- procedures
+
+-- one procedure more is seen, which is listed
+entry_more : (es : List Name) (hs : Heads) (p : Proc) → HasEntries hs es → IsMet es p.name → HasEntries (head_of p ∷ hs) es
+entry_more es hs p q named f ds e = by (same_name f p.name) refl
+  where
+    by : (b : Bool) → same_name f p.name ≡ b → IsMet es f
+    by true s = subst (IsMet es) (sym (same_name_true f p.name s)) named
+    by false s = q f ds (sym (ap (λ b. pick_newest b (kinds_in p.params) (head_at f hs)) s) ∙ e)
+
+entries_with : (es : List Name) (hs : Heads) (ps : List Proc) → HasEntries hs es → AreListed es ps → HasEntries (with_heads hs ps) es
+entries_with es hs [] q h = q
+entries_with es hs (p ∷ ps) q h = entries_with es (head_of p ∷ hs) ps (entry_more es hs p q h.0) h.1
+
+entries_of : (es : List Name) (ps : List Proc) → AreListed es ps → HasEntries (heads_of ps) es
+entries_of es [] h = λ f cs e. cc
+entries_of es (p ∷ ps) h = entry_more es (heads_of ps) p (entries_of es ps h.1) h.0
+
+pub entries_here : {L : Type 0} (runner : Runner L) (env own : Known) (cell : tree.Cell) (shown : ShownWorld) (es : List Name) → IsCheckedOver runner env cell shown → IsOwn env own cell →
+    GoOn runner.entries es → AreListed es (plain_cell cell).procedures → HasEntries (heads_over env own) es
+entries_here runner env own cell shown es checked is onward listed =
+    let older : HasEntries (heads_of shown.world.procedures) es = entries_of es shown.world.procedures (listed_still runner.entries es onward shown.world.procedures checked.is.0.listed) in
+    let known : HasEntries (heads_in env.procedures) es = λ f cs e. older f cs (sym (checked.known.heads f) ∙ e) in
+    subst (λ (hs : Heads). HasEntries hs es) (sym is.heads) (entries_with es (heads_in env.procedures) (plain_cell cell).procedures known listed)
+
+-- ---- one name more comes into the table
+
+pub adds_onward : (xs ys : List Name) (k : ℕ) (x : Name) → Adds xs ys k x → GoOn xs ys
+adds_onward xs ys k x (inl same) = subst (λ (l : List Name). GoOn xs l) (sym same) (no_more xs)
+adds_onward xs ys k x (inr more) = (x ∷ [], more.1)
+
+pub listed_more : (es fs : List Name) (ys : List Defined.Procedure) (i : ℕ) (y : Defined.Procedure) → i < length ys → get_or ys i y ≡ y → GoOn es fs →
+    AreListed es (map plain_procedure (procedures_view (take i ys))) → IsMet fs (plain_procedure (procedure_view y)).name → AreListed fs (map plain_procedure (procedures_view (take (suc i) ys)))
+listed_more es fs [] i y l e onward h m = absurd (omega arith)
+listed_more es fs (z ∷ ys) zero y l e onward h m = (subst (λ (z : Defined.Procedure). IsMet fs (plain_procedure (procedure_view z)).name) (sym e) m, tt)
+listed_more es fs (z ∷ ys) (suc i) y l e onward h m = (met_still es fs onward (plain_procedure (procedure_view z)).name h.0, listed_more es fs ys i y (omega arith) e onward h.1 m)
