@@ -26,11 +26,11 @@ pub fn assign<L: Ledger>(
     store: &mut Store<L>,
     writes: &mut Writes<L>,
 ) -> Result<(), ValueFault>
-    requires safe { assign_of (symbol_name store.old.names name.now) (update_of update) (exp_of store.old.names exp.now) store.old.sight ≢ Bad Broken }
+    requires safe { assign_of (symbol_name store.old.names name.now) (update_of update) (exp_of store.old.names exp.now) store.old.slots ≢ Bad Broken }
     requires at { HasItsNumber store.old.names name.now }
     requires numbered { HasNumbers store.old.names exp.now }
-    ensures done { IsDone (assign_of (symbol_name store.old.names name.now) (update_of update) (exp_of store.old.names exp.now) store.old.sight)
-        store.old.sight store.new.sight result }
+    ensures done { IsDone (assign_of (symbol_name store.old.names name.now) (update_of update) (exp_of store.old.names exp.now) store.old.slots)
+        store.old.slots store.new.slots result }
     ensures shape { IsLike store.old store.new }
     ensures counted { IsCounted result writes.old writes.new }
     ensures once { IsWrittenOnce result writes.old writes.new }
@@ -57,13 +57,13 @@ pub fn assign_element<L: Ledger>(
     writes: &mut Writes<L>,
 ) -> Result<(), ValueFault>
     requires safe { assign_at_of (symbol_name store.old.names name.now) (exp_of store.old.names index.now) (update_of update)
-        (exp_of store.old.names exp.now) store.old.sight ≢ Bad Broken }
+        (exp_of store.old.names exp.now) store.old.slots ≢ Bad Broken }
     requires at { HasItsNumber store.old.names name.now }
     requires index_placed { HasNumbers store.old.names index.now }
     requires numbered { HasNumbers store.old.names exp.now }
     ensures done { IsDone
         (assign_at_of (symbol_name store.old.names name.now) (exp_of store.old.names index.now) (update_of update)
-        (exp_of store.old.names exp.now) store.old.sight) store.old.sight store.new.sight result }
+        (exp_of store.old.names exp.now) store.old.slots) store.old.slots store.new.slots result }
     ensures shape { IsLike store.old store.new }
     ensures counted { IsCounted result writes.old writes.new }
     ensures once { IsWrittenOnce result writes.old writes.new }

@@ -21,9 +21,9 @@ use std::sync::ledger::Ledger;
 /// Whether an expression is not 0, or its first fault. Its names are declared, each as what its use wants, and have their
 /// numbers.
 pub fn test<L: Ledger>(exp: &FlatExp, store: &Store<L>) -> Result<bool, ValueFault>
-    requires safe { test_of (exp_of store.now.names exp.now) store.now.sight ≢ Bad Broken }
+    requires safe { test_of (exp_of store.now.names exp.now) store.now.slots ≢ Bad Broken }
     requires numbered { HasNumbers store.now.names exp.now }
-    ensures { truth_of result ≡ test_of (exp_of store.now.names exp.now) store.now.sight }
+    ensures { truth_of result ≡ test_of (exp_of store.now.names exp.now) store.now.slots }
 {
     match value(exp, store) {
         Ok(number) => Ok(holds(number)),
@@ -36,9 +36,9 @@ pub fn test<L: Ledger>(exp: &FlatExp, store: &Store<L>) -> Result<bool, ValueFau
 // An operator between numbers and variables is what most expressions are: it is worked out in place, with no call.
 #[inline]
 pub fn value<L: Ledger>(exp: &FlatExp, store: &Store<L>) -> Result<i32, ValueFault>
-    requires safe { value_of (exp_of store.now.names exp.now) store.now.sight ≢ Bad Broken }
+    requires safe { value_of (exp_of store.now.names exp.now) store.now.slots ≢ Bad Broken }
     requires numbered { HasNumbers store.now.names exp.now }
-    ensures { result_of result ≡ value_of (exp_of store.now.names exp.now) store.now.sight }
+    ensures { result_of result ≡ value_of (exp_of store.now.names exp.now) store.now.slots }
 {
     match exp {
         FlatExp::Binary(operator, left, right) => match leaf(left, store) {
@@ -55,9 +55,9 @@ pub fn value<L: Ledger>(exp: &FlatExp, store: &Store<L>) -> Result<i32, ValueFau
 /// The number of a number or a variable; none of another expression.
 #[inline(always)]
 fn leaf<L: Ledger>(exp: &FlatExp, store: &Store<L>) -> Option<i32>
-    requires safe { value_of (exp_of store.now.names exp.now) store.now.sight ≢ Bad Broken }
+    requires safe { value_of (exp_of store.now.names exp.now) store.now.slots ≢ Bad Broken }
     requires numbered { HasNumbers store.now.names exp.now }
-    ensures { IfSome result (λ n. value_of (exp_of store.now.names exp.now) store.now.sight ≡ Fine n) }
+    ensures { IfSome result (λ n. value_of (exp_of store.now.names exp.now) store.now.slots ≡ Fine n) }
 {
     match exp {
         FlatExp::Number(number) => Some(number.cast_signed()),
@@ -70,9 +70,9 @@ fn leaf<L: Ledger>(exp: &FlatExp, store: &Store<L>) -> Option<i32>
 #[inline(always)]
 #[cycle(computed)]
 fn operand<L: Ledger>(exp: &FlatExp, store: &Store<L>) -> Result<i32, ValueFault>
-    requires safe { value_of (exp_of store.now.names exp.now) store.now.sight ≢ Bad Broken }
+    requires safe { value_of (exp_of store.now.names exp.now) store.now.slots ≢ Bad Broken }
     requires numbered { HasNumbers store.now.names exp.now }
-    ensures { result_of result ≡ value_of (exp_of store.now.names exp.now) store.now.sight }
+    ensures { result_of result ≡ value_of (exp_of store.now.names exp.now) store.now.slots }
 {
     match leaf(exp, store) {
         Some(number) => Ok(number),
@@ -83,9 +83,9 @@ fn operand<L: Ledger>(exp: &FlatExp, store: &Store<L>) -> Result<i32, ValueFault
 /// The number of an expression, as `value` has it.
 #[cycle(computed)]
 fn computed<L: Ledger>(exp: &FlatExp, store: &Store<L>) -> Result<i32, ValueFault>
-    requires safe { value_of (exp_of store.now.names exp.now) store.now.sight ≢ Bad Broken }
+    requires safe { value_of (exp_of store.now.names exp.now) store.now.slots ≢ Bad Broken }
     requires numbered { HasNumbers store.now.names exp.now }
-    ensures { result_of result ≡ value_of (exp_of store.now.names exp.now) store.now.sight }
+    ensures { result_of result ≡ value_of (exp_of store.now.names exp.now) store.now.slots }
 {
     match exp {
         FlatExp::Number(number) => Ok(number.cast_signed()),
@@ -135,8 +135,8 @@ fn computed<L: Ledger>(exp: &FlatExp, store: &Store<L>) -> Result<i32, ValueFaul
 
 /// The element at an index of the array of a number; a fault for an index out of its range.
 fn element<L: Ledger>(name: usize, index: i32, store: &Store<L>) -> Result<i32, ValueFault>
-    requires { (x : Name) × IsName store.now name x × IsArray (look x store.now.sight) }
-    ensures { (x : Name) (l : List ℤ) → IsName store.now name x → look x store.now.sight ≡ Fine (Arr l) → result_of result ≡ element_of l index }
+    requires { (x : Name) × IsName store.now name x × IsArray (look x store.now.slots) }
+    ensures { (x : Name) (l : List ℤ) → IsName store.now name x → look x store.now.slots ≡ Fine (Arr l) → result_of result ≡ element_of l index }
 {
     match store.element(name, index) {
         Some(number) => Ok(number),
@@ -146,8 +146,8 @@ fn element<L: Ledger>(name: usize, index: i32, store: &Store<L>) -> Result<i32, 
 
 /// The newest value of the stack of a number; a fault where it is empty.
 fn top<L: Ledger>(name: usize, store: &Store<L>) -> Result<i32, ValueFault>
-    requires { (x : Name) × IsName store.now name x × IsStack (look x store.now.sight) }
-    ensures { (x : Name) (l : List ℤ) → IsName store.now name x → look x store.now.sight ≡ Fine (Stk l) → result_of result ≡ first_of l }
+    requires { (x : Name) × IsName store.now name x × IsStack (look x store.now.slots) }
+    ensures { (x : Name) (l : List ℤ) → IsName store.now name x → look x store.now.slots ≡ Fine (Stk l) → result_of result ≡ first_of l }
 {
     match store.top(name) {
         Some(number) => Ok(number),

@@ -22,12 +22,12 @@ pub fn open_number<L: Ledger>(
     first: &FlatExp,
     store: &mut Store<L>,
 ) -> Result<(), ValueFault>
-    requires safe { value_of (exp_of store.old.names first.now) store.old.sight ≢ Bad Broken }
+    requires safe { value_of (exp_of store.old.names first.now) store.old.slots ≢ Bad Broken }
     requires at { HasItsNumber store.old.names name.now }
     requires numbered { HasNumbers store.old.names first.now }
     requires room { HasLocalRoom store.old }
-    ensures done { IsDone (number_opened (symbol_name store.old.names name.now) (exp_of store.old.names first.now) store.old.sight)
-        store.old.sight store.new.sight result }
+    ensures done { IsDone (number_opened (symbol_name store.old.names name.now) (exp_of store.old.names first.now) store.old.slots)
+        store.old.slots store.new.slots result }
     ensures names { KeepsNames store.old store.new }
 {
     match value(first, store) {
@@ -46,12 +46,12 @@ pub fn close_number<L: Ledger>(
     last: &FlatExp,
     store: &mut Store<L>,
 ) -> Result<(), ValueFault>
-    requires safe { drop_int (symbol_name store.old.names name.now) (exp_of store.old.names last.now) store.old.sight ≢ Bad Broken }
+    requires safe { drop_int (symbol_name store.old.names name.now) (exp_of store.old.names last.now) store.old.slots ≢ Bad Broken }
     requires at { HasItsNumber store.old.names name.now }
     requires numbered { HasNumbers store.old.names last.now }
     requires local { HasLocal store.old }
-    ensures done { IsDone (drop_int (symbol_name store.old.names name.now) (exp_of store.old.names last.now) store.old.sight)
-        store.old.sight store.new.sight result }
+    ensures done { IsDone (drop_int (symbol_name store.old.names name.now) (exp_of store.old.names last.now) store.old.slots)
+        store.old.slots store.new.slots result }
     ensures names { KeepsNames store.old store.new }
 {
     let number = store.leave_local();
@@ -72,7 +72,7 @@ pub fn close_number<L: Ledger>(
 pub fn open_stack<L: Ledger>(name: &Symbol, store: &mut Store<L>) -> Result<(), ValueFault>
     requires at { HasItsNumber store.old.names name.now }
     requires room { HasLocalRoom store.old }
-    ensures done { IsDone (stack_opened (live_stacks store.old) (symbol_name store.old.names name.now) store.old.sight) store.old.sight store.new.sight result }
+    ensures done { IsDone (stack_opened (live_stacks store.old) (symbol_name store.old.names name.now) store.old.slots) store.old.slots store.new.slots result }
     ensures names { KeepsNames store.old store.new }
 {
     if store.stacks_left() == 0 {
@@ -84,10 +84,10 @@ pub fn open_stack<L: Ledger>(name: &Symbol, store: &mut Store<L>) -> Result<(), 
 
 /// Closes the newest local, a stack. Its name has its number. It is a fault where the stack isn't empty, which leaves the store.
 pub fn close_stack<L: Ledger>(name: &Symbol, store: &mut Store<L>) -> Result<(), ValueFault>
-    requires safe { drop_stack (symbol_name store.old.names name.now) store.old.sight ≢ Bad Broken }
+    requires safe { drop_stack (symbol_name store.old.names name.now) store.old.slots ≢ Bad Broken }
     requires at { HasItsNumber store.old.names name.now }
     requires local { HasLocal store.old }
-    ensures done { IsDone (drop_stack (symbol_name store.old.names name.now) store.old.sight) store.old.sight store.new.sight result }
+    ensures done { IsDone (drop_stack (symbol_name store.old.names name.now) store.old.slots) store.old.slots store.new.slots result }
     ensures names { KeepsNames store.old store.new }
 {
     if !store.is_empty(name.number) {

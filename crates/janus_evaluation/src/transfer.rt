@@ -23,11 +23,11 @@ pub fn push<L: Ledger>(
     writes: &mut Writes<L>,
 ) -> Result<(), ValueFault>
     requires safe { push_of pool (values_lent store.old.callers) (symbol_name store.old.names variable.now) (symbol_name store.old.names stack.now)
-        store.old.sight ≢ Bad Broken }
+        store.old.slots ≢ Bad Broken }
     requires variable { HasItsNumber store.old.names variable.now }
     requires stack { HasItsNumber store.old.names stack.now }
     ensures done { IsDone (push_of pool (values_lent store.old.callers) (symbol_name store.old.names variable.now) (symbol_name store.old.names stack.now)
-        store.old.sight) store.old.sight store.new.sight result }
+        store.old.slots) store.old.slots store.new.slots result }
     ensures shape { IsLike store.old store.new }
     ensures counted { IsCounted result writes.old writes.new }
 {
@@ -50,11 +50,11 @@ pub fn pop<L: Ledger>(
     store: &mut Store<L>,
     writes: &mut Writes<L>,
 ) -> Result<(), ValueFault>
-    requires safe { pop_of (symbol_name store.old.names variable.now) (symbol_name store.old.names stack.now) store.old.sight ≢ Bad Broken }
+    requires safe { pop_of (symbol_name store.old.names variable.now) (symbol_name store.old.names stack.now) store.old.slots ≢ Bad Broken }
     requires variable { HasItsNumber store.old.names variable.now }
     requires stack { HasItsNumber store.old.names stack.now }
-    ensures done { IsDone (pop_of (symbol_name store.old.names variable.now) (symbol_name store.old.names stack.now) store.old.sight)
-        store.old.sight store.new.sight result }
+    ensures done { IsDone (pop_of (symbol_name store.old.names variable.now) (symbol_name store.old.names stack.now) store.old.slots)
+        store.old.slots store.new.slots result }
     ensures shape { IsLike store.old store.new }
     ensures counted { IsCounted result writes.old writes.new }
 {
@@ -79,10 +79,10 @@ pub fn swap<L: Ledger>(
     store: &mut Store<L>,
     writes: &mut Writes<L>,
 )
-    requires safe { swap_of (symbol_name store.old.names first.now) (symbol_name store.old.names second.now) store.old.sight ≢ Bad Broken }
+    requires safe { swap_of (symbol_name store.old.names first.now) (symbol_name store.old.names second.now) store.old.slots ≢ Bad Broken }
     requires first { HasItsNumber store.old.names first.now }
     requires second { HasItsNumber store.old.names second.now }
-    ensures done { swap_of (symbol_name store.old.names first.now) (symbol_name store.old.names second.now) store.old.sight ≡ Fine store.new.sight }
+    ensures done { swap_of (symbol_name store.old.names first.now) (symbol_name store.old.names second.now) store.old.slots ≡ Fine store.new.slots }
     ensures shape { IsLike store.old store.new }
     ensures counted { writes.new ≡ writes.old + 2 }
 {

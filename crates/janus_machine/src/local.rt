@@ -17,10 +17,10 @@ use std::sync::ledger::Ledger;
 
 /// Makes the local of a statement, whose names have their numbers, on top of the store, or leaves the store at a fault.
 pub(crate) fn open<L: Ledger>(statement: &Statement, store: &mut Store<L>) -> Result<(), Fault>
-    requires safe { opened_of store.old.names (live_stacks store.old) statement.now store.old.sight ≢ Bad Broken }
+    requires safe { opened_of store.old.names (live_stacks store.old) statement.now store.old.slots ≢ Bad Broken }
     requires numbered { StatementHasNumbers store.old.names statement.now }
     requires room { HasLocalRoom store.old }
-    ensures done { IsDone (opened_of store.old.names (live_stacks store.old) statement.now store.old.sight) store.old.sight store.new.sight result }
+    ensures done { IsDone (opened_of store.old.names (live_stacks store.old) statement.now store.old.slots) store.old.slots store.new.slots result }
     ensures names { KeepsNames store.old store.new }
 {
     match statement {
@@ -32,10 +32,10 @@ pub(crate) fn open<L: Ledger>(statement: &Statement, store: &mut Store<L>) -> Re
 
 /// Takes the local of a statement, whose names have their numbers, from the top of the store, or leaves the store at a fault.
 pub(crate) fn close<L: Ledger>(statement: &Statement, store: &mut Store<L>) -> Result<(), Fault>
-    requires safe { closed_of store.old.names statement.now store.old.sight ≢ Bad Broken }
+    requires safe { closed_of store.old.names statement.now store.old.slots ≢ Bad Broken }
     requires numbered { StatementHasNumbers store.old.names statement.now }
     requires local { HasLocal store.old }
-    ensures done { IsDone (closed_of store.old.names statement.now store.old.sight) store.old.sight store.new.sight result }
+    ensures done { IsDone (closed_of store.old.names statement.now store.old.slots) store.old.slots store.new.slots result }
     ensures names { KeepsNames store.old store.new }
 {
     match statement {

@@ -23,9 +23,9 @@ pub(crate) fn run<L: Ledger>(
     store: &mut Store<L>,
     writes: &mut Writes<L>,
 ) -> Result<(), Fault>
-    requires safe { run_of store.old.names (values_lent store.old.callers) statement.now store.old.sight ≢ Bad Broken }
+    requires safe { run_of store.old.names (values_lent store.old.callers) statement.now store.old.slots ≢ Bad Broken }
     requires numbered { StatementHasNumbers store.old.names statement.now }
-    ensures done { IsDone (run_of store.old.names (values_lent store.old.callers) statement.now store.old.sight) store.old.sight store.new.sight result }
+    ensures done { IsDone (run_of store.old.names (values_lent store.old.callers) statement.now store.old.slots) store.old.slots store.new.slots result }
     ensures names { KeepsNames store.old store.new }
     ensures counted { IsCounted result writes.old writes.new }
 {

@@ -17,7 +17,7 @@ use Rattle.janus_store.specs.declared.store.Variable.{Variable}
 use Rattle.janus_store.specs.declared.value.Value.{Value}
 use Rattle.janus_store.specs.declared.value.Value.TheVariants as values
 use Rattle.std.proofs.Math.Seq.{get_or-append_seam}
-use Rattle.janus_store.proofs.Laid.{held_is}
+use Rattle.janus_store.proofs.Laid.{same_state}
 use Rattle.janus_store.proofs.Levels.{AgreeBelow, callers_below, same_sight}
 use Rattle.janus_store.proofs.NameStack.{get_there, read_back, set_back}
 use Rattle.janus_store.proofs.Standing.{place_fits, value_is, set_written, set_held, set_like, set_stacks, set_values}
@@ -41,7 +41,7 @@ module _ (texts : List Name) (lists : List (List ℤ)) (few more all : List ℤ)
     -- what is held stays
     pub same_beside : held_in short xs d vs cs ≡ held_in long xs d vs cs
     same_beside =
-        held_is _ _ (same_sight (value_at short vs) (value_at long vs) (length vs) (here (bounds xs [] vs) (length vs) cs) (around (bounds xs [] vs) (length vs) cs) nested below)
+        same_state (same_sight (value_at short vs) (value_at long vs) (length vs) (here (bounds xs [] vs) (length vs) cs) (around (bounds xs [] vs) (length vs) cs) nested below)
         refl refl refl (callers_below (value_at short vs) (value_at long vs) (length vs) (here (bounds xs [] vs) (length vs) cs) (around (bounds xs [] vs) (length vs) cs) nested below)
 
 held_moved : (one other : Holdings) (xs : List Name) (ns : List ℕ) (vs : List Variable) (d : ℕ) (cs : List Call) → IsHeld one xs ns vs d cs → held_in one xs d vs cs ≡ held_in other xs d vs cs → IsHeld other xs ns vs d cs
@@ -93,7 +93,7 @@ is_number lists b values.Number n e = refl
 is_number lists b (values.Array v) n e = cc
 is_number lists b (values.Stack i) n e = cc
 
-module _ (pool : Holdings) (xs : List Name) (ns : List ℕ) (vs : List Variable) (d : ℕ) (cs : List Call) (h : IsHeld pool xs ns vs d cs) (H : StoreState) (view : held_in pool xs d vs cs ≡ H) (k : ℕ) (x : Name) (n : ℤ) (e : IsNumbered H.names k x) (f : look x H.sight ≡ Fine (Num n)) (p : ℕ) (q : IsPlaceOf ns vs k p) where
+module _ (pool : Holdings) (xs : List Name) (ns : List ℕ) (vs : List Variable) (d : ℕ) (cs : List Call) (h : IsHeld pool xs ns vs d cs) (H : StoreState) (view : held_in pool xs d vs cs ≡ H) (k : ℕ) (x : Name) (n : ℤ) (e : IsNumbered H.names k x) (f : look x H.slots ≡ Fine (Num n)) (p : ℕ) (q : IsPlaceOf ns vs k p) where
   there : (v : Variable) × (slice_get vs p ≡ Some v)
   there = get_there vs p (place_fits pool xs ns vs d cs h H view k x (Num n) p e f q)
 
@@ -132,11 +132,11 @@ module _ (pool : Holdings) (xs : List Name) (ns : List ℕ) (vs : List Variable)
     shape : cleared_val (val_at other p w.value) ≡ cleared_val (Num n)
     shape = ap cleared_val new
 
-    pub number_written : write x (Num m) H.sight ≡ Fine (held_in other xs d vs cs).sight
+    pub number_written : write x (Num m) H.slots ≡ Fine (held_in other xs d vs cs).slots
     number_written =
-        ap (λ u. write x u H.sight) (sym new)
+        ap (λ u. write x u H.slots) (sym new)
         ∙ set_written pool xs ns vs d cs h H view k x (Num n) p w e f q read other others w.value
-        ∙ ap (λ (vs : List Variable). Fine (held_in other xs d vs cs).sight) stays
+        ∙ ap (λ (vs : List Variable). Fine (held_in other xs d vs cs).slots) stays
 
     pub number_held : IsHeld other xs ns vs d cs
     number_held = subst (λ (vs : List Variable). IsHeld other xs ns vs d cs) stays

@@ -80,10 +80,10 @@ count_kept k s t e =
 
 pub kinds_stay : KindsStay
 kinds_stay old new h = record {
-  numbers = λ n x e. nth_kept kinds.Number old.sight new.sight n x h.sight e;
-  arrays = λ n x e. nth_kept kinds.Array old.sight new.sight n x h.sight e;
-  stacks = λ n x e. nth_kept kinds.Stack old.sight new.sight n x h.sight e;
-  as_many_numbers = count_kept kinds.Number old.sight new.sight h.sight;
-  as_many_arrays = count_kept kinds.Array old.sight new.sight h.sight;
-  as_many_stacks = count_kept kinds.Stack old.sight new.sight h.sight;
+  numbers = λ n x e. nth_kept kinds.Number old.slots new.slots n x h.slots e;
+  arrays = λ n x e. nth_kept kinds.Array old.slots new.slots n x h.slots e;
+  stacks = λ n x e. nth_kept kinds.Stack old.slots new.slots n x h.slots e;
+  as_many_numbers = count_kept kinds.Number old.slots new.slots h.slots;
+  as_many_arrays = count_kept kinds.Array old.slots new.slots h.slots;
+  as_many_stacks = count_kept kinds.Stack old.slots new.slots h.slots;
 }

@@ -86,7 +86,7 @@ first_is (x ∷ l) = refl
 
 -- ---- the stack of a name
 
-module _ (pool : Holdings) (xs : List Name) (ns : List ℕ) (vs : List Variable) (d : ℕ) (cs : List Call) (h : IsHeld pool xs ns vs d cs) (H : StoreState) (view : held_in pool xs d vs cs ≡ H) (k : ℕ) (x : Name) (l : List ℤ) (e : IsNumbered H.names k x) (f : look x H.sight ≡ Fine (Stk l)) where
+module _ (pool : Holdings) (xs : List Name) (ns : List ℕ) (vs : List Variable) (d : ℕ) (cs : List Call) (h : IsHeld pool xs ns vs d cs) (H : StoreState) (view : held_in pool xs d vs cs ≡ H) (k : ℕ) (x : Name) (l : List ℤ) (e : IsNumbered H.names k x) (f : look x H.slots ≡ Fine (Stk l)) where
   pub has_stack : (i : ℕ) × IsStackOf ns vs k i
   has_stack =
       let p = has_place pool xs ns vs d cs h H view k x (Stk l) e f in
@@ -122,11 +122,11 @@ module _ (pool : Holdings) (xs : List Name) (ns : List ℕ) (vs : List Variable)
       shape : cleared_val (val_at other s.0 s.1.value) ≡ cleared_val (Stk l)
       shape = ap (λ u. cleared_val (val_at other s.0 u)) s.4
 
-      pub stack_written : write x (Stk (list_of after i)) H.sight ≡ Fine (held_in other xs d vs cs).sight
+      pub stack_written : write x (Stk (list_of after i)) H.slots ≡ Fine (held_in other xs d vs cs).slots
       stack_written =
-          ap (λ u. write x (val_at other s.0 u) H.sight) (sym s.4)
+          ap (λ u. write x (val_at other s.0 u) H.slots) (sym s.4)
           ∙ set_written pool xs ns vs d cs h H view k x (Stk l) s.0 s.1 e f s.2 (read_back vs s.0 s.1 s.3) other others s.1.value
-          ∙ ap (λ (vs : List Variable). Fine (held_in other xs d vs cs).sight) stays
+          ∙ ap (λ (vs : List Variable). Fine (held_in other xs d vs cs).slots) stays
 
       pub stack_held : IsHeld other xs ns vs d cs
       stack_held = subst (λ (vs : List Variable). IsHeld other xs ns vs d cs) stays

@@ -79,7 +79,7 @@ pub record Found (ns : List ℕ) (vs : List Variable) (H : StoreState) (k : Kind
   pub number : ℕ
   pub value : Val
   pub named : IsNumbered H.names number x
-  pub seen : look x H.sight ≡ Fine value
+  pub seen : look x H.slots ≡ Fine value
   pub kind : is_of k value ≡ true
   pub place : IsPlaceOf ns vs number p
 
@@ -123,20 +123,20 @@ module _ (pool : Holdings) (xs : List Name) (ns : List ℕ) (vs : List Variable)
   abbrev pairs : Variable → Name × Val
   pairs = pair_of xs (value_at pool vs)
 
-  listed_is : listed H.sight ≡ map pairs us
-  listed_is = ap (λ (h : StoreState). listed h.sight) (sym view) ∙ listed_all pool xs ns vs d cs h
+  listed_is : listed H.slots ≡ map pairs us
+  listed_is = ap (λ (h : StoreState). listed h.slots) (sym view) ∙ listed_all pool xs ns vs d cs h
 
   before : (k : Kind) → length_in k (lengths_before cs) ≡ length (of_kind k ms (take first ms))
   before k = told_before k ms cs sorted.placed counted
 
   -- how many are in sight
-  pub count_is : (k : Kind) → length_in k (lengths_before cs) + count_of k (listed H.sight) ≡ length (list_of k s)
+  pub count_is : (k : Kind) → length_in k (lengths_before cs) + count_of k (listed H.slots) ≡ length (list_of k s)
   count_is k =
       let all : of_kind k ms ms ≡ of_kind k ms (take first ms) ++ of_kind k ms (drop first ms) = ap (of_kind k ms) (sym (take-append-drop first ms)) ∙ kind_both k ms (take first ms) (drop first ms) in
-      let here : count_of k (listed H.sight) ≡ length (of_kind k ms (drop first ms)) = ap (count_of k) listed_is ∙ counts pool xs vs k us ∙ ap (λ l. length (of_kind k ms l)) (sym (drop-map mark_of first vs)) in
+      let here : count_of k (listed H.slots) ≡ length (of_kind k ms (drop first ms)) = ap (count_of k) listed_is ∙ counts pool xs vs k us ∙ ap (λ l. length (of_kind k ms l)) (sym (drop-map mark_of first vs)) in
       omega (arith, before k, here, ap length (sorted.lists k), ap length all, length-append (of_kind k ms (take first ms)) (of_kind k ms (drop first ms)))
 
-  module _ (k : Kind) (n : ℕ) (x : Name) (nth : IsNth k H.sight n x) where
+  module _ (k : Kind) (n : ℕ) (x : Name) (nth : IsNth k H.slots n x) where
     at : (v : Variable) × (slice_get us nth.index ≡ Some v) × (pairs v ≡ (x, nth.value))
     at = unmapped pairs us nth.index (x, nth.value) (ap (λ l. slice_get l nth.index) (sym listed_is) ∙ nth.entry)
 
@@ -165,8 +165,8 @@ module _ (pool : Holdings) (xs : List Name) (ns : List ℕ) (vs : List Variable)
     nth_named : IsNumbered H.names at.0.name x
     nth_named = ap (λ (h : StoreState). slice_get h.names at.0.name) (sym view) ∙ mine
 
-    nth_look : look x H.sight ≡ Fine nth.value
-    nth_look = ap (λ (h : StoreState). look x h.sight) (sym view) ∙ look_found (value_at pool vs) x at.0.place (all_of (here (bounds xs [] vs) (length vs) cs)) in_level ∙ ap Fine valued
+    nth_look : look x H.slots ≡ Fine nth.value
+    nth_look = ap (λ (h : StoreState). look x h.slots) (sym view) ∙ look_found (value_at pool vs) x at.0.place (all_of (here (bounds xs [] vs) (length vs) cs)) in_level ∙ ap Fine valued
 
     nth_place : IsPlaceOf ns vs at.0.name at.0.place
     nth_place = has_place_of xs ns vs (laid_of pool xs ns vs d cs h) at.0.name x at.0.place mine (in_row x at.0.place (bounds xs [] vs) (length vs) cs in_level)

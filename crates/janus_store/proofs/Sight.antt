@@ -101,10 +101,10 @@ module _ (pool : Holdings) (xs : List Name) (ns : List ℕ) (vs : List Variable)
       by [] = refl
       by (c ∷ cs) = refl
 
-  pub sight_long : size_of (held_in pool xs d vs cs).sight + sight_start cs ≡ length vs
+  pub sight_long : size_of (held_in pool xs d vs cs).slots + sight_start cs ≡ length vs
   sight_long = omega (arith, start_is, size_seen (value_at pool vs) [] (all_of level), level_long (length vs) level is_level)
 
-  sight_is : (held_in pool xs d vs cs).sight ≡ seen (value_at pool vs) [] (bounds xs [] (drop (sight_start cs) vs))
+  sight_is : (held_in pool xs d vs cs).slots ≡ seen (value_at pool vs) [] (bounds xs [] (drop (sight_start cs) vs))
   sight_is = ap (seen (value_at pool vs) []) (level_names xs vs cs h.nested)
 
   -- the value of a variable in sight is at the place of one
@@ -114,10 +114,10 @@ module _ (pool : Holdings) (xs : List Name) (ns : List ℕ) (vs : List Variable)
       (subst (AllBelow (length vs)) (level_names xs vs cs h.nested) (all_below (length vs) level is_level))
       (drop_nth (sight_start cs) i vs ∙ e)
 
-  pub listed_all : listed (held_in pool xs d vs cs).sight ≡ map (pair_of xs (value_at pool vs)) (drop (sight_start cs) vs)
+  pub listed_all : listed (held_in pool xs d vs cs).slots ≡ map (pair_of xs (value_at pool vs)) (drop (sight_start cs) vs)
   listed_all = ap listed sight_is ∙ listed_bounds xs (value_at pool vs) [] (drop (sight_start cs) vs)
 
-  pub listed_in_sight : (i : ℕ) (v w : Variable) → slice_get vs (sight_start cs + i) ≡ Some v → slice_get vs v.place ≡ Some w → slice_get (listed (held_in pool xs d vs cs).sight) i ≡ Some (name_among xs v, val_at pool v.place w.value)
+  pub listed_in_sight : (i : ℕ) (v w : Variable) → slice_get vs (sight_start cs + i) ≡ Some v → slice_get vs v.place ≡ Some w → slice_get (listed (held_in pool xs d vs cs).slots) i ≡ Some (name_among xs v, val_at pool v.place w.value)
   listed_in_sight i v w e f =
       ap (λ l. slice_get l i) listed_all
       ∙ slice_get-map (pair_of xs (value_at pool vs)) (drop (sight_start cs) vs) i v (drop_nth (sight_start cs) i vs ∙ e)

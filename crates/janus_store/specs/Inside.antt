@@ -5,7 +5,7 @@ use Rattle.janus_meaning.specs.Limit.{live_stack_limit, parameter_limit}
 use Rattle.janus_meaning.specs.Syntax.{Name}
 use Rattle.cell_pool.specs.Chains.{times}
 use Rattle.janus_names.specs.Numbers.{HaveOneNumber}
-use Rattle.janus_store.specs.StoreState.{StoreState, Caller, local_limit, call_limit, bound_limit, params_bound, live_stacks, values_held, slots_below}
+use Rattle.janus_store.specs.StoreState.{StoreState, state_of, Caller, local_limit, call_limit, bound_limit, params_bound, live_stacks, values_held, slots_below}
 use Rattle.janus_store.specs.Bounds.{Bound, Level, seen, all_of, callers_of, AreNested}
 use Rattle.janus_store.specs.Places.{marks_of, lengths_before, AreSorted, AreCounted}
 use Rattle.janus_store.specs.Plain.{Plain}
@@ -61,13 +61,9 @@ outermost n [] = n
 outermost n (c ∷ cs) = outermost c.start cs
 
 abbrev pub held_in : Holdings → List Name → ℕ → List Variable → List Call → StoreState
-held_in held xs d vs cs = record {
-  sight = seen (value_at held vs) [] (all_of (here (bounds xs [] vs) (length vs) cs));
-  declared = d;
-  texts = held.texts;
-  names = xs;
-  callers = callers_of (value_at held vs) (here (bounds xs [] vs) (length vs) cs).params (around (bounds xs [] vs) (length vs) cs);
-}
+held_in held xs d vs cs = state_of
+    (seen (value_at held vs) [] (all_of (here (bounds xs [] vs) (length vs) cs))) d held.texts xs
+    (callers_of (value_at held vs) (here (bounds xs [] vs) (length vs) cs).params (around (bounds xs [] vs) (length vs) cs))
 
 -- what a store has beside its variables
 abbrev pub holdings : {L : Type 0} → Inside L → Holdings

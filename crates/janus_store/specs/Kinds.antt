@@ -63,24 +63,24 @@ pub record IsNth (k : Kind) (s : Store) (n : ℕ) (x : Name) : Type 0 where
 
 -- x is the name of the n-th number in sight, and is not hidden
 abbrev pub IsNumberInSight : StoreState → ℕ → Name → Type 0
-IsNumberInSight h n x = IsNth kinds.Number h.sight n x
+IsNumberInSight h n x = IsNth kinds.Number h.slots n x
 
 -- x is the name of the n-th array in sight, and is not hidden
 abbrev pub IsArrayInSight : StoreState → ℕ → Name → Type 0
-IsArrayInSight h n x = IsNth kinds.Array h.sight n x
+IsArrayInSight h n x = IsNth kinds.Array h.slots n x
 
 -- x is the name of the n-th stack in sight, and is not hidden
 abbrev pub IsStackInSight : StoreState → ℕ → Name → Type 0
-IsStackInSight h n x = IsNth kinds.Stack h.sight n x
+IsStackInSight h n x = IsNth kinds.Stack h.slots n x
 
 -- how many names in sight have a number
 abbrev pub count_numbers : StoreState → ℕ
-count_numbers h = count_of kinds.Number (listed h.sight)
+count_numbers h = count_of kinds.Number (listed h.slots)
 
 -- how many names in sight have an array
 abbrev pub count_arrays : StoreState → ℕ
-count_arrays h = count_of kinds.Array (listed h.sight)
+count_arrays h = count_of kinds.Array (listed h.slots)
 
 -- how many names in sight have a stack
 abbrev pub count_stacks : StoreState → ℕ
-count_stacks h = count_of kinds.Stack (listed h.sight)
+count_stacks h = count_of kinds.Stack (listed h.slots)

@@ -11,8 +11,8 @@ ghost use Rattle.janus_meaning.specs.Value.{first, is_none};
 ghost use Rattle.janus_meaning.specs.World.{size_of, listed, stacks_in, stacks_with};
 ghost use Rattle.janus_names.specs.Numbers.{GoOn, IsUnmet, HaveOneNumber};
 ghost use Rattle.janus_slots.specs.Slots.{slot, names_in, in_slots};
-ghost use Rattle.janus_store.specs.StoreState.{IsName, IsWhole, IsInSight, HasLocal, HasLocalRoom, shown_store, live_stacks, empty_state, Declares};
-ghost use Rattle.janus_store.specs.StoreState.{values_held, KeepsSight, IsLike, AreKnown, AreSlots, declared_store, opened, with_sight};
+ghost use Rattle.janus_store.specs.StoreState.{IsName, IsWhole, IsInSight, HasLocal, HasLocalRoom, shown_store, live_stacks, empty_state, state_of, Declares};
+ghost use Rattle.janus_store.specs.StoreState.{values_held, KeepsSight, IsLike, AreKnown, AreSlots, declared_store, opened, with_slots};
 ghost use Rattle.janus_store.specs.Calls.{AreNamed, CanLend, HasCallRoom, HasParametersAlone, IsEntered, IsLeft};
 ghost use Rattle.janus_store.specs.Values.{first_of, val_in, number_in, shown, found, read_or};
 ghost use Rattle.janus_store.specs.Stores.{IsFirstOnTop, IsNumber, IsArray, IsStack, IsHeldStack, HasElementAt, rest_of, write};
@@ -157,11 +157,12 @@ impl<L: Ledger> Store<L> {
         ensures slots { AreSlots self.now.names }
         ensures many { length self.now.texts ≡ self.now.declared }
         ensures one_text { HaveOneNumber self.now.texts }
+        ensures sight { self.now.sight ≡ shown_store self.now }
         ensures shown { names_in (shown_store self.now) ≡ reverse self.now.texts }
         ensures unmet { (x : Name) → look x (shown_store self.now) ≡ Bad Broken → IsUnmet self.now.texts x }
         ensures slotted { in_slots (shown_store self.now) ≡ declared_store self.now }
         ensures declared { in_slots (declared_store self.now) ≡ declared_store self.now }
-        ensures whole { self.now.declared ≡ size_of self.now.sight → self.now.callers ≡ [] → IsWhole self.now }
+        ensures whole { self.now.declared ≡ size_of self.now.slots → self.now.callers ≡ [] → IsWhole self.now }
     {
         let _declared = self.declared;
     }
@@ -194,16 +195,16 @@ impl<L: Ledger> Store<L> {
 
     /// How many names are in sight: outside of calls the declared ones, in a call its parameters, and the locals that are open there.
     pub fn sight_len(&self) -> usize
-        ensures { result ≡ size_of self.now.sight }
+        ensures { result ≡ size_of self.now.slots }
     {
         self.variables.len() - sight_start(&self.calls)
     }
 
     /// The i-th name in sight, the oldest being 0: its number, and its value.
     pub fn sight_entry(&self, i: usize) -> (usize, ValueView<'_>)
-        requires { i < size_of self.now.sight }
+        requires { i < size_of self.now.slots }
         ensures met { result.0 < length self.now.names }
-        ensures entry { slice_get (listed self.now.sight) i ≡ Some (slice_index_or self.now.names result.0 [], shown result.1) }
+        ensures entry { slice_get (listed self.now.slots) i ≡ Some (slice_index_or self.now.names result.0 [], shown result.1) }
     {
         let variable = &self.variables[sight_start(&self.calls) + i];
         let place = variable.place;
@@ -218,7 +219,7 @@ impl<L: Ledger> Store<L> {
     /// The number of the name of a number; none where it is an array or a stack.
     pub fn get(&self, name: usize) -> Option<i32>
         requires { IsInSight self.now name }
-        ensures { (x : Name) → IsName self.now name x → read_or Broken result ≡ and_then (look x self.now.sight) number }
+        ensures { (x : Name) → IsName self.now name x → read_or Broken result ≡ and_then (look x self.now.slots) number }
     {
         let at = place(&self.newest, &self.variables, name);
         self.variables[at].value.number(beside(&self.numbers, at))
@@ -226,8 +227,8 @@ impl<L: Ledger> Store<L> {
 
     /// The element at an index of the array of a number; none where the index is out of its range.
     pub fn element(&self, name: usize, index: i32) -> Option<i32>
-        requires { (x : Name) × IsName self.now name x × IsArray (look x self.now.sight) }
-        ensures { (x : Name) (l : List ℤ) → IsName self.now name x → look x self.now.sight ≡ Fine (Arr l) → read_or IndexRange result ≡ element l index }
+        requires { (x : Name) × IsName self.now name x × IsArray (look x self.now.slots) }
+        ensures { (x : Name) (l : List ℤ) → IsName self.now name x → look x self.now.slots ≡ Fine (Arr l) → read_or IndexRange result ≡ element l index }
     {
         self.variables[place(&self.newest, &self.variables, name)]
             .value
@@ -236,16 +237,16 @@ impl<L: Ledger> Store<L> {
 
     /// The value on top of the stack of a number; none where the stack is empty.
     pub fn top(&self, name: usize) -> Option<i32>
-        requires { (x : Name) × IsName self.now name x × IsStack (look x self.now.sight) }
-        ensures { (x : Name) (l : List ℤ) → IsName self.now name x → look x self.now.sight ≡ Fine (Stk l) → read_or TopEmpty result ≡ first l }
+        requires { (x : Name) × IsName self.now name x × IsStack (look x self.now.slots) }
+        ensures { (x : Name) (l : List ℤ) → IsName self.now name x → look x self.now.slots ≡ Fine (Stk l) → read_or TopEmpty result ≡ first l }
     {
         self.stacks.top(stack(&self.newest, &self.variables, name))
     }
 
     /// How many values the stack of a number has.
     pub fn length(&self, name: usize) -> usize
-        requires { (x : Name) × IsName self.now name x × IsStack (look x self.now.sight) }
-        ensures { (x : Name) (l : List ℤ) → IsName self.now name x → look x self.now.sight ≡ Fine (Stk l) → result ≡ length l }
+        requires { (x : Name) × IsName self.now name x × IsStack (look x self.now.slots) }
+        ensures { (x : Name) (l : List ℤ) → IsName self.now name x → look x self.now.slots ≡ Fine (Stk l) → result ≡ length l }
     {
         self.stacks
             .length(stack(&self.newest, &self.variables, name))
@@ -253,8 +254,8 @@ impl<L: Ledger> Store<L> {
 
     /// Whether the stack of a number has no value.
     pub fn is_empty(&self, name: usize) -> bool
-        requires { (x : Name) × IsName self.now name x × IsStack (look x self.now.sight) }
-        ensures { (x : Name) (l : List ℤ) → IsName self.now name x → look x self.now.sight ≡ Fine (Stk l) → result ≡ is_none l }
+        requires { (x : Name) × IsName self.now name x × IsStack (look x self.now.slots) }
+        ensures { (x : Name) (l : List ℤ) → IsName self.now name x → look x self.now.slots ≡ Fine (Stk l) → result ≡ is_none l }
     {
         self.length(name) == 0
     }
@@ -325,7 +326,7 @@ impl<L: Ledger> Store<L> {
     pub fn declare_stack(&mut self, name: &str) -> Result<(), AllocError>
         requires absent { IsUnmet self.old.texts name.now }
         requires whole { IsWhole self.old }
-        requires room { stacks_in self.old.sight < live_stack_limit }
+        requires room { stacks_in self.old.slots < live_stack_limit }
         ensures ok { OnOk result (Declares self.old self.new name.now (Stk [])) }
         ensures err { OnErr result (KeepsSight self.old self.new) }
         ensures one_number { HaveOneNumber self.new.names }
@@ -337,7 +338,7 @@ impl<L: Ledger> Store<L> {
     fn add(&mut self, name: &str, declared: Declared) -> Result<(), AllocError>
         requires absent { IsUnmet self.old.texts name.now }
         requires whole { IsWhole self.old }
-        requires room { first_of declared ≡ Stk [] → stacks_in self.old.sight < live_stack_limit }
+        requires room { first_of declared ≡ Stk [] → stacks_in self.old.slots < live_stack_limit }
         ensures ok { OnOk result (Declares self.old self.new name.now (first_of declared)) }
         ensures err { OnErr result (KeepsSight self.old self.new) }
         ensures one_number { HaveOneNumber self.new.names }
@@ -363,15 +364,14 @@ impl<L: Ledger> Store<L> {
 
     /// Takes the newest name away with its text, which has the value that it was declared with. No local and no call is open.
     pub fn retire(&mut self)
-        requires first { IsFirstOnTop self.old.sight }
+        requires first { IsFirstOnTop self.old.slots }
         requires whole { IsWhole self.old }
-        ensures { self.new ≡ record {
-          sight = rest_of self.old.sight;
-          declared = self.old.declared - 1;
-          texts = take (self.old.declared - 1) self.old.texts;
-          names = self.old.names;
-          callers = [];
-        } }
+        ensures { self.new ≡ state_of
+          (rest_of self.old.slots)
+          (self.old.declared - 1)
+          (take (self.old.declared - 1) self.old.texts)
+          self.old.names
+          [] }
     {
         let Variable { value, .. } = remove_own(
             &mut self.newest,
@@ -403,8 +403,8 @@ impl<L: Ledger> Store<L> {
     /// Closes the newest local, a number, and gives it.
     pub fn leave_local(&mut self) -> i32
         requires local { HasLocal self.old }
-        requires number { (x : Name) × (n : ℤ) × (r : Values) × (self.old.sight ≡ Slot x (Num n) r) }
-        ensures left { (x : Name) (n : ℤ) (r : Values) → self.old.sight ≡ Slot x (Num n) r → (result ≡ n) × (self.new ≡ with_sight r self.old) }
+        requires number { (x : Name) × (n : ℤ) × (r : Values) × (self.old.slots ≡ Slot x (Num n) r) }
+        ensures left { (x : Name) (n : ℤ) (r : Values) → self.old.slots ≡ Slot x (Num n) r → (result ≡ n) × (self.new ≡ with_slots r self.old) }
         ensures room { HasLocalRoom self.new }
     {
         let _variable = remove_own(&mut self.newest, &mut self.variables, &mut self.places);
@@ -435,8 +435,8 @@ impl<L: Ledger> Store<L> {
     /// Closes the newest local, an empty stack.
     pub fn leave_local_stack(&mut self)
         requires local { HasLocal self.old }
-        requires empty { (x : Name) × (r : Values) × (self.old.sight ≡ Slot x (Stk []) r) }
-        ensures { (x : Name) (r : Values) → self.old.sight ≡ Slot x (Stk []) r → self.new ≡ with_sight r self.old }
+        requires empty { (x : Name) × (r : Values) × (self.old.slots ≡ Slot x (Stk []) r) }
+        ensures { (x : Name) (r : Values) → self.old.slots ≡ Slot x (Stk []) r → self.new ≡ with_slots r self.old }
     {
         let Variable { value, .. } = remove_own(
             &mut self.newest,
@@ -452,7 +452,7 @@ impl<L: Ledger> Store<L> {
     pub fn bind(&mut self, params: &[usize], args: &[usize])
         requires count { length params.now ≡ length args.now }
         requires named { (ps : List Name) × AreNamed self.old.names params.now ps }
-        requires found { (xs : List Name) × AreNamed self.old.names args.now xs × CanLend xs self.old.sight }
+        requires found { (xs : List Name) × AreNamed self.old.names args.now xs × CanLend xs self.old.slots }
         requires room { HasCallRoom self.old (length args.now) }
         ensures { (ps xs : List Name) → AreNamed self.old.names params.now ps → AreNamed self.old.names args.now xs → IsEntered ps xs self.old self.new }
     {
@@ -494,8 +494,8 @@ impl<L: Ledger> Store<L> {
 
     /// Another number for the name of a number.
     pub fn set(&mut self, name: usize, number: i32, writes: &mut Writes<L>)
-        requires { (x : Name) × IsName self.old name x × IsNumber (look x self.old.sight) }
-        ensures written { (x : Name) → IsName self.old name x → write x (Num number) self.old.sight ≡ Fine self.new.sight }
+        requires { (x : Name) × IsName self.old name x × IsNumber (look x self.old.slots) }
+        ensures written { (x : Name) → IsName self.old name x → write x (Num number) self.old.slots ≡ Fine self.new.slots }
         ensures shape { IsLike self.old self.new }
         ensures counted { writes.new ≡ writes.old + 1 }
     {
@@ -506,9 +506,9 @@ impl<L: Ledger> Store<L> {
 
     /// Another number for an element of the array of a number, at an index within its range.
     pub fn set_element(&mut self, name: usize, index: i32, number: i32, writes: &mut Writes<L>)
-        requires { (x : Name) × IsName self.old name x × HasElementAt (look x self.old.sight) index }
-        ensures written { (x : Name) (l : List ℤ) → IsName self.old name x → look x self.old.sight ≡ Fine (Arr l) →
-            write x (Arr (set_element l index number)) self.old.sight ≡ Fine self.new.sight }
+        requires { (x : Name) × IsName self.old name x × HasElementAt (look x self.old.slots) index }
+        ensures written { (x : Name) (l : List ℤ) → IsName self.old name x → look x self.old.slots ≡ Fine (Arr l) →
+            write x (Arr (set_element l index number)) self.old.slots ≡ Fine self.new.slots }
         ensures shape { IsLike self.old self.new }
         ensures counted { writes.new ≡ writes.old + 1 }
     {
@@ -519,10 +519,10 @@ impl<L: Ledger> Store<L> {
 
     /// One number more, on top of the stack of a number, where all live stacks together hold fewer than 262,144 values.
     pub fn push(&mut self, name: usize, number: i32, writes: &mut Writes<L>)
-        requires stack { (x : Name) × IsName self.old name x × IsStack (look x self.old.sight) }
+        requires stack { (x : Name) × IsName self.old name x × IsStack (look x self.old.slots) }
         requires room { values_held self.old < value_limit }
-        ensures written { (x : Name) (l : List ℤ) → IsName self.old name x → look x self.old.sight ≡ Fine (Stk l) →
-            write x (Stk (number ∷ l)) self.old.sight ≡ Fine self.new.sight }
+        ensures written { (x : Name) (l : List ℤ) → IsName self.old name x → look x self.old.slots ≡ Fine (Stk l) →
+            write x (Stk (number ∷ l)) self.old.slots ≡ Fine self.new.slots }
         ensures shape { IsLike self.old self.new }
         ensures counted { writes.new ≡ writes.old + 1 }
     {
@@ -533,10 +533,10 @@ impl<L: Ledger> Store<L> {
 
     /// Takes the number from the top of the stack of a number, which isn't empty.
     pub fn pop(&mut self, name: usize, writes: &mut Writes<L>) -> i32
-        requires { (x : Name) × IsName self.old name x × IsHeldStack (look x self.old.sight) }
-        ensures top { (x : Name) (n : ℤ) (l : List ℤ) → IsName self.old name x → look x self.old.sight ≡ Fine (Stk (n ∷ l)) → result ≡ n }
-        ensures written { (x : Name) (n : ℤ) (l : List ℤ) → IsName self.old name x → look x self.old.sight ≡ Fine (Stk (n ∷ l)) →
-            write x (Stk l) self.old.sight ≡ Fine self.new.sight }
+        requires { (x : Name) × IsName self.old name x × IsHeldStack (look x self.old.slots) }
+        ensures top { (x : Name) (n : ℤ) (l : List ℤ) → IsName self.old name x → look x self.old.slots ≡ Fine (Stk (n ∷ l)) → result ≡ n }
+        ensures written { (x : Name) (n : ℤ) (l : List ℤ) → IsName self.old name x → look x self.old.slots ≡ Fine (Stk (n ∷ l)) →
+            write x (Stk l) self.old.slots ≡ Fine self.new.slots }
         ensures shape { IsLike self.old self.new }
         ensures counted { writes.new ≡ writes.old + 1 }
     {
@@ -570,7 +570,7 @@ impl<L: Ledger> Store<L> {
     #[inline(always)]
     pub fn number_at(&self, k: usize) -> i32
         requires { (x : Name) × IsNumberInSight self.now k x }
-        ensures { (x : Name) → IsNumberInSight self.now k x → look x self.now.sight ≡ Fine (Num result) }
+        ensures { (x : Name) → IsNumberInSight self.now k x → look x self.now.slots ≡ Fine (Num result) }
     {
         let place = nth(self.places.numbers(), self.in_front.numbers, k);
         beside(&self.numbers, place)
@@ -580,7 +580,7 @@ impl<L: Ledger> Store<L> {
     #[inline(always)]
     pub fn element_at(&self, k: usize, index: i32) -> Option<i32>
         requires { (x : Name) × IsArrayInSight self.now k x }
-        ensures { (x : Name) (l : List ℤ) → IsArrayInSight self.now k x → look x self.now.sight ≡ Fine (Arr l) → read_or IndexRange result ≡ element l index }
+        ensures { (x : Name) (l : List ℤ) → IsArrayInSight self.now k x → look x self.now.slots ≡ Fine (Arr l) → read_or IndexRange result ≡ element l index }
     {
         let place = nth(self.places.arrays(), self.in_front.arrays, k);
         self.variables[place].value.element(index)
@@ -590,7 +590,7 @@ impl<L: Ledger> Store<L> {
     #[inline(always)]
     pub fn top_at(&self, k: usize) -> Option<i32>
         requires { (x : Name) × IsStackInSight self.now k x }
-        ensures { (x : Name) (l : List ℤ) → IsStackInSight self.now k x → look x self.now.sight ≡ Fine (Stk l) → read_or TopEmpty result ≡ first l }
+        ensures { (x : Name) (l : List ℤ) → IsStackInSight self.now k x → look x self.now.slots ≡ Fine (Stk l) → read_or TopEmpty result ≡ first l }
     {
         let place = nth(self.places.stacks(), self.in_front.stacks, k);
         self.stacks.top(self.variables[place].value.stack())
@@ -600,7 +600,7 @@ impl<L: Ledger> Store<L> {
     #[inline(always)]
     pub fn is_empty_at(&self, k: usize) -> bool
         requires { (x : Name) × IsStackInSight self.now k x }
-        ensures { (x : Name) (l : List ℤ) → IsStackInSight self.now k x → look x self.now.sight ≡ Fine (Stk l) → result ≡ is_none l }
+        ensures { (x : Name) (l : List ℤ) → IsStackInSight self.now k x → look x self.now.slots ≡ Fine (Stk l) → result ≡ is_none l }
     {
         let place = nth(self.places.stacks(), self.in_front.stacks, k);
         self.stacks.length(self.variables[place].value.stack()) == 0
@@ -610,7 +610,7 @@ impl<L: Ledger> Store<L> {
     #[inline(always)]
     pub fn set_number_at(&mut self, k: usize, number: i32, writes: &mut Writes<L>)
         requires { (x : Name) × IsNumberInSight self.old k x }
-        ensures written { (x : Name) → IsNumberInSight self.old k x → write x (Num number) self.old.sight ≡ Fine self.new.sight }
+        ensures written { (x : Name) → IsNumberInSight self.old k x → write x (Num number) self.old.slots ≡ Fine self.new.slots }
         ensures shape { IsLike self.old self.new }
         ensures counted { writes.new ≡ writes.old + 1 }
     {
@@ -621,8 +621,8 @@ impl<L: Ledger> Store<L> {
     #[inline(always)]
     pub fn replace_number_at(&mut self, k: usize, number: i32, writes: &mut Writes<L>) -> i32
         requires { (x : Name) × IsNumberInSight self.old k x }
-        ensures former { (x : Name) → IsNumberInSight self.old k x → look x self.old.sight ≡ Fine (Num result) }
-        ensures written { (x : Name) → IsNumberInSight self.old k x → write x (Num number) self.old.sight ≡ Fine self.new.sight }
+        ensures former { (x : Name) → IsNumberInSight self.old k x → look x self.old.slots ≡ Fine (Num result) }
+        ensures written { (x : Name) → IsNumberInSight self.old k x → write x (Num number) self.old.slots ≡ Fine self.new.slots }
         ensures shape { IsLike self.old self.new }
         ensures counted { writes.new ≡ writes.old + 1 }
     {
@@ -636,9 +636,9 @@ impl<L: Ledger> Store<L> {
     /// Another number for an element of the k-th array in sight that is not hidden, at an index within its range.
     #[inline(always)]
     pub fn set_element_at(&mut self, k: usize, index: i32, number: i32, writes: &mut Writes<L>)
-        requires { (x : Name) × IsArrayInSight self.old k x × HasElementAt (look x self.old.sight) index }
-        ensures written { (x : Name) (l : List ℤ) → IsArrayInSight self.old k x → look x self.old.sight ≡ Fine (Arr l) →
-            write x (Arr (set_element l index number)) self.old.sight ≡ Fine self.new.sight }
+        requires { (x : Name) × IsArrayInSight self.old k x × HasElementAt (look x self.old.slots) index }
+        ensures written { (x : Name) (l : List ℤ) → IsArrayInSight self.old k x → look x self.old.slots ≡ Fine (Arr l) →
+            write x (Arr (set_element l index number)) self.old.slots ≡ Fine self.new.slots }
         ensures shape { IsLike self.old self.new }
         ensures counted { writes.new ≡ writes.old + 1 }
     {
@@ -650,10 +650,10 @@ impl<L: Ledger> Store<L> {
     /// One number more, on top of the k-th stack in sight that is not hidden, where all live stacks together hold fewer than 262,144 values.
     #[inline(always)]
     pub fn push_at(&mut self, k: usize, number: i32, writes: &mut Writes<L>)
-        requires stack { (x : Name) × IsStackInSight self.old k x × IsStack (look x self.old.sight) }
+        requires stack { (x : Name) × IsStackInSight self.old k x × IsStack (look x self.old.slots) }
         requires room { values_held self.old < value_limit }
-        ensures written { (x : Name) (l : List ℤ) → IsStackInSight self.old k x → look x self.old.sight ≡ Fine (Stk l) →
-            write x (Stk (number ∷ l)) self.old.sight ≡ Fine self.new.sight }
+        ensures written { (x : Name) (l : List ℤ) → IsStackInSight self.old k x → look x self.old.slots ≡ Fine (Stk l) →
+            write x (Stk (number ∷ l)) self.old.slots ≡ Fine self.new.slots }
         ensures shape { IsLike self.old self.new }
         ensures counted { writes.new ≡ writes.old + 1 }
     {
@@ -666,10 +666,10 @@ impl<L: Ledger> Store<L> {
     /// Takes the number from the top of the k-th stack in sight that is not hidden, which isn't empty.
     #[inline(always)]
     pub fn pop_at(&mut self, k: usize, writes: &mut Writes<L>) -> i32
-        requires { (x : Name) × IsStackInSight self.old k x × IsHeldStack (look x self.old.sight) }
-        ensures top { (x : Name) (n : ℤ) (l : List ℤ) → IsStackInSight self.old k x → look x self.old.sight ≡ Fine (Stk (n ∷ l)) → result ≡ n }
-        ensures written { (x : Name) (n : ℤ) (l : List ℤ) → IsStackInSight self.old k x → look x self.old.sight ≡ Fine (Stk (n ∷ l)) →
-            write x (Stk l) self.old.sight ≡ Fine self.new.sight }
+        requires { (x : Name) × IsStackInSight self.old k x × IsHeldStack (look x self.old.slots) }
+        ensures top { (x : Name) (n : ℤ) (l : List ℤ) → IsStackInSight self.old k x → look x self.old.slots ≡ Fine (Stk (n ∷ l)) → result ≡ n }
+        ensures written { (x : Name) (n : ℤ) (l : List ℤ) → IsStackInSight self.old k x → look x self.old.slots ≡ Fine (Stk (n ∷ l)) →
+            write x (Stk l) self.old.slots ≡ Fine self.new.slots }
         ensures shape { IsLike self.old self.new }
         ensures counted { writes.new ≡ writes.old + 1 }
     {

@@ -34,10 +34,10 @@ count_names [] = refl
 count_names (e ∷ g) = ap suc (count_names g)
 
 -- where no local and no call is open, what is shown is in sight, each name in its slot
-sight_shown : (h : StoreState) → IsWhole h → in_slots (shown_store h) ≡ declared_store h → in_slots (shown_store h) ≡ h.sight
+sight_shown : (h : StoreState) → IsWhole h → in_slots (shown_store h) ≡ declared_store h → in_slots (shown_store h) ≡ h.slots
 sight_shown h whole slotted =
     slotted
-    ∙ subst (λ (cs : List Caller). declared_store (record h { callers = cs }) ≡ h.sight) (sym whole.callers) (oldest_whole h.declared h.sight (sym whole.declared))
+    ∙ subst (λ (cs : List Caller). declared_store (record h { callers = cs }) ≡ h.slots) (sym whole.callers) (oldest_whole h.declared h.slots (sym whole.declared))
 
 -- ---- there is a slot for each name in sight
 
@@ -67,16 +67,16 @@ wide xs (Slot x v s) slots values met =
     let less : n < length xs = below xs n at.0 slots at.1 in
     omega (arith, less)
 
-wide_enough : (h : StoreState) → AreKnown h → AreSlots h.names → HaveValues (shown_store h) → in_slots (shown_store h) ≡ h.sight → length (names_in (shown_store h)) ≤ length h.names
+wide_enough : (h : StoreState) → AreKnown h → AreSlots h.names → HaveValues (shown_store h) → in_slots (shown_store h) ≡ h.slots → length (names_in (shown_store h)) ≤ length h.names
 wide_enough h known slots values sight =
     wide h.names (shown_store h) slots values (λ x v found. known x v (ap (look x) (sym sight) ∙ found))
 
 -- ---- the value
 
 -- in what is in sight an expression with slots has the value that it has, with names, in what is shown
-value_shown : (h : StoreState) (g : List Name) (e with_slots : Exp) → in_slots (shown_store h) ≡ h.sight → g ≡ names_in (shown_store h) → with_slots ≡ exp_in g e → value with_slots h.sight ≡ value e (shown_store h)
+value_shown : (h : StoreState) (g : List Name) (e with_slots : Exp) → in_slots (shown_store h) ≡ h.slots → g ≡ names_in (shown_store h) → with_slots ≡ exp_in g e → value with_slots h.slots ≡ value e (shown_store h)
 value_shown h g e with_slots sight names is =
-    ap (λ (t : Exp). value t h.sight) (is ∙ ap (λ (l : List Name). exp_in l e) names)
+    ap (λ (t : Exp). value t h.slots) (is ∙ ap (λ (l : List Name). exp_in l e) names)
     ∙ ap (value (exp_in (names_in (shown_store h)) e)) (sym sight)
     ∙ value_in (shown_store h) (names_in (shown_store h)) refl e
 
@@ -87,7 +87,7 @@ pub is_slotted : (h : StoreState) (env none : Known) (e : Exp) (flat : FlatExp) 
     ((xs : List Name) → length (over (shape_in env.names) none.names) ≤ length xs → HasNumbers xs flat) → IsSlotted h flat e
 is_slotted h env none e flat whole values known slots slotted shape nothing reads enough =
     let g : Shape = over (shape_in env.names) none.names in
-    let sight : in_slots (shown_store h) ≡ h.sight = sight_shown h whole slotted in
+    let sight : in_slots (shown_store h) ≡ h.slots = sight_shown h whole slotted in
     let all : g ≡ shape_of (shown_store h) = ap (over (shape_in env.names)) nothing ∙ shape in
     let names : names_of g ≡ names_in (shown_store h) = ap (λ (g : Shape). names_of g) all ∙ shown_names (shown_store h) values in
     let as_many : length g ≡ length (names_in (shown_store h)) = sym (count_names g) ∙ ap (λ (l : List Name). length l) names in

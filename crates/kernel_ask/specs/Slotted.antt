@@ -10,4 +10,4 @@ use Rattle.janus_store.specs.StoreState.{StoreState, shown_store}
 -- each of its numbers is that of a slot, and over what is in sight it has the value that the tree has over what is shown
 pub record IsSlotted (h : StoreState) (flat : FlatExp) (e : Exp) : Type 0 where
   pub numbered : HasNumbers h.names flat
-  pub same : value (exp_of h.names flat) h.sight ≡ value e (shown_store h)
+  pub same : value (exp_of h.names flat) h.slots ≡ value e (shown_store h)

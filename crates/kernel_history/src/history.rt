@@ -185,9 +185,10 @@ impl<L: Ledger> History<L> {
     /// The store between two jobs: it has the names and values of the position's world, and no local is open.
     pub fn store(&self) -> &Store<L>
         requires { self.now.job ≡ Idle }
-        ensures shown { shown_store result.now ≡ (here self.now.past).store }
+        ensures sight { result.now.sight ≡ (here self.now.past).store }
         ensures whole { IsWhole result.now }
     {
+        self.runner.store.slots_law();
         &self.runner.store
     }
 

@@ -59,16 +59,16 @@ bodies_of_more xs n bodies (i ∷ stack) (p ∷ ps) h = ((h.0.0, get_taken n bod
 -- ---- what stays
 
 pub keeps_same : (h : StoreState) → KeepsSight h h
-keeps_same h = record { sight = refl; declared = refl; texts = refl; names = no_more h.names; callers = refl }
+keeps_same h = record { slots = refl; declared = refl; texts = refl; names = no_more h.names; callers = refl }
 
 -- ---- what is shown
 
 pub shown_kept : (old new : StoreState) → KeepsSight old new → shown_store new ≡ shown_store old
 shown_kept old new k =
-    ap (λ (xs : List Name). under_names (reverse xs) (oldest new.declared (given_back new.sight new.callers))) k.texts
-    ∙ ap (λ (n : ℕ). under_names (reverse old.texts) (oldest n (given_back new.sight new.callers))) k.declared
-    ∙ ap (λ (s : Store). under_names (reverse old.texts) (oldest old.declared (given_back s new.callers))) k.sight
-    ∙ ap (λ (cs : List Caller). under_names (reverse old.texts) (oldest old.declared (given_back old.sight cs))) k.callers
+    ap (λ (xs : List Name). under_names (reverse xs) (oldest new.declared (given_back new.slots new.callers))) k.texts
+    ∙ ap (λ (n : ℕ). under_names (reverse old.texts) (oldest n (given_back new.slots new.callers))) k.declared
+    ∙ ap (λ (s : Store). under_names (reverse old.texts) (oldest old.declared (given_back s new.callers))) k.slots
+    ∙ ap (λ (cs : List Caller). under_names (reverse old.texts) (oldest old.declared (given_back old.slots cs))) k.callers
 
 -- there may be more slots, more names of procedures, and more bodies behind the others
 pub shows_more : {L : Type 0} (old new : Runner L) (shown : ShownWorld) → KeepsSight old.store new.store → AreSlots new.store.names → GoOn old.entries new.entries →
@@ -91,7 +91,7 @@ shows_more old new shown sight slots onward kept still is =
             (subst (λ (bs : List LinkedProcedure). AreBodies new.store.names bs shown.bodies (procedures_in old.entries ps)) (sym kept) grown.bodies));
       };
     } in
-    (shows, record { declared = sight.declared ∙ is.1.declared ∙ sym (ap size_of sight.sight); callers = sight.callers ∙ is.1.callers; slots = ap in_slots sight.sight ∙ is.1.slots ∙ sym sight.sight })
+    (shows, record { declared = sight.declared ∙ is.1.declared ∙ sym (ap size_of sight.slots); callers = sight.callers ∙ is.1.callers; slots = ap in_slots sight.slots ∙ is.1.slots ∙ sym sight.slots })
 
 -- the same bodies are all of them
 pub all_kept : (old new : List LinkedProcedure) → new ≡ old → take (length old) new ≡ old

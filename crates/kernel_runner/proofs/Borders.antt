@@ -63,7 +63,7 @@ none_in_front : (fs us : List Frame) → fs ++ us ≡ [] → fs ≡ []
 none_in_front [] us e = refl
 none_in_front (f ∷ fs) us e = cc
 
-pub agrees_before : (k : ℕ) (t : Procedures) (b : Book) (c : Cursor) (h : StoreState) (blk : Blk) → IsWhole h → stacks_in h.sight ≡ k → IsStanding t b c h → place_of h.names t b c h.callers ≡ BeforeBlock blk [] → Agrees k t b c h
+pub agrees_before : (k : ℕ) (t : Procedures) (b : Book) (c : Cursor) (h : StoreState) (blk : Blk) → IsWhole h → stacks_in h.slots ≡ k → IsStanding t b c h → place_of h.names t b c h.callers ≡ BeforeBlock blk [] → Agrees k t b c h
 agrees_before k t b c h blk whole stacks standing place =
     let frames : frames_of (place_in h.names t b c) ++ outside_of h.names t b c h.callers ≡ [] = sym (frames_within (outside_of h.names t b c h.callers) (place_in h.names t b c)) ∙ ap frames_of place in
     let none : frames_of (place_in h.names t b c) ≡ [] = none_in_front (frames_of (place_in h.names t b c)) (outside_of h.names t b c h.callers) frames in
@@ -139,7 +139,7 @@ entered_here old new program from can becomes kept entries defined before =
     let ready : IsReady new.store.names es (names_in start.store) new.procedures program = ready_still old new (names_in start.store) program becomes.names entries kept can.ready in
     let meant : block_in new.store.names program.book Forward ≡ block_of es cell.block start = ready.meant es (no_more es) in
     let place : place_of new.store.names new.procedures program.book new.cursor new.store.callers ≡ BeforeBlock (block_of es cell.block start) [] = before.place new.procedures new.store.callers ∙ ap (λ (b : Blk). BeforeBlock b []) meant in
-    let stacks : stacks_in new.store.sight ≡ stacks_in start.store = ap stacks_in is.sight ∙ slots_stacks start.store in
+    let stacks : stacks_in new.store.slots ≡ stacks_in start.store = ap stacks_in is.slots ∙ slots_stacks start.store in
     let listed : AreListed es start.procedures = subst (λ (es : List Name). AreListed es start.procedures) (sym entries) (listed_more old.entries cell.procedures from.world.procedures can.named can.is.0.listed) in
     let grown : Define new.store.names old.procedures from.bodies (procedures_in es from.world.procedures) =
     subst (λ (es : List Name). Define new.store.names old.procedures from.bodies (procedures_in es from.world.procedures)) (sym entries)
@@ -154,7 +154,7 @@ entered_here old new program from can becomes kept entries defined before =
       counted = before.counts.0;
       turned = before.counts.1;
       standing = standing;
-      declared = becomes.whole.declared ∙ ap size_of is.sight ∙ slots_size start.store;
+      declared = becomes.whole.declared ∙ ap size_of is.slots ∙ slots_size start.store;
       texts = is.texts;
       agrees = agrees_before (stacks_in start.store) new.procedures program.book new.cursor new.store (block_of es cell.block start) becomes.whole stacks standing place;
       ready = ready;
@@ -165,7 +165,7 @@ entered_here old new program from can becomes kept entries defined before =
           (all_defined new.store.names old.procedures new.procedures program.first (procedures_in es (procedures_of program)) from.bodies (procedures_in es from.world.procedures) kept grown bodies
           (subst (λ (n : ℕ). AreDefined new.procedures (onto program.first n from.bodies)) (sym as_many) defined)));
       faces = (
-        ap (λ (r : Store). To (BeforeBlock (block_of es cell.block start) []) r) (sym is.sight) ∙ ap (λ (p : Place). To p new.store.sight) (sym place),
+        ap (λ (r : Store). To (BeforeBlock (block_of es cell.block start) []) r) (sym is.slots) ∙ ap (λ (p : Place). To p new.store.slots) (sym place),
         never_broken es cell from.world can.sound can.formed listed,
       );
     }
@@ -193,7 +193,7 @@ entered_inverse_here old new program from can store procedures entries before =
     let turned : block_in new.store.names program.book Inverse ≡ block_of es inverse start =
     books_turn new.store.names program.book ∙ ap inverse_block (ready.meant es (no_more es)) ∙ slots_stay.inverse es (names_in start.store) cell.block in
     let place : place_of new.store.names new.procedures program.book new.cursor new.store.callers ≡ BeforeBlock (block_of es inverse start) [] = before.place new.procedures new.store.callers ∙ ap (λ (b : Blk). BeforeBlock b []) turned in
-    let stacks : stacks_in new.store.sight ≡ stacks_in start.store = ap stacks_in is.sight ∙ slots_stacks start.store in
+    let stacks : stacks_in new.store.slots ≡ stacks_in start.store = ap stacks_in is.slots ∙ slots_stacks start.store in
     record {
       cell = refl;
       good = back.good;
@@ -201,7 +201,7 @@ entered_inverse_here old new program from can store procedures entries before =
       counted = before.counts.0;
       turned = before.counts.1;
       standing = standing;
-      declared = now.declared ∙ ap size_of is.sight ∙ slots_size start.store;
+      declared = now.declared ∙ ap size_of is.slots ∙ slots_size start.store;
       texts = is.texts;
       agrees = agrees_before (stacks_in start.store) new.procedures program.book new.cursor new.store (block_of es inverse start) now stacks standing place;
       ready = ready;
@@ -210,7 +210,7 @@ entered_inverse_here old new program from can store procedures entries before =
       defined = subst (λ (h : StoreState). Define h.names new.procedures from.bodies (procedures_in es start.procedures)) (sym store)
           (subst (λ (t : Procedures). Define old.store.names t from.bodies (procedures_in es start.procedures)) (sym procedures)
           (subst (λ (es : List Name). Define old.store.names old.procedures from.bodies (procedures_in es start.procedures)) (sym entries) can.is.0.defined));
-      faces = (ap (λ (r : Store). To (BeforeBlock (block_of es inverse start) []) r) (sym is.sight) ∙ ap (λ (p : Place). To p new.store.sight) (sym place), never);
+      faces = (ap (λ (r : Store). To (BeforeBlock (block_of es inverse start) []) r) (sym is.slots) ∙ ap (λ (p : Place). To p new.store.slots) (sym place), never);
     }
 
 -- ---- leaving a cell

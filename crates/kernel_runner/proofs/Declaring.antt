@@ -15,7 +15,7 @@ use Rattle.janus_syntax.specs.View.{plain_declaration}
 use Rattle.janus_syntax.specs.declared.tree.Declaration as Tree
 use Rattle.janus_names.specs.Numbers.{IsUnmet}
 use Rattle.janus_slots.specs.Slots.{slot, names_in, in_slots, under_names}
-use Rattle.janus_store.specs.StoreState.{StoreState, IsWhole, AreSlots, Declares, KeepsSight, declared_store, shown_store}
+use Rattle.janus_store.specs.StoreState.{StoreState, state_of, IsWhole, AreSlots, Declares, KeepsSight, declared_store, shown_store}
 use Rattle.janus_store.specs.Stores.{IsFirstOnTop, rest_of}
 use Rattle.kernel_runner.specs.Declarable.{HasStackRoom}
 use Rattle.kernel_runner.specs.Runner.{Becomes}
@@ -231,15 +231,15 @@ becomes_then a b c s t h k = record { shown = k.shown; texts = k.texts; whole = 
 -- one name more is declared
 pub becomes_declared : (old new : StoreState) (x : Name) (v : Val) → IsWhole old → length old.texts ≡ old.declared → AreSlots new.names → Declares old new x v → Becomes old new (Slot x v (shown_store old))
 becomes_declared old new x v whole many slots h =
-    let depth : length (names_in old.sight) ≡ old.declared = names_size old.sight ∙ sym whole.declared in
+    let depth : length (names_in old.slots) ≡ old.declared = names_size old.slots ∙ sym whole.declared in
     let now : IsWhole new = record {
-      declared = h.declared ∙ ap suc whole.declared ∙ sym (ap size_of h.sight);
+      declared = h.declared ∙ ap suc whole.declared ∙ sym (ap size_of h.slots);
       callers = h.callers ∙ whole.callers;
-      slots = ap in_slots h.sight ∙ ap (λ (n : ℕ). Slot (slot n) v (in_slots old.sight)) depth ∙ ap (Slot (slot old.declared) v) whole.slots ∙ sym h.sight;
+      slots = ap in_slots h.slots ∙ ap (λ (n : ℕ). Slot (slot n) v (in_slots old.slots)) depth ∙ ap (Slot (slot old.declared) v) whole.slots ∙ sym h.slots;
     } in
     record {
-      shown = ap (under_names (reverse new.texts)) (all_declared new now ∙ h.sight)
-          ∙ ap (λ (g : List Name). under_names g (Slot (slot old.declared) v old.sight)) (ap reverse h.texts ∙ reverse-append old.texts (x ∷ []))
+      shown = ap (under_names (reverse new.texts)) (all_declared new now ∙ h.slots)
+          ∙ ap (λ (g : List Name). under_names g (Slot (slot old.declared) v old.slots)) (ap reverse h.texts ∙ reverse-append old.texts (x ∷ []))
           ∙ ap (λ (s : Store). Slot x v (under_names (reverse old.texts) s)) (sym (all_declared old whole));
       texts = ap length h.texts ∙ length-append old.texts (x ∷ []) ∙ (let e : length old.texts + 1 ≡ suc (length old.texts) = omega arith in e) ∙ ap suc many ∙ sym h.declared;
       whole = now;
@@ -251,12 +251,12 @@ becomes_declared old new x v whole many slots h =
 pub becomes_kept : (old new : StoreState) → IsWhole old → length old.texts ≡ old.declared → AreSlots new.names → KeepsSight old new → Becomes old new (shown_store old)
 becomes_kept old new whole many slots h =
     let now : IsWhole new = record {
-      declared = h.declared ∙ whole.declared ∙ sym (ap size_of h.sight);
+      declared = h.declared ∙ whole.declared ∙ sym (ap size_of h.slots);
       callers = h.callers ∙ whole.callers;
-      slots = ap in_slots h.sight ∙ whole.slots ∙ sym h.sight;
+      slots = ap in_slots h.slots ∙ whole.slots ∙ sym h.slots;
     } in
     record {
-      shown = ap (under_names (reverse new.texts)) (all_declared new now ∙ h.sight ∙ sym (all_declared old whole)) ∙ ap (λ (g : List Name). under_names (reverse g) (declared_store old)) h.texts;
+      shown = ap (under_names (reverse new.texts)) (all_declared new now ∙ h.slots ∙ sym (all_declared old whole)) ∙ ap (λ (g : List Name). under_names (reverse g) (declared_store old)) h.texts;
       texts = ap length h.texts ∙ many ∙ sym h.declared;
       whole = now;
       names = h.names;
@@ -293,14 +293,14 @@ last_taken (y ∷ ys) =
 
 -- the newest name is taken away
 pub becomes_rest : (old new : StoreState) → IsWhole old → length old.texts ≡ old.declared → AreSlots old.names →
-    new ≡ record { sight = rest_of old.sight; declared = old.declared - 1; texts = take (old.declared - 1) old.texts; names = old.names; callers = [] } → Becomes old new (rest_of (shown_store old))
+    new ≡ state_of (rest_of old.slots) (old.declared - 1) (take (old.declared - 1) old.texts) old.names [] → Becomes old new (rest_of (shown_store old))
 becomes_rest old new whole many slots e =
-    let rest : StoreState = record { sight = rest_of old.sight; declared = old.declared - 1; texts = take (old.declared - 1) old.texts; names = old.names; callers = [] } in
-    let now : IsWhole rest = record { declared = ap (λ (n : ℕ). n - 1) whole.declared ∙ sym (rest_size old.sight); callers = refl; slots = rest_slots old.sight ∙ ap rest_of whole.slots } in
+    let rest : StoreState = state_of (rest_of old.slots) (old.declared - 1) (take (old.declared - 1) old.texts) old.names [] in
+    let now : IsWhole rest = record { declared = ap (λ (n : ℕ). n - 1) whole.declared ∙ sym (rest_size old.slots); callers = refl; slots = rest_slots old.slots ∙ ap rest_of whole.slots } in
     let texts : reverse (take (old.declared - 1) old.texts) ≡ rest_names (reverse old.texts) =
     ap (λ (n : ℕ). reverse (take (n - 1) old.texts)) (sym many) ∙ subst (λ (l : List Name). reverse (take (length l - 1) l) ≡ rest_names (reverse old.texts)) (reverse-reverse old.texts) (last_taken (reverse old.texts)) in
     subst (λ (h : StoreState). Becomes old h (rest_of (shown_store old))) (sym e) (record {
-      shown = ap (under_names (reverse rest.texts)) (all_declared rest now) ∙ ap (λ (g : List Name). under_names g (rest_of old.sight)) texts ∙ rest_under (reverse old.texts) old.sight
+      shown = ap (under_names (reverse rest.texts)) (all_declared rest now) ∙ ap (λ (g : List Name). under_names g (rest_of old.slots)) texts ∙ rest_under (reverse old.texts) old.slots
           ∙ ap (λ (s : Store). rest_of (under_names (reverse old.texts) s)) (sym (all_declared old whole));
       texts = length-take-le (old.declared - 1) old.texts (omega (arith, many));
       whole = now;

@@ -64,7 +64,7 @@ module _ {L : Type 0} (runner : Runner L) (program : Program) (at : Place) where
   shown_at : (back : Bool) → Stands runner program at back → shown_store runner.store ≡ under_names (names_in (start_at at).store) (oldest (size_of (start_at at).store) seen)
   shown_at back h =
       let size = size_of (start_at at).store in
-      let declared : declared_store runner.store ≡ oldest size seen = ap (λ (n : ℕ). oldest n (given_back runner.store.sight runner.store.callers)) h.declared ∙ ap (oldest size) (sym (seen_is (procedures_in runner.entries (start_at at).procedures) runner.procedures program.book runner.cursor runner.store h.standing)) in
+      let declared : declared_store runner.store ≡ oldest size seen = ap (λ (n : ℕ). oldest n (given_back runner.store.slots runner.store.callers)) h.declared ∙ ap (oldest size) (sym (seen_is (procedures_in runner.entries (start_at at).procedures) runner.procedures program.book runner.cursor runner.store h.standing)) in
       ap (under_names (reverse runner.store.texts)) declared ∙ ap (λ (g : List Name). under_names g (oldest size seen)) (ap reverse h.texts ∙ reverse-reverse (names_in (start_at at).store))
 
   -- the world shown is that after the counted steps
@@ -88,7 +88,7 @@ module _ {L : Type 0} (runner : Runner L) (program : Program) (at : Place) where
   record EndsIn : Type 0 where
     store : Store
     ran : BlockExec (around (start_at at)) (Block (run_block at.code)) (start_at at).store at.count store
-    slots : in_slots store ≡ runner.store.sight
+    slots : in_slots store ≡ runner.store.slots
     names : names_in store ≡ names_in (start_at at).store
 
   ends_in : Stands runner program at false → has_ended runner.cursor ≡ true → EndsIn
@@ -96,12 +96,12 @@ module _ {L : Type 0} (runner : Runner L) (program : Program) (at : Place) where
       let same = the_same runner program at false at.count h in
       let run = (run_means runner program at h).ended ended in
       let g = names_in (start_at at).store in
-      let end : Store = under_names g runner.store.sight in
-      let ran = same.ended runner.store.sight run in
-      let kept : in_slots end ≡ runner.store.sight = same.kept runner.store.sight run in
+      let end : Store = under_names g runner.store.slots in
+      let ran = same.ended runner.store.slots run in
+      let kept : in_slots end ≡ runner.store.slots = same.kept runner.store.slots run in
       let size : size_of end ≡ size_of (start_at at).store = same_size end (start_at at).store (keeps_shape _ _ _ _ _ ran) in
-      let many : length g ≡ size_of runner.store.sight = names_size (start_at at).store ∙ sym size ∙ sym (slots_size end) ∙ ap size_of kept in
-      record { store = end; ran = ran; slots = kept; names = under_named g runner.store.sight many }
+      let many : length g ≡ size_of runner.store.slots = names_size (start_at at).store ∙ sym size ∙ sym (slots_size end) ∙ ap size_of kept in
+      record { store = end; ran = ran; slots = kept; names = under_named g runner.store.slots many }
 
   pub whole_at_end : Stands runner program at false → has_ended runner.cursor ≡ true → IsWhole runner.store
   whole_at_end h ended =
@@ -116,7 +116,7 @@ module _ {L : Type 0} (runner : Runner L) (program : Program) (at : Place) where
   unfolding CodeExec
   at_end h ended =
       let end = ends_in h ended in
-      let shows : shown_store runner.store ≡ end.store = shown_whole runner.store end.store (whole_at_end h ended) (record { sight = sym end.slots; texts = h.texts ∙ ap reverse (sym end.names) }) in
+      let shows : shown_store runner.store ≡ end.store = shown_whole runner.store end.store (whole_at_end h ended) (record { slots = sym end.slots; texts = h.texts ∙ ap reverse (sym end.names) }) in
       record {
         limit = h.few;
         ran = subst (λ (s : Store). BlockExec (around (start_at at)) (Block (run_block at.code)) (start_at at).store at.count s) (sym shows) end.ran;
@@ -187,7 +187,7 @@ module _ {L : Type 0} (runner : Runner L) (program : Program) (at : Place) where
 pub whole_at_start : {L : Type 0} (runner : Runner L) (program : Program) (at : Place) → at.count ≡ 0 → Stands runner program at true → IsWhole runner.store
 whole_at_start runner program at none h =
     let means = back_means runner program at h in
-    let start : runner.store.sight ≡ in_slots (start_at at).store = means.at_start none in
+    let start : runner.store.slots ≡ in_slots (start_at at).store = means.at_start none in
     record {
       declared = h.declared ∙ sym (slots_size (start_at at).store) ∙ sym (ap size_of start);
       callers = ended_callers runner program at h.standing (means.begun.1 none);

@@ -83,28 +83,28 @@ under_own (Slot x v s) = ap (Slot x v) (under_own s)
 -- ---- what a store shows
 
 -- a store in which no local and no call is open has its declared names in sight
-pub all_declared : (h : StoreState) → IsWhole h → declared_store h ≡ h.sight
+pub all_declared : (h : StoreState) → IsWhole h → declared_store h ≡ h.slots
 all_declared h whole =
-    subst (λ (hs : List Caller). declared_store (record h { callers = hs }) ≡ h.sight) (sym whole.callers) (oldest_whole h.declared h.sight (sym whole.declared))
+    subst (λ (hs : List Caller). declared_store (record h { callers = hs }) ≡ h.slots) (sym whole.callers) (oldest_whole h.declared h.slots (sym whole.declared))
 
 -- of such a store what it shows tells what it has
 pub record IsStoreOf (h : StoreState) (s : Store) : Type 0 where
-  pub sight : h.sight ≡ in_slots s
+  pub slots : h.slots ≡ in_slots s
   pub texts : h.texts ≡ reverse (names_in s)
 
 pub whole_is : (h : StoreState) (s : Store) → IsWhole h → length h.texts ≡ h.declared → shown_store h ≡ s → IsStoreOf h s
 whole_is h s whole many shows =
-    let as_many : length (reverse h.texts) ≡ size_of h.sight = length-reverse h.texts ∙ many ∙ whole.declared in
-    let under : under_names (reverse h.texts) h.sight ≡ s = ap (under_names (reverse h.texts)) (sym (all_declared h whole)) ∙ shows in
+    let as_many : length (reverse h.texts) ≡ size_of h.slots = length-reverse h.texts ∙ many ∙ whole.declared in
+    let under : under_names (reverse h.texts) h.slots ≡ s = ap (under_names (reverse h.texts)) (sym (all_declared h whole)) ∙ shows in
     record {
-      sight = sym whole.slots ∙ sym (under_slots (reverse h.texts) h.sight as_many) ∙ ap in_slots under;
-      texts = sym (reverse-reverse h.texts) ∙ ap reverse (sym (under_named (reverse h.texts) h.sight as_many) ∙ ap names_in under);
+      slots = sym whole.slots ∙ sym (under_slots (reverse h.texts) h.slots as_many) ∙ ap in_slots under;
+      texts = sym (reverse-reverse h.texts) ∙ ap reverse (sym (under_named (reverse h.texts) h.slots as_many) ∙ ap names_in under);
     }
 
 -- and what it has, what it shows
 pub shown_whole : (h : StoreState) (s : Store) → IsWhole h → IsStoreOf h s → shown_store h ≡ s
 shown_whole h s whole is =
-    ap (under_names (reverse h.texts)) (all_declared h whole ∙ is.sight) ∙ ap (λ (g : List Name). under_names g (in_slots s)) (ap reverse is.texts ∙ reverse-reverse (names_in s)) ∙ under_own s
+    ap (under_names (reverse h.texts)) (all_declared h whole ∙ is.slots) ∙ ap (λ (g : List Name). under_names g (in_slots s)) (ap reverse is.texts ∙ reverse-reverse (names_in s)) ∙ under_own s
 
 -- ---- numbers of slots
 

@@ -196,7 +196,7 @@ fn declare_one<L: Ledger>(store: &mut Store<L>, declaration: &Declaration) -> Re
     requires absent { IsUnmet store.old.texts (declared_name (plain_declaration (declaration_view declaration.now))) }
     requires texts { length store.old.texts ≡ store.old.declared }
     requires whole { IsWhole store.old }
-    requires room { HasStackRoom (plain_declaration (declaration_view declaration.now)) store.old.sight }
+    requires room { HasStackRoom (plain_declaration (declaration_view declaration.now)) store.old.slots }
     ensures ok { OnOk result (Becomes store.old store.new (declared_one_in (plain_declaration (declaration_view declaration.now)) (shown_store store.old))) }
     ensures err { OnErr result (Becomes store.old store.new (shown_store store.old)) }
 {

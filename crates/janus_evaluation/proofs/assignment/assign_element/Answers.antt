@@ -14,18 +14,18 @@ use Rattle.janus_evaluation.proofs.assignment.assign_element.Goals as goal
 pub value-requires : goal.value-requires
 value-requires g c =
     let xs = c.args.store.now.names in
-    record { safe = λ h. c.requires.safe (index_bad (symbol_name xs c.args.name.now) (exp_of xs c.args.index.now) (update_of c.args.update) (exp_of xs c.args.exp.now) c.args.store.now.sight Broken c.requires.safe h); numbered = c.requires.index_placed }
+    record { safe = λ h. c.requires.safe (index_bad (symbol_name xs c.args.name.now) (exp_of xs c.args.index.now) (update_of c.args.update) (exp_of xs c.args.exp.now) c.args.store.now.slots Broken c.requires.safe h); numbered = c.requires.index_placed }
 
 pub returns-in-Err-clause-done : goal.returns-in-Err-clause-done
 returns-in-Err-clause-done g c =
     let xs = c.args.store.now.names in
-    (index_bad (symbol_name xs c.args.name.now) (exp_of xs c.args.index.now) (update_of c.args.update) (exp_of xs c.args.exp.now) c.args.store.now.sight (fault_of c.in-Err.fault) c.requires.safe (sym c.in-Err.ensures), refl)
+    (index_bad (symbol_name xs c.args.name.now) (exp_of xs c.args.index.now) (update_of c.args.update) (exp_of xs c.args.exp.now) c.args.store.now.slots (fault_of c.in-Err.fault) c.requires.safe (sym c.in-Err.ensures), refl)
 
 pub element-requires : goal.element-requires
 element-requires g c =
     let xs = c.args.store.now.names in
     let at = is_numbered xs c.args.name.now.number c.requires.at in
-    (symbol_name xs c.args.name.now, at, assigned_is_array (symbol_name xs c.args.name.now) (exp_of xs c.args.index.now) (update_of c.args.update) (exp_of xs c.args.exp.now) c.args.store.now.sight c.requires.safe)
+    (symbol_name xs c.args.name.now, at, assigned_is_array (symbol_name xs c.args.name.now) (exp_of xs c.args.index.now) (update_of c.args.update) (exp_of xs c.args.exp.now) c.args.store.now.slots c.requires.safe)
 
 pub returns-in_default-clause-done : goal.returns-in_default-clause-done
 returns-in_default-clause-done g c =
@@ -35,7 +35,7 @@ returns-in_default-clause-done g c =
     let i = exp_of xs c.args.index.now in
     let o = update_of c.args.update in
     let e = exp_of xs c.args.exp.now in
-    let s = c.args.store.now.sight in
+    let s = c.args.store.now.slots in
     let k : ℤ = c.in-Ok.index in
     let l = assigned_is_array a i o e s c.requires.safe in
     let z : to_z w32 (of_z w32 k) ≡ k = grind (arith, to_z-of_z) in
@@ -50,7 +50,7 @@ value-requires-2 g c =
     let i = exp_of xs c.args.index.now in
     let o = update_of c.args.update in
     let e = exp_of xs c.args.exp.now in
-    let s = c.args.store.now.sight in
+    let s = c.args.store.now.slots in
     let k : ℤ = c.in-Ok.index in
     let l = assigned_is_array a i o e s c.requires.safe in
     let z : to_z w32 (of_z w32 k) ≡ k = grind (arith, to_z-of_z) in
@@ -65,7 +65,7 @@ returns-in-Err-value-clause-done g c =
     let i = exp_of xs c.args.index.now in
     let o = update_of c.args.update in
     let e = exp_of xs c.args.exp.now in
-    let s = c.args.store.now.sight in
+    let s = c.args.store.now.slots in
     let k : ℤ = c.in-Ok.index in
     let l = assigned_is_array a i o e s c.requires.safe in
     let z : to_z w32 (of_z w32 k) ≡ k = grind (arith, to_z-of_z) in
@@ -80,7 +80,7 @@ set_element-requires g c =
     let i = exp_of xs c.args.index.now in
     let o = update_of c.args.update in
     let e = exp_of xs c.args.exp.now in
-    let s = c.args.store.now.sight in
+    let s = c.args.store.now.slots in
     let l = assigned_is_array a i o e s c.requires.safe in
     (a, at, (l.0, c.in-Some.old, l.1, sym (c.in-Some.ensures a l.0 at l.1)))
 
@@ -92,7 +92,7 @@ returns-clause-done g c =
     let i = exp_of xs c.args.index.now in
     let o = update_of c.args.update in
     let e = exp_of xs c.args.exp.now in
-    let s = c.args.store.now.sight in
+    let s = c.args.store.now.slots in
     let k : ℤ = c.in-Ok.index in
     let w : ℤ = c.in-Ok-value.operand in
     let old : ℤ = c.in-Some.old in
@@ -104,6 +104,6 @@ returns-clause-done g c =
     let m : ℤ = c.changed.result in
     let zc : to_z w32 (of_z w32 m) ≡ m = grind (arith, to_z-of_z) in
     let made : to_z w32 (of_z w32 c.changed.result) ≡ changed o old w = zc ∙ c.changed.ensures ∙ ap (λ v. changed o v (to_z w32 (of_z w32 w))) zo ∙ ap (changed o old) zw in
-    let written : write a (Arr (set_element l.0 k (changed o old w))) s ≡ Fine c.set_element.new.self.sight =
+    let written : write a (Arr (set_element l.0 k (changed o old w))) s ≡ Fine c.set_element.new.self.slots =
     ap (λ m. write a (Arr (set_element l.0 k m)) s) (sym made) ∙ ap (λ k. write a (Arr (set_element l.0 k (to_z w32 (of_z w32 c.changed.result)))) s) (sym zk) ∙ c.set_element.ensures.written a l.0 at l.1 in
-    element_fine a i o e s l.0 k old w c.set_element.new.self.sight c.requires.safe l.1 (sym c.in-Ok.ensures) some (sym c.in-Ok-value.ensures) written
+    element_fine a i o e s l.0 k old w c.set_element.new.self.slots c.requires.safe l.1 (sym c.in-Ok.ensures) some (sym c.in-Ok-value.ensures) written

@@ -27,7 +27,7 @@ operand-returns-in-Some g t c =
 pub computed-unreachable-requires : goal.computed-unreachable-requires
 computed-unreachable-requires g t c =
     let xs = c.args.store.now.names in
-    let s = c.args.store.now.sight in
+    let s = c.args.store.now.slots in
     let x = symbol_name xs c.in-Variable.name in
     let at = is_numbered xs c.in-Variable.name.number (subst (HasNumbers xs) c.in-Variable.is c.requires.numbered) in
     c.requires.safe (ap (λ e. value (exp_of xs e) s) c.in-Variable.is ∙ variable_is s x ∙ sym (c.in-None.ensures x at))
@@ -35,7 +35,7 @@ computed-unreachable-requires g t c =
 pub computed-get-requires : goal.computed-get-requires
 computed-get-requires g t c =
     let xs = c.args.store.now.names in
-    let s = c.args.store.now.sight in
+    let s = c.args.store.now.slots in
     let x = symbol_name xs c.in-Variable.name in
     let at = is_numbered xs c.in-Variable.name.number (subst (HasNumbers xs) c.in-Variable.is c.requires.numbered) in
     let n = is_number s x (λ q. c.requires.safe (ap (λ e. value (exp_of xs e) s) c.in-Variable.is ∙ q)) in
@@ -44,7 +44,7 @@ computed-get-requires g t c =
 pub computed-operand-requires : goal.computed-operand-requires
 computed-operand-requires g t c =
     let xs = c.args.store.now.names in
-    let s = c.args.store.now.sight in
+    let s = c.args.store.now.slots in
     let a = symbol_name xs c.in-Element.name in
     let i = exp_of xs c.in-Element.index.value in
     let safe : value (tree.At a i) s ≡ Bad Broken → ⊥ = λ q. c.requires.safe (ap (λ e. value (exp_of xs e) s) c.in-Element.is ∙ q) in
@@ -54,7 +54,7 @@ computed-operand-requires g t c =
 pub computed-element-requires : goal.computed-element-requires
 computed-element-requires g t c =
     let xs = c.args.store.now.names in
-    let s = c.args.store.now.sight in
+    let s = c.args.store.now.slots in
     let a = symbol_name xs c.in-Element.name in
     let i = exp_of xs c.in-Element.index.value in
     let safe : value (tree.At a i) s ≡ Bad Broken → ⊥ = λ q. c.requires.safe (ap (λ e. value (exp_of xs e) s) c.in-Element.is ∙ q) in
@@ -64,13 +64,13 @@ computed-element-requires g t c =
 pub computed-operand-requires-in-Negative : goal.computed-operand-requires-in-Negative
 computed-operand-requires-in-Negative g t c =
     let xs = c.args.store.now.names in
-    let s = c.args.store.now.sight in
+    let s = c.args.store.now.slots in
     λ κs sub. (omega (arith, c.decreases, ap exp_size c.in-Negative.is, ap exp_size c.deref-in-Negative.ensures), (sub, (λ h. c.requires.safe (ap (λ e. value (exp_of xs e) s) c.in-Negative.is ∙ negative_is s (exp_of xs c.in-Negative.positive.value) (Bad Broken) (ap (λ e. value (exp_of xs e) s) (sym c.deref-in-Negative.ensures) ∙ h)), subst (HasNumbers xs) (sym c.deref-in-Negative.ensures) (subst (HasNumbers xs) c.in-Negative.is c.requires.numbered))))
 
 pub computed-operand-requires-in-Binary : goal.computed-operand-requires-in-Binary
 computed-operand-requires-in-Binary g t c =
     let xs = c.args.store.now.names in
-    let s = c.args.store.now.sight in
+    let s = c.args.store.now.slots in
     let o = operator_of c.in-Binary.operator in
     let l = exp_of xs c.in-Binary.left.value in
     let r = exp_of xs c.in-Binary.right.value in
@@ -79,7 +79,7 @@ computed-operand-requires-in-Binary g t c =
 pub computed-operand-requires-in-Ok-operand-2 : goal.computed-operand-requires-in-Ok-operand-2
 computed-operand-requires-in-Ok-operand-2 g t c =
     let xs = c.args.store.now.names in
-    let s = c.args.store.now.sight in
+    let s = c.args.store.now.slots in
     let o = operator_of c.in-Binary.operator in
     let l = exp_of xs c.in-Binary.left.value in
     let r = exp_of xs c.in-Binary.right.value in
@@ -89,7 +89,7 @@ computed-operand-requires-in-Ok-operand-2 g t c =
 pub computed-operand-requires-in-And : goal.computed-operand-requires-in-And
 computed-operand-requires-in-And g t c =
     let xs = c.args.store.now.names in
-    let s = c.args.store.now.sight in
+    let s = c.args.store.now.slots in
     let l = exp_of xs c.in-And.left.value in
     let r = exp_of xs c.in-And.right.value in
     λ κs sub. (omega (arith, c.decreases, ap exp_size c.in-And.is, ap exp_size c.deref-in-And.ensures), (sub, (λ h. c.requires.safe (ap (λ e. value (exp_of xs e) s) c.in-And.is ∙ and_is s l r (Bad Broken) (ap (λ e. value (exp_of xs e) s) (sym c.deref-in-And.ensures) ∙ h)), subst (HasNumbers xs) (sym c.deref-in-And.ensures) (subst (HasNumbers xs) c.in-And.is c.requires.numbered).0)))
@@ -97,7 +97,7 @@ computed-operand-requires-in-And g t c =
 pub computed-operand-requires-then-holds : goal.computed-operand-requires-then-holds
 computed-operand-requires-then-holds g t c =
     let xs = c.args.store.now.names in
-    let s = c.args.store.now.sight in
+    let s = c.args.store.now.slots in
     let l = exp_of xs c.in-And.left.value in
     let r = exp_of xs c.in-And.right.value in
     let n : ℤ = c.in-Ok-operand-4.left in
@@ -109,7 +109,7 @@ computed-operand-requires-then-holds g t c =
 pub computed-operand-requires-in-Or : goal.computed-operand-requires-in-Or
 computed-operand-requires-in-Or g t c =
     let xs = c.args.store.now.names in
-    let s = c.args.store.now.sight in
+    let s = c.args.store.now.slots in
     let l = exp_of xs c.in-Or.left.value in
     let r = exp_of xs c.in-Or.right.value in
     λ κs sub. (omega (arith, c.decreases, ap exp_size c.in-Or.is, ap exp_size c.deref-in-Or.ensures), (sub, (λ h. c.requires.safe (ap (λ e. value (exp_of xs e) s) c.in-Or.is ∙ or_is s l r (Bad Broken) (ap (λ e. value (exp_of xs e) s) (sym c.deref-in-Or.ensures) ∙ h)), subst (HasNumbers xs) (sym c.deref-in-Or.ensures) (subst (HasNumbers xs) c.in-Or.is c.requires.numbered).0)))
@@ -117,7 +117,7 @@ computed-operand-requires-in-Or g t c =
 pub computed-operand-requires-else-holds-2 : goal.computed-operand-requires-else-holds-2
 computed-operand-requires-else-holds-2 g t c =
     let xs = c.args.store.now.names in
-    let s = c.args.store.now.sight in
+    let s = c.args.store.now.slots in
     let l = exp_of xs c.in-Or.left.value in
     let r = exp_of xs c.in-Or.right.value in
     let n : ℤ = c.in-Ok-operand-5.left in
@@ -133,12 +133,12 @@ computed-returns-in-Number g t c =
     let n : ℤ = c.cast_signed.result in
     let z : to_z w32 (of_z w32 n) ≡ n = grind (arith, to_z-of_z) in
     ap Fine (z ∙ c.cast_signed.ensures ∙ wrap_number c.in-Number.number (omega arith))
-    ∙ ap (λ e. value (exp_of xs e) c.args.store.now.sight) (sym c.in-Number.is)
+    ∙ ap (λ e. value (exp_of xs e) c.args.store.now.slots) (sym c.in-Number.is)
 
 pub computed-returns-in-Some : goal.computed-returns-in-Some
 computed-returns-in-Some g t c =
     let xs = c.args.store.now.names in
-    let s = c.args.store.now.sight in
+    let s = c.args.store.now.slots in
     let n : ℤ = c.in-Some.number in
     let z : to_z w32 (of_z w32 n) ≡ n = grind (arith, to_z-of_z) in
     let at = is_numbered xs c.in-Variable.name.number (subst (HasNumbers xs) c.in-Variable.is c.requires.numbered) in
@@ -147,7 +147,7 @@ computed-returns-in-Some g t c =
 pub computed-returns-in-Ok : goal.computed-returns-in-Ok
 computed-returns-in-Ok g t c =
     let xs = c.args.store.now.names in
-    let s = c.args.store.now.sight in
+    let s = c.args.store.now.slots in
     let a = symbol_name xs c.in-Element.name in
     let i = exp_of xs c.in-Element.index.value in
     let safe : value (tree.At a i) s ≡ Bad Broken → ⊥ = λ q. c.requires.safe (ap (λ e. value (exp_of xs e) s) c.in-Element.is ∙ q) in
@@ -162,7 +162,7 @@ computed-returns-in-Ok g t c =
 pub computed-returns-in-Err : goal.computed-returns-in-Err
 computed-returns-in-Err g t c =
     let xs = c.args.store.now.names in
-    let s = c.args.store.now.sight in
+    let s = c.args.store.now.slots in
     let a = symbol_name xs c.in-Element.name in
     let i = exp_of xs c.in-Element.index.value in
     let safe : value (tree.At a i) s ≡ Bad Broken → ⊥ = λ q. c.requires.safe (ap (λ e. value (exp_of xs e) s) c.in-Element.is ∙ q) in
@@ -172,7 +172,7 @@ computed-returns-in-Err g t c =
 pub computed-returns-in-Ok-operand : goal.computed-returns-in-Ok-operand
 computed-returns-in-Ok-operand g t c =
     let xs = c.args.store.now.names in
-    let s = c.args.store.now.sight in
+    let s = c.args.store.now.slots in
     let e = exp_of xs c.in-Negative.positive.value in
     let n : ℤ = c.in-Ok-operand.number in
     let z : to_z w32 (of_z w32 n) ≡ n = grind (arith, to_z-of_z) in
@@ -184,13 +184,13 @@ computed-returns-in-Ok-operand g t c =
 pub computed-returns-in-Err-operand : goal.computed-returns-in-Err-operand
 computed-returns-in-Err-operand g t c =
     let xs = c.args.store.now.names in
-    let s = c.args.store.now.sight in
+    let s = c.args.store.now.slots in
     sym (negative_is s (exp_of xs c.in-Negative.positive.value) (Bad (fault_of c.in-Err-operand.fault)) (sym (c.in-Err-operand.ensures ∙ ap (λ e. value (exp_of xs e) s) c.deref-in-Negative.ensures))) ∙ ap (λ e. value (exp_of xs e) s) (sym c.in-Negative.is)
 
 pub computed-returns-in-Ok-operand-3 : goal.computed-returns-in-Ok-operand-3
 computed-returns-in-Ok-operand-3 g t c =
     let xs = c.args.store.now.names in
-    let s = c.args.store.now.sight in
+    let s = c.args.store.now.slots in
     let o = operator_of c.in-Binary.operator in
     let l = exp_of xs c.in-Binary.left.value in
     let r = exp_of xs c.in-Binary.right.value in
@@ -205,7 +205,7 @@ computed-returns-in-Ok-operand-3 g t c =
 pub computed-returns-in-Err-operand-3 : goal.computed-returns-in-Err-operand-3
 computed-returns-in-Err-operand-3 g t c =
     let xs = c.args.store.now.names in
-    let s = c.args.store.now.sight in
+    let s = c.args.store.now.slots in
     let o = operator_of c.in-Binary.operator in
     let l = exp_of xs c.in-Binary.left.value in
     let r = exp_of xs c.in-Binary.right.value in
@@ -215,7 +215,7 @@ computed-returns-in-Err-operand-3 g t c =
 pub computed-returns-in-Err-operand-2 : goal.computed-returns-in-Err-operand-2
 computed-returns-in-Err-operand-2 g t c =
     let xs = c.args.store.now.names in
-    let s = c.args.store.now.sight in
+    let s = c.args.store.now.slots in
     let o = operator_of c.in-Binary.operator in
     let l = exp_of xs c.in-Binary.left.value in
     let r = exp_of xs c.in-Binary.right.value in
@@ -224,7 +224,7 @@ computed-returns-in-Err-operand-2 g t c =
 pub computed-returns-then-holds : goal.computed-returns-then-holds
 computed-returns-then-holds g t c =
     let xs = c.args.store.now.names in
-    let s = c.args.store.now.sight in
+    let s = c.args.store.now.slots in
     let l = exp_of xs c.in-And.left.value in
     let r = exp_of xs c.in-And.right.value in
     let n : ℤ = c.in-Ok-operand-4.left in
@@ -237,7 +237,7 @@ computed-returns-then-holds g t c =
 pub computed-returns-else-holds : goal.computed-returns-else-holds
 computed-returns-else-holds g t c =
     let xs = c.args.store.now.names in
-    let s = c.args.store.now.sight in
+    let s = c.args.store.now.slots in
     let l = exp_of xs c.in-And.left.value in
     let r = exp_of xs c.in-And.right.value in
     let n : ℤ = c.in-Ok-operand-4.left in
@@ -249,7 +249,7 @@ computed-returns-else-holds g t c =
 pub computed-returns-in-Err-operand-4 : goal.computed-returns-in-Err-operand-4
 computed-returns-in-Err-operand-4 g t c =
     let xs = c.args.store.now.names in
-    let s = c.args.store.now.sight in
+    let s = c.args.store.now.slots in
     let l = exp_of xs c.in-And.left.value in
     let r = exp_of xs c.in-And.right.value in
     sym (and_is s l r (Bad (fault_of c.in-Err-operand-4.fault)) (sym (c.in-Err-operand-4.ensures ∙ ap (λ e. value (exp_of xs e) s) c.deref-in-And.ensures))) ∙ ap (λ e. value (exp_of xs e) s) (sym c.in-And.is)
@@ -257,7 +257,7 @@ computed-returns-in-Err-operand-4 g t c =
 pub computed-returns-then-holds-2 : goal.computed-returns-then-holds-2
 computed-returns-then-holds-2 g t c =
     let xs = c.args.store.now.names in
-    let s = c.args.store.now.sight in
+    let s = c.args.store.now.slots in
     let l = exp_of xs c.in-Or.left.value in
     let r = exp_of xs c.in-Or.right.value in
     let n : ℤ = c.in-Ok-operand-5.left in
@@ -269,7 +269,7 @@ computed-returns-then-holds-2 g t c =
 pub computed-returns-else-holds-2 : goal.computed-returns-else-holds-2
 computed-returns-else-holds-2 g t c =
     let xs = c.args.store.now.names in
-    let s = c.args.store.now.sight in
+    let s = c.args.store.now.slots in
     let l = exp_of xs c.in-Or.left.value in
     let r = exp_of xs c.in-Or.right.value in
     let n : ℤ = c.in-Ok-operand-5.left in
@@ -282,7 +282,7 @@ computed-returns-else-holds-2 g t c =
 pub computed-returns-in-Err-operand-5 : goal.computed-returns-in-Err-operand-5
 computed-returns-in-Err-operand-5 g t c =
     let xs = c.args.store.now.names in
-    let s = c.args.store.now.sight in
+    let s = c.args.store.now.slots in
     let l = exp_of xs c.in-Or.left.value in
     let r = exp_of xs c.in-Or.right.value in
     sym (or_is s l r (Bad (fault_of c.in-Err-operand-5.fault)) (sym (c.in-Err-operand-5.ensures ∙ ap (λ e. value (exp_of xs e) s) c.deref-in-Or.ensures))) ∙ ap (λ e. value (exp_of xs e) s) (sym c.in-Or.is)
@@ -290,7 +290,7 @@ computed-returns-in-Err-operand-5 g t c =
 pub computed-is_empty-requires : goal.computed-is_empty-requires
 computed-is_empty-requires g t c =
     let xs = c.args.store.now.names in
-    let s = c.args.store.now.sight in
+    let s = c.args.store.now.slots in
     let x = symbol_name xs c.in-Empty.name in
     let at = is_numbered xs c.in-Empty.name.number (subst (HasNumbers xs) c.in-Empty.is c.requires.numbered) in
     (x, at, empty_is_stack s x (λ q. c.requires.safe (ap (λ e. value (exp_of xs e) s) c.in-Empty.is ∙ q)))
@@ -298,7 +298,7 @@ computed-is_empty-requires g t c =
 pub computed-returns-in-Empty : goal.computed-returns-in-Empty
 computed-returns-in-Empty g t c =
     let xs = c.args.store.now.names in
-    let s = c.args.store.now.sight in
+    let s = c.args.store.now.slots in
     let x = symbol_name xs c.in-Empty.name in
     let l = empty_is_stack s x (λ q. c.requires.safe (ap (λ e. value (exp_of xs e) s) c.in-Empty.is ∙ q)) in
     let at = is_numbered xs c.in-Empty.name.number (subst (HasNumbers xs) c.in-Empty.is c.requires.numbered) in
@@ -309,7 +309,7 @@ computed-returns-in-Empty g t c =
 pub computed-top-requires : goal.computed-top-requires
 computed-top-requires g t c =
     let xs = c.args.store.now.names in
-    let s = c.args.store.now.sight in
+    let s = c.args.store.now.slots in
     let x = symbol_name xs c.in-Top.name in
     let at = is_numbered xs c.in-Top.name.number (subst (HasNumbers xs) c.in-Top.is c.requires.numbered) in
     (x, at, top_is_stack s x (λ q. c.requires.safe (ap (λ e. value (exp_of xs e) s) c.in-Top.is ∙ q)))
@@ -317,7 +317,7 @@ computed-top-requires g t c =
 pub computed-returns-in-Top : goal.computed-returns-in-Top
 computed-returns-in-Top g t c =
     let xs = c.args.store.now.names in
-    let s = c.args.store.now.sight in
+    let s = c.args.store.now.slots in
     let x = symbol_name xs c.in-Top.name in
     let l = top_is_stack s x (λ q. c.requires.safe (ap (λ e. value (exp_of xs e) s) c.in-Top.is ∙ q)) in
     let at = is_numbered xs c.in-Top.name.number (subst (HasNumbers xs) c.in-Top.is c.requires.numbered) in

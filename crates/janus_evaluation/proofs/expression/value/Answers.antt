@@ -12,7 +12,7 @@ use Rattle.janus_evaluation.proofs.expression.value.Goals as goal
 pub leaf-requires : goal.leaf-requires
 leaf-requires g c =
     let xs = c.args.store.now.names in
-    let s = c.args.store.now.sight in
+    let s = c.args.store.now.slots in
     let o = operator_of c.in-Binary.operator in
     let l = exp_of xs c.in-Binary.left.value in
     let r = exp_of xs c.in-Binary.right.value in
@@ -21,7 +21,7 @@ leaf-requires g c =
 pub leaf-requires-in-Some : goal.leaf-requires-in-Some
 leaf-requires-in-Some g c =
     let xs = c.args.store.now.names in
-    let s = c.args.store.now.sight in
+    let s = c.args.store.now.slots in
     let o = operator_of c.in-Binary.operator in
     let l = exp_of xs c.in-Binary.left.value in
     let r = exp_of xs c.in-Binary.right.value in
@@ -31,7 +31,7 @@ leaf-requires-in-Some g c =
 pub returns-in-Some-leaf : goal.returns-in-Some-leaf
 returns-in-Some-leaf g c =
     let xs = c.args.store.now.names in
-    let s = c.args.store.now.sight in
+    let s = c.args.store.now.slots in
     let o = operator_of c.in-Binary.operator in
     let l = exp_of xs c.in-Binary.left.value in
     let r = exp_of xs c.in-Binary.right.value in

@@ -13,7 +13,7 @@ pub is_empty-requires : goal.is_empty-requires
 is_empty-requires g c =
     let xs = c.args.store.now.names in
     let x = symbol_name xs c.args.name.now in
-    let t = stack_on_top x c.args.store.now.sight c.requires.safe in
+    let t = stack_on_top x c.args.store.now.slots c.requires.safe in
     (x, is_numbered xs c.args.name.now.number c.requires.at, (t.values, t.there))
 
 pub returns-then-not-is_empty-clause-done : goal.returns-then-not-is_empty-clause-done
@@ -21,7 +21,7 @@ returns-then-not-is_empty-clause-done g c =
     let xs = c.args.store.now.names in
     let at = is_numbered xs c.args.name.now.number c.requires.at in
     let x = symbol_name xs c.args.name.now in
-    let t = stack_on_top x c.args.store.now.sight c.requires.safe in
+    let t = stack_on_top x c.args.store.now.slots c.requires.safe in
     let some = some_values t.values (sym (c.is_empty.ensures x t.values at t.there) ∙ c.if-not-is_empty.true) in
     (t.is ∙ ap (λ l. drop_stack_slot (Stk l) t.rest) some.2, refl)
 
@@ -30,7 +30,7 @@ leave_local_stack-requires-clause-empty g c =
     let xs = c.args.store.now.names in
     let at = is_numbered xs c.args.name.now.number c.requires.at in
     let x = symbol_name xs c.args.name.now in
-    let t = stack_on_top x c.args.store.now.sight c.requires.safe in
+    let t = stack_on_top x c.args.store.now.slots c.requires.safe in
     let none = no_values t.values (sym (c.is_empty.ensures x t.values at t.there) ∙ c.if-not-is_empty.false) in
     (x, t.rest, t.top ∙ ap (λ l. Slot x (Stk l) t.rest) none)
 
@@ -39,17 +39,17 @@ returns-clause-done g c =
     let xs = c.args.store.now.names in
     let at = is_numbered xs c.args.name.now.number c.requires.at in
     let x = symbol_name xs c.args.name.now in
-    let t = stack_on_top x c.args.store.now.sight c.requires.safe in
+    let t = stack_on_top x c.args.store.now.slots c.requires.safe in
     let none = no_values t.values (sym (c.is_empty.ensures x t.values at t.there) ∙ c.if-not-is_empty.false) in
     let left = c.leave_local_stack.ensures x t.rest (t.top ∙ ap (λ l. Slot x (Stk l) t.rest) none) in
-    t.is ∙ ap (λ l. drop_stack_slot (Stk l) t.rest) none ∙ ap Fine (sym (ap (λ (h : StoreState). h.sight) left))
+    t.is ∙ ap (λ l. drop_stack_slot (Stk l) t.rest) none ∙ ap Fine (sym (ap (λ (h : StoreState). h.slots) left))
 
 pub returns-clause-names : goal.returns-clause-names
 returns-clause-names g c =
     let xs = c.args.store.now.names in
     let at = is_numbered xs c.args.name.now.number c.requires.at in
     let x = symbol_name xs c.args.name.now in
-    let t = stack_on_top x c.args.store.now.sight c.requires.safe in
+    let t = stack_on_top x c.args.store.now.slots c.requires.safe in
     let none = no_values t.values (sym (c.is_empty.ensures x t.values at t.there) ∙ c.if-not-is_empty.false) in
     let left = c.leave_local_stack.ensures x t.rest (t.top ∙ ap (λ l. Slot x (Stk l) t.rest) none) in
     record {

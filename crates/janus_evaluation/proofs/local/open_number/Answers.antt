@@ -16,12 +16,12 @@ pub returns-in-Ok-clause-done : goal.returns-in-Ok-clause-done
 returns-in-Ok-clause-done g c =
     let xs = c.args.store.now.names in
     let x = symbol_name xs c.args.name.now in
-    let s = c.args.store.now.sight in
+    let s = c.args.store.now.slots in
     let n : ℤ = c.in-Ok.number in
     let z : to_z w32 (of_z w32 n) ≡ n = grind (arith, to_z-of_z) in
     ap (λ r. and_then r (λ v. Fine (Slot x (Num v) s))) (sym c.in-Ok.ensures)
     ∙ ap (λ v. Fine (Slot x (Num v) s)) (sym z)
-    ∙ ap Fine (sym (ap (λ (h : StoreState). h.sight) (c.enter_local.ensures x (is_numbered xs c.args.name.now.number c.requires.at))))
+    ∙ ap Fine (sym (ap (λ (h : StoreState). h.slots) (c.enter_local.ensures x (is_numbered xs c.args.name.now.number c.requires.at))))
 
 pub returns-in-Ok-clause-names : goal.returns-in-Ok-clause-names
 returns-in-Ok-clause-names g c =

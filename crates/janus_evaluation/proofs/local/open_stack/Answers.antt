@@ -21,7 +21,7 @@ unfolding stack_room
 returns-then-stacks_left-eq0-clause-done g c =
     let xs = c.args.store.now.names in
     let x = symbol_name xs c.args.name.now in
-    let s = c.args.store.now.sight in
+    let s = c.args.store.now.slots in
     let full = no_room (live_stacks c.args.store.now) (omega (arith, c.stacks_left.ensures, c.if-stacks_left-eq0.true)) in
     (ap (λ t. and_then (guard t TooManyStacks) (λ ok. Fine (Slot x (Stk []) s))) full, refl)
 
@@ -30,10 +30,10 @@ unfolding stack_room
 returns-clause-done g c =
     let xs = c.args.store.now.names in
     let x = symbol_name xs c.args.name.now in
-    let s = c.args.store.now.sight in
+    let s = c.args.store.now.slots in
     let room = some_room (live_stacks c.args.store.now) (omega (arith, c.stacks_left.ensures, c.if-stacks_left-eq0.false)) in
     ap (λ t. and_then (guard t TooManyStacks) (λ ok. Fine (Slot x (Stk []) s))) room
-    ∙ ap Fine (sym (ap (λ (h : StoreState). h.sight) (c.enter_local_stack.ensures x (is_numbered xs c.args.name.now.number c.requires.at))))
+    ∙ ap Fine (sym (ap (λ (h : StoreState). h.slots) (c.enter_local_stack.ensures x (is_numbered xs c.args.name.now.number c.requires.at))))
 
 pub enter_local_stack-requires-clause-named : goal.enter_local_stack-requires-clause-named
 enter_local_stack-requires-clause-named g c =

@@ -20,14 +20,14 @@ pub get-requires : goal.get-requires
 get-requires g c =
     let xs = c.args.store.now.names in
     let x = symbol_name xs c.args.variable.now in
-    let n = popped_number x (symbol_name xs c.args.stack.now) c.args.store.now.sight c.requires.safe in
+    let n = popped_number x (symbol_name xs c.args.stack.now) c.args.store.now.slots c.requires.safe in
     (x, Num n.0, is_numbered xs c.args.variable.now.number c.requires.variable, n.1)
 
 pub unreachable-requires : goal.unreachable-requires
 unreachable-requires g c =
     let xs = c.args.store.now.names in
     let x = symbol_name xs c.args.variable.now in
-    let n = popped_number x (symbol_name xs c.args.stack.now) c.args.store.now.sight c.requires.safe in
+    let n = popped_number x (symbol_name xs c.args.stack.now) c.args.store.now.slots c.requires.safe in
     let z : Bad Broken ≡ Fine n.0 = c.in_default.ensures x (is_numbered xs c.args.variable.now.number c.requires.variable) ∙ ap (λ r. and_then r number) n.1 in
     cc
 
@@ -36,7 +36,7 @@ returns-then-old-ne0-clause-done g c =
     let xs = c.args.store.now.names in
     let x = symbol_name xs c.args.variable.now in
     let y = symbol_name xs c.args.stack.now in
-    let s = c.args.store.now.sight in
+    let s = c.args.store.now.slots in
     let n = popped_number x y s c.requires.safe in
     let old : ℤ = c.in-Some.old in
     let got : Fine old ≡ Fine n.0 = c.in-Some.ensures x (is_numbered xs c.args.variable.now.number c.requires.variable) ∙ ap (λ r. and_then r number) n.1 in
@@ -50,7 +50,7 @@ is_empty-requires g c =
     let variable_at = is_numbered xs c.args.variable.now.number c.requires.variable in
     let x = symbol_name xs c.args.variable.now in
     let y = symbol_name xs c.args.stack.now in
-    let s = c.args.store.now.sight in
+    let s = c.args.store.now.slots in
     let old : ℤ = c.in-Some.old in
     let number_is = popped_number x y s c.requires.safe in
     let got : Fine old ≡ Fine number_is.0 = c.in-Some.ensures x variable_at ∙ ap (λ r. and_then r number) number_is.1 in
@@ -68,7 +68,7 @@ returns-then-is_empty-clause-done g c =
     let variable_at = is_numbered xs c.args.variable.now.number c.requires.variable in
     let x = symbol_name xs c.args.variable.now in
     let y = symbol_name xs c.args.stack.now in
-    let s = c.args.store.now.sight in
+    let s = c.args.store.now.slots in
     let old : ℤ = c.in-Some.old in
     let number_is = popped_number x y s c.requires.safe in
     let got : Fine old ≡ Fine number_is.0 = c.in-Some.ensures x variable_at ∙ ap (λ r. and_then r number) number_is.1 in
@@ -86,7 +86,7 @@ pop-number-requires g c =
     let variable_at = is_numbered xs c.args.variable.now.number c.requires.variable in
     let x = symbol_name xs c.args.variable.now in
     let y = symbol_name xs c.args.stack.now in
-    let s = c.args.store.now.sight in
+    let s = c.args.store.now.slots in
     let old : ℤ = c.in-Some.old in
     let number_is = popped_number x y s c.requires.safe in
     let got : Fine old ≡ Fine number_is.0 = c.in-Some.ensures x variable_at ∙ ap (λ r. and_then r number) number_is.1 in
@@ -105,7 +105,7 @@ set-requires g c =
     let variable_at = is_numbered xs c.args.variable.now.number c.requires.variable in
     let x = symbol_name xs c.args.variable.now in
     let y = symbol_name xs c.args.stack.now in
-    let s = c.args.store.now.sight in
+    let s = c.args.store.now.slots in
     let old : ℤ = c.in-Some.old in
     let number_is = popped_number x y s c.requires.safe in
     let got : Fine old ≡ Fine number_is.0 = c.in-Some.ensures x variable_at ∙ ap (λ r. and_then r number) number_is.1 in
@@ -115,7 +115,7 @@ set-requires g c =
     let b = popped_pair x y s c.requires.safe zero_there in
     let l = values_there x y s b.0 in
     let some = some_values b.0.values (sym (c.is_empty.ensures y b.0.values stack_at l) ∙ c.if-is_empty.false) in
-    let r = c.pop-number.new.self.sight in
+    let r = c.pop-number.new.self.slots in
     let at = ap (λ (xs : List Name). slice_get xs c.args.variable.now.number) c.pop-number.ensures.shape.names ∙ variable_at in
     let written : write y (Stk some.1) s ≡ Fine r = c.pop-number.ensures.written y some.0 some.1 stack_at (l ∙ ap (λ k. Fine (Stk k)) some.2) in
     (x, at, (b.0.number, number_still x y s b.0 (Stk some.1) r written))
@@ -127,7 +127,7 @@ returns-clause-done g c =
     let variable_at = is_numbered xs c.args.variable.now.number c.requires.variable in
     let x = symbol_name xs c.args.variable.now in
     let y = symbol_name xs c.args.stack.now in
-    let s = c.args.store.now.sight in
+    let s = c.args.store.now.slots in
     let old : ℤ = c.in-Some.old in
     let number_is = popped_number x y s c.requires.safe in
     let got : Fine old ≡ Fine number_is.0 = c.in-Some.ensures x variable_at ∙ ap (λ r. and_then r number) number_is.1 in
@@ -137,12 +137,12 @@ returns-clause-done g c =
     let b = popped_pair x y s c.requires.safe zero_there in
     let l = values_there x y s b.0 in
     let some = some_values b.0.values (sym (c.is_empty.ensures y b.0.values stack_at l) ∙ c.if-is_empty.false) in
-    let r = c.pop-number.new.self.sight in
+    let r = c.pop-number.new.self.slots in
     let at = ap (λ (xs : List Name). slice_get xs c.args.variable.now.number) c.pop-number.ensures.shape.names ∙ variable_at in
     let there = l ∙ ap (λ k. Fine (Stk k)) some.2 in
     let written : write y (Stk some.1) s ≡ Fine r = c.pop-number.ensures.written y some.0 some.1 stack_at there in
     let m : ℤ = c.pop-number.result in
     let zm : to_z w32 (of_z w32 m) ≡ m = grind (arith, to_z-of_z) in
     let top : m ≡ some.0 = c.pop-number.ensures.top y some.0 some.1 stack_at there in
-    let last : write x (Num some.0) r ≡ Fine c.set.new.self.sight = ap (λ n. write x (Num n) r) (sym (zm ∙ top)) ∙ c.set.ensures.written x at in
-    pop_fine x y s b.0 some.0 some.1 r c.set.new.self.sight b.1 some.2 written last
+    let last : write x (Num some.0) r ≡ Fine c.set.new.self.slots = ap (λ n. write x (Num n) r) (sym (zm ∙ top)) ∙ c.set.ensures.written x at in
+    pop_fine x y s b.0 some.0 some.1 r c.set.new.self.slots b.1 some.2 written last

@@ -27,8 +27,8 @@ assign_element-requires-clause-numbered g c = (subst (StatementHasNumbers c.args
 pub returns-in-Assign-clause-done : goal.returns-in-Assign-clause-done
 returns-in-Assign-clause-done g c =
     let xs = c.args.store.now.names in
-    let s = c.args.store.now.sight in
-    let t = c.assign.new.store.sight in
+    let s = c.args.store.now.slots in
+    let t = c.assign.new.store.slots in
     let o = update_of c.in-Assign.update in
     let e = exp_of xs c.in-Assign.exp in
     let is = sym (ap (λ z. run_of xs (values_lent c.args.store.now.callers) z s) c.in-Assign.is) in
@@ -37,8 +37,8 @@ returns-in-Assign-clause-done g c =
 pub returns-in-AssignElement-clause-done : goal.returns-in-AssignElement-clause-done
 returns-in-AssignElement-clause-done g c =
     let xs = c.args.store.now.names in
-    let s = c.args.store.now.sight in
-    let t = c.assign_element.new.store.sight in
+    let s = c.args.store.now.slots in
+    let t = c.assign_element.new.store.slots in
     let i = exp_of xs c.in-AssignElement.index in
     let o = update_of c.in-AssignElement.update in
     let e = exp_of xs c.in-AssignElement.exp in
@@ -54,8 +54,8 @@ push-requires-clause-stack g c = (subst (StatementHasNumbers c.args.store.now.na
 pub returns-in-Push-clause-done : goal.returns-in-Push-clause-done
 returns-in-Push-clause-done g c =
     let xs = c.args.store.now.names in
-    let s = c.args.store.now.sight in
-    let t = c.push.new.store.sight in
+    let s = c.args.store.now.slots in
+    let t = c.push.new.store.slots in
     let is = sym (ap (λ z. run_of xs (values_lent c.args.store.now.callers) z s) c.in-Push.is) in
     subst (λ r. IsDone r s t c.done-in-Push.result) is (c.done-in-Push.ensures.done (push pool (values_lent c.args.store.now.callers) (symbol_name xs c.in-Push.variable) (symbol_name xs c.in-Push.stack) s) s t c.push.ensures.done)
 
@@ -68,8 +68,8 @@ pop-requires-clause-stack g c = (subst (StatementHasNumbers c.args.store.now.nam
 pub returns-in-Pop-clause-done : goal.returns-in-Pop-clause-done
 returns-in-Pop-clause-done g c =
     let xs = c.args.store.now.names in
-    let s = c.args.store.now.sight in
-    let t = c.pop.new.store.sight in
+    let s = c.args.store.now.slots in
+    let t = c.pop.new.store.slots in
     let is = sym (ap (λ z. run_of xs (values_lent c.args.store.now.callers) z s) c.in-Pop.is) in
     subst (λ r. IsDone r s t c.done-in-Pop.result) is (c.done-in-Pop.ensures.done (pop (symbol_name xs c.in-Pop.variable) (symbol_name xs c.in-Pop.stack) s) s t c.pop.ensures.done)
 
@@ -82,4 +82,4 @@ swap-requires-clause-second g c = (subst (StatementHasNumbers c.args.store.now.n
 pub returns-in-Swap-clause-done : goal.returns-in-Swap-clause-done
 returns-in-Swap-clause-done g c =
     let xs = c.args.store.now.names in
-    ap (λ z. run_of xs (values_lent c.args.store.now.callers) z c.args.store.now.sight) c.in-Swap.is ∙ c.swap.ensures.done
+    ap (λ z. run_of xs (values_lent c.args.store.now.callers) z c.args.store.now.slots) c.in-Swap.is ∙ c.swap.ensures.done

@@ -1,11 +1,12 @@
-use Rattle.std.proofs.Common.{◌≡◌, ℕ, List, Result, Err, subst}
+use Rattle.std.proofs.Common.{◌≡◌, ℕ, List, Result, Err, sym, subst}
 use Rattle.janus_meaning.specs.Store.{Store}
 use Rattle.janus_syntax.specs.Forms.{Whole}
 use Rattle.janus_syntax.specs.Text.{IsParsedExp, Refuses}
 use Rattle.janus_syntax.specs.declared.tree.Exp as code
 use Rattle.janus_syntax.specs.declared.fault.SyntaxFault.{SyntaxFault}
 use Rattle.janus_syntax.specs.declared.fault.SyntaxFault.TheVariants as fault
-use Rattle.janus_store.specs.StoreState.{shown_store}
+use Rattle.janus_meaning.specs.Shape.{AreDistinct, shape_of}
+use Rattle.janus_meaning.specs.FormedWorld.{HaveValues}
 use Rattle.kernel_core.specs.Text.{refused_by_syntax}
 use Rattle.kernel_core.specs.outcome.Refusal.{Refusal}
 use Rattle.kernel_ask.specs.declared.done.ExpFault.TheVariants.{Refused}
@@ -21,10 +22,17 @@ told s text (fault.TooNested at) r refused is = rw is refused
 told s text (fault.DelocalName at) r refused is = rw is refused
 told s text fault.Memory r refused is = rw is tt
 
+pub value_of-requires-clause-values : goal.value_of-requires-clause-values
+value_of-requires-clause-values g c = subst (λ (s : Store). HaveValues s) c.slots_law.ensures.sight c.requires.values
+
+pub value_of-requires-clause-distinct : goal.value_of-requires-clause-distinct
+value_of-requires-clause-distinct g c = subst (λ (s : Store). AreDistinct (shape_of s)) c.slots_law.ensures.sight c.requires.distinct
+
 pub returns-in-Ok : goal.returns-in-Ok
 returns-in-Ok g c = λ text read.
-    c.value_of.ensures text (subst (λ (r : Result code.Exp SyntaxFault). IsParsedExp text r) c.in-Ok.is read)
+    subst (λ (s : Store). IsEvaluated s text c.value_of.result) (sym c.slots_law.ensures.sight)
+    (c.value_of.ensures text (subst (λ (r : Result code.Exp SyntaxFault). IsParsedExp text r) c.in-Ok.is read))
 
 pub returns-in-Err : goal.returns-in-Err
 returns-in-Err g c = λ text read.
-    told (shown_store c.args.store.now) text c.in-Err.fault c.of_syntax.result (subst (λ (r : Result code.Exp SyntaxFault). IsParsedExp text r) c.in-Err.is read) c.of_syntax.ensures
+    told c.args.store.now.sight text c.in-Err.fault c.of_syntax.result (subst (λ (r : Result code.Exp SyntaxFault). IsParsedExp text r) c.in-Err.is read) c.of_syntax.ensures

@@ -27,8 +27,8 @@ declare_one-requires g c =
           (subst (λ (xs : List Name). IsUnmet xs (declared_name (get_or ds c.loop-i.i d))) (sym is.texts) (unmet_reversed (names_in so_far) _ (unmet_at ds shown c.loop-i.i d (values_lend_nothing shown c.requires.values) c.requires.new low)));
       texts = c.loop-i.invariant.texts;
       whole = c.loop-i.invariant.whole;
-      room = subst (λ (x : Declaration). HasStackRoom x c.loop-i.store.sight) one
-          (subst (λ (s : Store). HasStackRoom (get_or ds c.loop-i.i d) s) (sym is.sight)
+      room = subst (λ (x : Declaration). HasStackRoom x c.loop-i.store.slots) one
+          (subst (λ (s : Store). HasStackRoom (get_or ds c.loop-i.i d) s) (sym is.slots)
           (room_in_slots (get_or ds c.loop-i.i d) so_far (room_at ds shown c.loop-i.i d (values_lend_nothing shown c.requires.values) c.requires.new low)));
     }
 

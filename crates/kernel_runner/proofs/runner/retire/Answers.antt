@@ -12,7 +12,7 @@ retire-requires-clause-first g c =
     let d = c.requires.declared in
     let low : c.loop-i._i < length d.1.declarations = rw d.1.many c.loop-i-test.true in
     let is = whole_is c.loop-i.store (dropped c.loop-i._i (declare d.1.declarations d.0)) c.loop-i.invariant.0.whole c.loop-i.invariant.0.texts (c.loop-i.invariant.0.shown ∙ ap (dropped c.loop-i._i) d.1.declared) in
-    subst (λ (s : Store). IsFirstOnTop s) (sym is.sight) (first_in_slots (dropped c.loop-i._i (declare d.1.declarations d.0)) (first_on_top d.1.declarations d.0 c.loop-i._i low))
+    subst (λ (s : Store). IsFirstOnTop s) (sym is.slots) (first_in_slots (dropped c.loop-i._i (declare d.1.declarations d.0)) (first_on_top d.1.declarations d.0 c.loop-i._i low))
 
 pub retire-requires-clause-whole : goal.retire-requires-clause-whole
 retire-requires-clause-whole g c = c.loop-i.invariant.0.whole

@@ -33,7 +33,7 @@ first_value-value-requires g c =
     let cs = reverse a.calls.items in
     let h = c.self.invariant.held in
     let now = held_in (holdings a) xs a.declared vs cs in
-    let sight : now.sight ≡ c.args.self.now.sight = ap (λ (h : StoreState). h.sight) c.self.view_is ∙ ap (λ (h : StoreState). h.sight) c.in_ok-number.ensures.same in
+    let sight : now.slots ≡ c.args.self.now.slots = ap (λ (h : StoreState). h.slots) c.self.view_is ∙ ap (λ (h : StoreState). h.slots) c.in_ok-number.ensures.same in
     let declared : a.declared ≡ c.args.self.now.declared = ap (λ (h : StoreState). h.declared) c.self.view_is ∙ ap (λ (h : StoreState). h.declared) c.in_ok-number.ensures.same in
     let callers : now.callers ≡ c.args.self.now.callers = ap (λ (h : StoreState). h.callers) c.self.view_is ∙ ap (λ (h : StoreState). h.callers) c.in_ok-number.ensures.same in
     let names = ap (λ (h : StoreState). h.names) c.self.view_is in
@@ -42,7 +42,7 @@ first_value-value-requires g c =
     let k = c.in_ok-number.number in
     let x = c.args.name.now in
     let named : IsNumbered xs k (slot k) = ap (λ l. slice_get l k) names ∙ c.in_ok-number.ensures.reached in
-    is_ready c.args.declared (length a.stacks.spare) (live_stacks now) c.self.invariant.stacks (λ e. let low : stacks_in c.args.self.now.sight < live_stack_limit = c.requires.room e in omega (arith, low, ap stacks_in sight, ap stacks_lent whole.callers))
+    is_ready c.args.declared (length a.stacks.spare) (live_stacks now) c.self.invariant.stacks (λ e. let low : stacks_in c.args.self.now.slots < live_stack_limit = c.requires.room e in omega (arith, low, ap stacks_in sight, ap stacks_lent whole.callers))
 
 pub put_own-requires-clause-room : goal.put_own-requires-clause-room
 put_own-requires-clause-room g c =
@@ -53,7 +53,7 @@ put_own-requires-clause-room g c =
     let cs = reverse a.calls.items in
     let h = c.self.invariant.held in
     let now = held_in (holdings a) xs a.declared vs cs in
-    let sight : now.sight ≡ c.args.self.now.sight = ap (λ (h : StoreState). h.sight) c.self.view_is ∙ ap (λ (h : StoreState). h.sight) c.in_ok-number.ensures.same in
+    let sight : now.slots ≡ c.args.self.now.slots = ap (λ (h : StoreState). h.slots) c.self.view_is ∙ ap (λ (h : StoreState). h.slots) c.in_ok-number.ensures.same in
     let declared : a.declared ≡ c.args.self.now.declared = ap (λ (h : StoreState). h.declared) c.self.view_is ∙ ap (λ (h : StoreState). h.declared) c.in_ok-number.ensures.same in
     let callers : now.callers ≡ c.args.self.now.callers = ap (λ (h : StoreState). h.callers) c.self.view_is ∙ ap (λ (h : StoreState). h.callers) c.in_ok-number.ensures.same in
     let names = ap (λ (h : StoreState). h.names) c.self.view_is in
@@ -73,7 +73,7 @@ put_own-requires-clause-met g c =
     let cs = reverse a.calls.items in
     let h = c.self.invariant.held in
     let now = held_in (holdings a) xs a.declared vs cs in
-    let sight : now.sight ≡ c.args.self.now.sight = ap (λ (h : StoreState). h.sight) c.self.view_is ∙ ap (λ (h : StoreState). h.sight) c.in_ok-number.ensures.same in
+    let sight : now.slots ≡ c.args.self.now.slots = ap (λ (h : StoreState). h.slots) c.self.view_is ∙ ap (λ (h : StoreState). h.slots) c.in_ok-number.ensures.same in
     let declared : a.declared ≡ c.args.self.now.declared = ap (λ (h : StoreState). h.declared) c.self.view_is ∙ ap (λ (h : StoreState). h.declared) c.in_ok-number.ensures.same in
     let callers : now.callers ≡ c.args.self.now.callers = ap (λ (h : StoreState). h.callers) c.self.view_is ∙ ap (λ (h : StoreState). h.callers) c.in_ok-number.ensures.same in
     let names = ap (λ (h : StoreState). h.names) c.self.view_is in
@@ -93,7 +93,7 @@ invariant_of-self-2 g c =
     let cs = reverse a.calls.items in
     let h = c.self.invariant.held in
     let now = held_in (holdings a) xs a.declared vs cs in
-    let sight : now.sight ≡ c.args.self.now.sight = ap (λ (h : StoreState). h.sight) c.self.view_is ∙ ap (λ (h : StoreState). h.sight) c.in_ok-number.ensures.same in
+    let sight : now.slots ≡ c.args.self.now.slots = ap (λ (h : StoreState). h.slots) c.self.view_is ∙ ap (λ (h : StoreState). h.slots) c.in_ok-number.ensures.same in
     let declared : a.declared ≡ c.args.self.now.declared = ap (λ (h : StoreState). h.declared) c.self.view_is ∙ ap (λ (h : StoreState). h.declared) c.in_ok-number.ensures.same in
     let callers : now.callers ≡ c.args.self.now.callers = ap (λ (h : StoreState). h.callers) c.self.view_is ∙ ap (λ (h : StoreState). h.callers) c.in_ok-number.ensures.same in
     let names = ap (λ (h : StoreState). h.names) c.self.view_is in
@@ -173,7 +173,7 @@ returns-clause-ok g c =
     let cs = reverse a.calls.items in
     let h = c.self.invariant.held in
     let now = held_in (holdings a) xs a.declared vs cs in
-    let sight : now.sight ≡ c.args.self.now.sight = ap (λ (h : StoreState). h.sight) c.self.view_is ∙ ap (λ (h : StoreState). h.sight) c.in_ok-number.ensures.same in
+    let sight : now.slots ≡ c.args.self.now.slots = ap (λ (h : StoreState). h.slots) c.self.view_is ∙ ap (λ (h : StoreState). h.slots) c.in_ok-number.ensures.same in
     let declared : a.declared ≡ c.args.self.now.declared = ap (λ (h : StoreState). h.declared) c.self.view_is ∙ ap (λ (h : StoreState). h.declared) c.in_ok-number.ensures.same in
     let callers : now.callers ≡ c.args.self.now.callers = ap (λ (h : StoreState). h.callers) c.self.view_is ∙ ap (λ (h : StoreState). h.callers) c.in_ok-number.ensures.same in
     let names = ap (λ (h : StoreState). h.names) c.self.view_is in
@@ -208,11 +208,11 @@ returns-clause-ok g c =
     let over = put_over wide xs ns vs a.declared cs held y refl at ms ws newest vars now view in
     let lists = c.first_value-value.ensures.lists in
     record {
-      sight = ap (λ l. (held_in (over_lists c.first_value-value.new.stacks.lists) l a.declared ws cs).sight) stay
-          ∙ ap (λ ls. (held_in (over_lists ls) xs a.declared ws cs).sight) lists ∙ ap (λ (h : StoreState). h.sight) over ∙ ap (λ x. Slot x (val_at wide (length vs) y.value) now.sight) (name_of_number xs k (slot k) y named refl)
-          ∙ ap (λ ls. Slot (slot k) (val_in ls (slice_index_or longer (length vs) (pos 0)) y.value) now.sight) (sym lists)
-          ∙ ap (λ n. Slot (slot k) (val_in c.first_value-value.new.stacks.lists n y.value) now.sight) last ∙ ap (λ v. Slot (slot k) v now.sight) c.first_value-value.ensures.value ∙ ap (Slot (slot k) (first_of c.args.declared)) sight
-          ∙ ap (λ k. Slot (slot k) (first_of c.args.declared) c.args.self.now.sight) c.in_ok-number.ensures.number;
+      slots = ap (λ l. (held_in (over_lists c.first_value-value.new.stacks.lists) l a.declared ws cs).slots) stay
+          ∙ ap (λ ls. (held_in (over_lists ls) xs a.declared ws cs).slots) lists ∙ ap (λ (h : StoreState). h.slots) over ∙ ap (λ x. Slot x (val_at wide (length vs) y.value) now.slots) (name_of_number xs k (slot k) y named refl)
+          ∙ ap (λ ls. Slot (slot k) (val_in ls (slice_index_or longer (length vs) (pos 0)) y.value) now.slots) (sym lists)
+          ∙ ap (λ n. Slot (slot k) (val_in c.first_value-value.new.stacks.lists n y.value) now.slots) last ∙ ap (λ v. Slot (slot k) v now.slots) c.first_value-value.ensures.value ∙ ap (Slot (slot k) (first_of c.args.declared)) sight
+          ∙ ap (λ k. Slot (slot k) (first_of c.args.declared) c.args.self.now.slots) c.in_ok-number.ensures.number;
       declared = omega (arith, declared);
       texts = last_text ∙ ap (λ l. l ++ x ∷ []) texts;
       names = (on.0, stay ∙ names ∙ on.1);

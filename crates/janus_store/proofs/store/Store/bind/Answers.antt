@@ -184,7 +184,7 @@ returns g c = λ ps zs p e.
     let row = c.bind_all.ensures.newest xs h.row in
     let stay = same_slots (length ns) (length ms) (row_long xs ms ws row) in
     let same = named_one H.names ks args.0 zs args.1 e in
-    let lends : CanLend zs H.sight = subst (λ zs. CanLend zs H.sight) same args.2 in
+    let lends : CanLend zs H.slots = subst (λ zs. CanLend zs H.slots) same args.2 in
     subst (λ l. IsEntered ps zs H (held_in wide l d ws (reverse c.push_reserved.new.self.items))) (sym stay)
     (subst (λ cs. IsEntered ps zs H (held_in wide xs d ws cs)) (sym calls)
     (entered_is wide xs ns vs d cs k H view js ks ps zs p e c.requires.count lends.0 lends.1 ms ws row (c.bind_all.ensures.bound xs) c.bind_all.ensures.behind call start end))

@@ -130,7 +130,7 @@ returns-clause-written g c = λ x n l named f.
     let at = list_is (holdings a) xs ns vs a.declared cs h H c.self.view_is c.args.name x (n ∷ l) named f i s in
     let both : c.pop.result ∷ list_of after i ≡ n ∷ l = sym c.pop.ensures.top ∙ at in
     let rest : list_of after i ≡ l = cc in
-    ap (λ m. write x (Stk m) H.sight) (sym rest) ∙ stack_written (holdings a) xs ns vs a.declared cs h H c.self.view_is c.args.name x (n ∷ l) named f i s once after lists
+    ap (λ m. write x (Stk m) H.slots) (sym rest) ∙ stack_written (holdings a) xs ns vs a.declared cs h H c.self.view_is c.args.name x (n ∷ l) named f i s once after lists
 
 pub returns-clause-shape : goal.returns-clause-shape
 returns-clause-shape g c =

@@ -103,8 +103,8 @@ returns-clause-written g c = λ x l named f.
     let lists = ap (λ (s : Pooled). s.lists) c.push.ensures.rest in
     let at = list_is (holdings a) xs ns vs a.declared cs h H c.self.view_is c.args.name x l named f i s in
     let number = to_z w32 (of_z w32 c.args.number) in
-    ap (λ n. write x (Stk (n ∷ l)) H.sight) (sym (to_z-of_z w32 c.args.number c.ranges.number))
-    ∙ ap (λ m. write x (Stk m) H.sight) (sym (c.push.ensures.top ∙ ap (λ m. number ∷ m) at))
+    ap (λ n. write x (Stk (n ∷ l)) H.slots) (sym (to_z-of_z w32 c.args.number c.ranges.number))
+    ∙ ap (λ m. write x (Stk m) H.slots) (sym (c.push.ensures.top ∙ ap (λ m. number ∷ m) at))
     ∙ stack_written (holdings a) xs ns vs a.declared cs h H c.self.view_is c.args.name x l named f i s once after lists
 
 pub returns-clause-shape : goal.returns-clause-shape

@@ -131,7 +131,7 @@ returns-clause-written g c = λ x nth.
     let fits : p < length a.numbers.items = omega (arith, c.self.invariant.beside, place_fits (holdings a) xs ns vs a.declared cs h H c.self.view_is r.number x r.value p r.named r.seen r.place) in
     let m = to_z w32 (of_z w32 c.args.number) in
     let after = set a.numbers.items p m in
-    ap (λ n. write x (Num n) H.sight) (sym (to_z-of_z w32 c.args.number c.ranges.number))
+    ap (λ n. write x (Num n) H.slots) (sym (to_z-of_z w32 c.args.number c.ranges.number))
     ∙ number_written (holdings a) xs ns vs a.declared cs h H c.self.view_is r.number x n.0 r.named seen p r.place m after refl fits
 
 pub returns-clause-former : goal.returns-clause-former

@@ -9,7 +9,7 @@ use Rattle.janus_store.specs.Stacks.{Pooled, total}
 use Rattle.janus_store.specs.Values.{val_at, number_in, Holdings}
 use Rattle.janus_store.proofs.NameStack.{with_number}
 use Rattle.janus_store.proofs.Owned.{times_append, times_left}
-use Rattle.janus_store.proofs.Laid.{laid_of, as_many, met, held_is}
+use Rattle.janus_store.proofs.Laid.{laid_of, as_many, met, same_state}
 use Rattle.janus_store.proofs.Standing.{names_are_held}
 use Rattle.janus_store.proofs.Opening.{more_stacks, left_over, left_held}
 use Rattle.janus_store.proofs.Opening.{no_calls, base_alone, start_alone, all_declared, outermost_alone}
@@ -81,9 +81,9 @@ take_back-requires-clause-first g c =
     let over = start_alone xs ws cs alone in
     let was = left_over (holdings a) xs ns vs a.declared cs h y ms ws gone newest above over H c.self.view_is in
     let left = held_in (holdings a) xs a.declared ws cs in
-    let top : H.sight ≡ Slot (name_among xs y) (val_at (holdings a) (length ws) y.value) left.sight = ap (λ (h : StoreState). h.sight) was in
+    let top : H.slots ≡ Slot (name_among xs y) (val_at (holdings a) (length ws) y.value) left.slots = ap (λ (h : StoreState). h.slots) was in
     let e = c.requires.first in
-    let both : Slot (name_among xs y) (val_at (holdings a) (length ws) y.value) left.sight ≡ Slot e.0 e.1 e.2 = sym top ∙ e.3 in
+    let both : Slot (name_among xs y) (val_at (holdings a) (length ws) y.value) left.slots ≡ Slot e.0 e.1 e.2 = sym top ∙ e.3 in
     let same : val_at (holdings a) (length ws) y.value ≡ e.1 = cc in
     (slice_index_or a.numbers.items (length ws) (pos 0), subst (λ v. cleared_val v ≡ v) (sym same) e.4)
 
@@ -106,8 +106,8 @@ take_back-requires-clause-room g c =
     let over = start_alone xs ws cs alone in
     let was = left_over (holdings a) xs ns vs a.declared cs h y ms ws gone newest above over H c.self.view_is in
     let left = held_in (holdings a) xs a.declared ws cs in
-    let top : H.sight ≡ Slot (name_among xs y) (val_at (holdings a) (length ws) y.value) left.sight = ap (λ (h : StoreState). h.sight) was in
-    let slots : live_stacks H ≡ stacks_with (val_at (holdings a) (length ws) y.value) (live_stacks left) = ap live_stacks was ∙ more_stacks (val_at (holdings a) (length ws) y.value) (stacks_in left.sight) (stacks_lent left.callers) in
+    let top : H.slots ≡ Slot (name_among xs y) (val_at (holdings a) (length ws) y.value) left.slots = ap (λ (h : StoreState). h.slots) was in
+    let slots : live_stacks H ≡ stacks_with (val_at (holdings a) (length ws) y.value) (live_stacks left) = ap live_stacks was ∙ more_stacks (val_at (holdings a) (length ws) y.value) (stacks_in left.slots) (stacks_lent left.callers) in
     omega (arith, with_number a.stacks.lists (slice_index_or a.numbers.items (length ws) (pos 0)) y.value (live_stacks left), slots, c.self.invariant.stacks, ap live_stacks c.self.view_is)
 
 pub invariant_of-self : goal.invariant_of-self
@@ -143,14 +143,14 @@ invariant_of-self g c =
     let nested = left_nested (holdings a) xs ns vs a.declared cs h y ms ws gone newest above over in
     let shorter : held_in (on a.stacks.lists) xs a.declared ws cs ≡ held_in (holdings a) xs a.declared ws cs = same_beside a.texts a.stacks.lists few more a.numbers.items tail xs a.declared ws cs nested fits in
     let left = held_in (holdings a) xs a.declared ws cs in
-    let top : H.sight ≡ Slot (name_among xs y) (val_at (holdings a) (length ws) y.value) left.sight = ap (λ (h : StoreState). h.sight) was in
-    let slots : live_stacks H ≡ stacks_with (val_at (holdings a) (length ws) y.value) (live_stacks left) = ap live_stacks was ∙ more_stacks (val_at (holdings a) (length ws) y.value) (stacks_in left.sight) (stacks_lent left.callers) in
+    let top : H.slots ≡ Slot (name_among xs y) (val_at (holdings a) (length ws) y.value) left.slots = ap (λ (h : StoreState). h.slots) was in
+    let slots : live_stacks H ≡ stacks_with (val_at (holdings a) (length ws) y.value) (live_stacks left) = ap live_stacks was ∙ more_stacks (val_at (holdings a) (length ws) y.value) (stacks_in left.slots) (stacks_lent left.callers) in
     let all : a.declared ≡ length vs = all_declared (holdings a) xs ns vs a.declared cs h H c.self.view_is c.requires.whole in
     let long : length vs ≡ suc (length ws) = omega (arith, ap length gone, length-append ws (y ∷ [])) in
     let lists = ap (λ (s : Pooled). s.lists) c.take_back.ensures in
     let spare = ap (λ (s : Pooled). s.spare) c.take_back.ensures in
     let e = c.requires.first in
-    let both : Slot (name_among xs y) (val_at (holdings a) (length ws) y.value) left.sight ≡ Slot e.0 e.1 e.2 = sym top ∙ e.3 in
+    let both : Slot (name_among xs y) (val_at (holdings a) (length ws) y.value) left.slots ≡ Slot e.0 e.1 e.2 = sym top ∙ e.3 in
     let same : val_at (holdings a) (length ws) y.value ≡ e.1 = cc in
     let none : held_by (val_at (holdings a) (length ws) y.value) ≡ 0 = none_cleared (val_at (holdings a) (length ws) y.value) (subst (λ v. cleared_val v ≡ v) (sym same) e.4) in
     kept_over xs _ stay (record {
@@ -205,11 +205,11 @@ returns g c =
     let nested = left_nested (holdings a) xs ns vs a.declared cs h y ms ws gone newest above over in
     let shorter : held_in (on a.stacks.lists) xs (a.declared - 1) ws cs ≡ held_in with_texts xs (a.declared - 1) ws cs = same_beside ts a.stacks.lists few more a.numbers.items tail xs (a.declared - 1) ws cs nested fits in
     let left = held_in (holdings a) xs a.declared ws cs in
-    let top : H.sight ≡ Slot (name_among xs y) (val_at (holdings a) (length ws) y.value) left.sight = ap (λ (h : StoreState). h.sight) was in
+    let top : H.slots ≡ Slot (name_among xs y) (val_at (holdings a) (length ws) y.value) left.slots = ap (λ (h : StoreState). h.slots) was in
     let lists = ap (λ (s : Pooled). s.lists) c.take_back.ensures in
     ap (λ l. held_in (on c.take_back.new.stacks.lists) l (a.declared - 1) ws cs) stay
     ∙ ap (λ ls. held_in (on ls) xs (a.declared - 1) ws cs) lists ∙ shorter
-    ∙ held_is _ _ (sym (ap rest_of top)) (ap (λ (h : StoreState). h.declared - 1) c.self.view_is)
+    ∙ same_state (sym (ap rest_of top)) (ap (λ (h : StoreState). h.declared - 1) c.self.view_is)
     (c.truncate-2.ensures.names ∙ ap (λ (h : StoreState). take (h.declared - 1) h.texts) c.self.view_is) (ap (λ (h : StoreState). h.names) c.self.view_is) (sym (ap (λ (h : StoreState). h.callers) was) ∙ c.requires.whole.callers)
 
 pub overflow_sub-self : goal.overflow_sub-self
@@ -231,6 +231,6 @@ overflow_sub-self g c =
     let over = start_alone xs ws cs alone in
     let was = left_over (holdings a) xs ns vs a.declared cs h y ms ws gone newest above over H c.self.view_is in
     let left = held_in (holdings a) xs a.declared ws cs in
-    let top : H.sight ≡ Slot (name_among xs y) (val_at (holdings a) (length ws) y.value) left.sight = ap (λ (h : StoreState). h.sight) was in
+    let top : H.slots ≡ Slot (name_among xs y) (val_at (holdings a) (length ws) y.value) left.slots = ap (λ (h : StoreState). h.slots) was in
     let all : a.declared ≡ length vs = all_declared (holdings a) xs ns vs a.declared cs h H c.self.view_is c.requires.whole in
     omega (arith, all, ap length gone, length-append ws (y ∷ []))

@@ -99,9 +99,9 @@ returns-clause-written g c = λ x named.
     let p = c.place-at.result in
     let q : IsPlaceOf ns vs c.args.name p = (e.0, e.1, ap (λ l. slice_get l c.args.name) (sym c.deref.ensures.value) ∙ e.2, ap (λ l. slice_get l e.0) (sym c.deref-2.ensures.value) ∙ e.3, e.4) in
     let same : c.requires.0 ≡ x = let both : Some c.requires.0 ≡ Some x = sym c.requires.1 ∙ named in cc in
-    let seen = ap (λ x. look x H.sight) (sym same) ∙ c.requires.2.1 in
+    let seen = ap (λ x. look x H.slots) (sym same) ∙ c.requires.2.1 in
     let fits : p < length a.numbers.items = omega (arith, c.self.invariant.beside, place_fits (holdings a) xs ns vs a.declared cs h H c.self.view_is c.args.name x (Num c.requires.2.0) p named seen q) in
     let m = to_z w32 (of_z w32 c.args.number) in
     let after = set a.numbers.items p m in
-    ap (λ n. write x (Num n) H.sight) (sym (to_z-of_z w32 c.args.number c.ranges.number))
+    ap (λ n. write x (Num n) H.slots) (sym (to_z-of_z w32 c.args.number c.ranges.number))
     ∙ number_written (holdings a) xs ns vs a.declared cs h H c.self.view_is c.args.name x c.requires.2.0 named seen p q m after refl fits

@@ -134,6 +134,6 @@ returns-clause-written g c = λ x l named k.
     let read = c.index_mut.ensures.value in
     let new = c.set_element.new.self in
     let same = value_is (holdings a) xs ns vs a.declared cs h H c.self.view_is c.args.name x (Arr l) p v named k q read in
-    ap (λ n. write x (Arr (set_element l n c.args.number)) H.sight) (sym (to_z-of_z w32 c.args.index c.ranges.index))
-    ∙ ap (λ n. write x (Arr (set_element l (to_z w32 (of_z w32 c.args.index)) n)) H.sight) (sym (to_z-of_z w32 c.args.number c.ranges.number))
-    ∙ ap (λ u. write x u H.sight) (sym (c.set_element.ensures.written a.stacks.lists b l same)) ∙ set_written (holdings a) xs ns vs a.declared cs h H c.self.view_is c.args.name x (Arr l) p v named k q read (holdings a) (λ j ne. refl) new
+    ap (λ n. write x (Arr (set_element l n c.args.number)) H.slots) (sym (to_z-of_z w32 c.args.index c.ranges.index))
+    ∙ ap (λ n. write x (Arr (set_element l (to_z w32 (of_z w32 c.args.index)) n)) H.slots) (sym (to_z-of_z w32 c.args.number c.ranges.number))
+    ∙ ap (λ u. write x u H.slots) (sym (c.set_element.ensures.written a.stacks.lists b l same)) ∙ set_written (holdings a) xs ns vs a.declared cs h H c.self.view_is c.args.name x (Arr l) p v named k q read (holdings a) (λ j ne. refl) new

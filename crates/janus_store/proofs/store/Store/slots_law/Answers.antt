@@ -1,4 +1,4 @@
-use Rattle.std.proofs.Common.{ap, ◌∙◌, ◌≡◌, length, subst}
+use Rattle.std.proofs.Common.{ap, refl, ◌∙◌, ◌≡◌, length, subst}
 use Rattle.std.specs.Prelude.{reverse}
 use Rattle.janus_names.specs.Numbers.{IsUnmet, HaveOneNumber}
 use Rattle.janus_meaning.specs.Store.{look}
@@ -35,6 +35,9 @@ returns-clause-declared g c =
 
 pub returns-clause-whole : goal.returns-clause-whole
 returns-clause-whole g c = λ all alone. is_whole c.args.self.now (returns-clause-declared g c) all alone
+
+pub returns-clause-sight : goal.returns-clause-sight
+returns-clause-sight g c = subst (λ (h : StoreState). h.sight ≡ shown_store h) c.self.view_is refl
 
 pub returns-clause-shown : goal.returns-clause-shown
 returns-clause-shown g c =

@@ -13,4 +13,4 @@ returns-clause-value g c =
     let text : string_bytes c.self.inside.text ≡ c.args.self.exp = ap (λ (w : WishOf). w.exp) c.self.view_is in
     let value = c.evaluation_of-value.ensures (string_bytes c.self.inside.text) c.self.invariant in
     subst (λ (t : List ℕ). IsEvaluated (here c.args.kernel.now.machine.state.past).store t c.evaluation_of-value.result) text
-    (subst (λ (s : Store). IsEvaluated s (string_bytes c.self.inside.text) c.evaluation_of-value.result) c.store.ensures.shown value)
+    (subst (λ (s : Store). IsEvaluated s (string_bytes c.self.inside.text) c.evaluation_of-value.result) c.store.ensures.sight value)

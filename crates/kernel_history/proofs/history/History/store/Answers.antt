@@ -1,4 +1,4 @@
-use Rattle.std.proofs.Common.{◌≡◌, sym, subst}
+use Rattle.std.proofs.Common.{◌≡◌, ◌∙◌, sym, subst}
 use Rattle.janus_store.specs.StoreState.{shown_store}
 use Rattle.kernel_machine.specs.State as state
 use Rattle.kernel_machine.specs.State.{State, here}
@@ -6,10 +6,10 @@ use Rattle.kernel_history.specs.Fields.{job_of}
 use Rattle.kernel_history.proofs.Standing.{idle_store}
 use Rattle.kernel_history.proofs.history.History.store.Goals as goal
 
-pub returns-clause-shown : goal.returns-clause-shown
-returns-clause-shown g c =
+pub returns-clause-sight : goal.returns-clause-sight
+returns-clause-sight g c =
     let idle : job_of c.self.inside.job ≡ state.Idle = subst (λ (s : State). s.job ≡ state.Idle) (sym c.self.view_is) c.requires in
-    subst (λ (s : State). shown_store c.self.inside.runner.store ≡ (here s.past).store) c.self.view_is (idle_store c.self.inside.tree c.self.inside.runner c.self.inside.job c.self.invariant.kept.stands idle).0
+    c.slots_law.ensures.sight ∙ subst (λ (s : State). shown_store c.self.inside.runner.store ≡ (here s.past).store) c.self.view_is (idle_store c.self.inside.tree c.self.inside.runner c.self.inside.job c.self.invariant.kept.stands idle).0
 
 pub returns-clause-whole : goal.returns-clause-whole
 returns-clause-whole g c =
