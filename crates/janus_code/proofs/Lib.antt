@@ -7,6 +7,7 @@ pub mod Slotting
 pub mod Agree
 pub mod Placing
 pub mod Lists
+pub mod Widths
 pub mod ClosedLemmas
 pub mod GoesOn
 pub mod OnePrint

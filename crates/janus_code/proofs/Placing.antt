@@ -13,9 +13,6 @@ use Rattle.janus_code.specs.declared.code.Statement.{Statement}
 use Rattle.janus_code.specs.Numbered.{HasNumbers, IsCopy, StatementHasNumbers, HaveNumbers}
 use Rattle.janus_code.proofs.Pairs.{last_or_before}
 
-pub none_placed : (xs : List Name) → HaveNumbers xs []
-none_placed xs n s e = cc
-
 pub one_more_placed : (xs : List Name) (ss : List Statement) (s : Statement) → HaveNumbers xs ss → StatementHasNumbers xs s → HaveNumbers xs (ss ++ s ∷ [])
 one_more_placed xs ss s h p n r e =
     ⊎_elim

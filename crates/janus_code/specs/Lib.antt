@@ -2,6 +2,7 @@ pub mod Cells
 pub mod Expressions
 pub mod Numbered
 pub mod Seen
+pub mod Width
 pub mod Slotted
 pub mod Flat
 pub mod CodeBlock

@@ -1,6 +1,6 @@
 //! From a cell to flat code.
 
-ghost use Rattle.std.specs.Prelude.{◌≡◌, ◌<◌, ◌≤◌, ◌^◌, List, ℕ, suc, length, slice_index_or, IfOk};
+ghost use Rattle.std.specs.Prelude.{◌≡◌, ◌<◌, ◌≤◌, ◌^◌, List, ℕ, ◌+◌, suc, length, max, slice_index_or, IfOk, OnOk};
 ghost use Rattle.janus_check.specs.Checked.{cell_in};
 ghost use Rattle.janus_check.specs.Sight.{in_sight, heads_seen};
 ghost use Rattle.janus_syntax.specs.View.{stm_of, block_of, plain_cell};
@@ -14,6 +14,7 @@ ghost use Rattle.janus_code.specs.Expressions.{symbol_name};
 ghost use Rattle.janus_code.specs.Numbered.{StatementHasNumbers, HaveNumbers};
 ghost use Rattle.janus_code.specs.Seen.{SeesStm, SeesBlk};
 ghost use Rattle.janus_code.specs.Slotted.{AreSlots, HasEntries, all_slots};
+ghost use Rattle.janus_code.specs.Width.{open_in_stm, open_in_block, width_of};
 
 use crate::code::{Block, Code, SlottedCode, Statement, Symbol};
 use crate::expression::{entry, slotted_exp, symbol, symbol_of, symbols, two_flat_exps};
@@ -47,6 +48,7 @@ pub fn flatten(
         (λ slotted. (xs : List Name) → AreSlots xs → HaveNumbers xs slotted.code.statements.items →
         code_block xs slotted.code ≡ block_in entries.now (names_of (in_sight sight.now)) (plain_cell (cell_in checked.now)).block) }
     ensures wide { IfOk result (λ slotted. (xs : List Name) → slotted.width ≤ length xs → HaveNumbers xs slotted.code.statements.items) }
+    ensures width { IfOk result (λ slotted. slotted.width ≡ width_of entries.now (length (in_sight sight.now)) (plain_cell (cell_in checked.now)).block) }
 {
     Ok(flat_code(alloc, &checked.cell().statements, sight, entries)?)
 }
@@ -63,8 +65,7 @@ pub(crate) fn flat_code(
         (λ slotted. (xs : List Name) → AreSlots xs → HaveNumbers xs slotted.code.statements.items →
         code_block xs slotted.code ≡ block_in entries.now (names_of (in_sight sight.now)) (block_of block.now)) }
     ensures wide { IfOk result (λ slotted. (xs : List Name) → slotted.width ≤ length xs → HaveNumbers xs slotted.code.statements.items) }
-    ensures sight { IfOk result (λ slotted. length (in_sight sight.now) ≤ slotted.width) }
-    ensures entries { IfOk result (λ slotted. length entries.now ≤ slotted.width) }
+    ensures width { IfOk result (λ slotted. slotted.width ≡ width_of entries.now (length (in_sight sight.now)) (block_of block.now)) }
 {
     let Some(count) = sight.counted() else {
         return Err(AllocError);
@@ -72,7 +73,7 @@ pub(crate) fn flat_code(
     let mut draft = Draft {
         statements: Vec::new(alloc),
         members: Vec::new(alloc),
-        width: larger(count, entries.len()),
+        width: count.max(entries.len()),
     };
     let body = flat_block(alloc, block, sight, entries, &mut draft)?;
     number_law(draft.width);
@@ -87,14 +88,6 @@ pub(crate) fn flat_code(
         },
         width: draft.width,
     })
-}
-
-/// The larger one of two.
-fn larger(one: usize, other: usize) -> usize
-    ensures one { one ≤ result }
-    ensures other { other ≤ result }
-{
-    if one < other { other } else { one }
 }
 
 /// Law: a `usize` has 64 bits.
@@ -123,6 +116,7 @@ fn flat_block(
     ensures numbered { IfOk result (λ b. (xs : List Name) → draft.new.width ≤ length xs →
         HaveNumbers xs draft.old.statements.items → HaveNumbers xs draft.new.statements.items) }
     ensures wider { draft.old.width ≤ draft.new.width }
+    ensures width { OnOk result (draft.new.width ≡ max draft.old.width (length (in_sight sight.now) + open_in_block (block_of block.now))) }
 {
     let mut numbers = Vec::new(alloc);
     for i in 0..block.len() {
@@ -157,7 +151,7 @@ fn local(sight: &Sight, draft: &mut Draft) -> Result<Symbol, AllocError>
     ensures name { IfOk result (λ symbol. symbol_name all_slots symbol ≡ slot (length (names_of (in_sight sight.now)))) }
     ensures number { IfOk result (λ symbol. symbol.number ≡ length (in_sight sight.now)) }
     ensures small { IfOk result (λ symbol. suc (length (in_sight sight.now)) < 2 ^ 64) }
-    ensures room { IfOk result (λ symbol. suc (length (in_sight sight.now)) ≤ draft.new.width) }
+    ensures width { OnOk result (draft.new.width ≡ max draft.old.width (suc (length (in_sight sight.now)))) }
     ensures wider { draft.old.width ≤ draft.new.width }
     ensures members { draft.new.members.items ≡ draft.old.members.items }
     ensures statements { draft.new.statements.items ≡ draft.old.statements.items }
@@ -166,7 +160,7 @@ fn local(sight: &Sight, draft: &mut Draft) -> Result<Symbol, AllocError>
     if number == usize::MAX {
         return Err(AllocError);
     }
-    draft.width = larger(draft.width, number + 1);
+    draft.width = draft.width.max(number + 1);
     Ok(symbol_of(number))
 }
 
@@ -191,6 +185,7 @@ fn flat_statement(
     ensures numbered { IfOk result (λ n. (xs : List Name) → draft.new.width ≤ length xs →
         HaveNumbers xs draft.old.statements.items → HaveNumbers xs draft.new.statements.items) }
     ensures wider { draft.old.width ≤ draft.new.width }
+    ensures width { OnOk result (draft.new.width ≡ max draft.old.width (length (in_sight sight.now) + open_in_stm (stm_of statement.now))) }
 {
     match statement {
         Stm::Skip => add(draft, Statement::Skip),

@@ -9,6 +9,7 @@ ghost use Rattle.janus_slots.specs.Slots.{stacked, procedure_in};
 ghost use Rattle.janus_check.specs.Sight.{heads_seen};
 ghost use Rattle.janus_code.specs.Procedures.{params_of, proc_of, ParametersHaveNumbers, ProcedureHasNumbers};
 ghost use Rattle.janus_code.specs.Slotted.{AreSlots, HasEntries, all_slots, slots_from};
+ghost use Rattle.janus_code.specs.Width.{width_of_procedure};
 
 use crate::code::{FlatParameter, FlatProcedure, SlottedProcedure};
 use crate::expression::{entry, symbol_of};
@@ -34,6 +35,7 @@ pub fn flatten_procedure(
         (λ slotted. (xs : List Name) → AreSlots xs → ProcedureHasNumbers xs slotted.procedure →
         proc_of xs slotted.procedure ≡ procedure_in entries.now (plain_procedure (procedure_view procedure.now))) }
     ensures wide { IfOk result (λ slotted. (xs : List Name) → slotted.width ≤ length xs → ProcedureHasNumbers xs slotted.procedure) }
+    ensures width { IfOk result (λ slotted. slotted.width ≡ width_of_procedure entries.now (plain_procedure (procedure_view procedure.now))) }
 {
     let name = entry(entries, &procedure.name);
     let parameters = flat_parameters(alloc, &procedure.parameters)?;

@@ -29,11 +29,6 @@ slice_get-map f [] i x e = let bad : None ≡ Some x = sym (slice_get_past [] i 
 slice_get-map f (y ∷ xs) zero x e = let same : y ≡ x = cc in ap (λ y. Some (f y)) same
 slice_get-map f (y ∷ xs) (suc i) x e = slice_get-map f xs i x e
 
-slice_get-unmap : {X Y : Type 0} (f : X → Y) (xs : List X) (i : ℕ) (y : Y) → slice_get (map f xs) i ≡ Some y → (x : X) × (slice_get xs i ≡ Some x) × (f x ≡ y)
-slice_get-unmap f [] i y e = let bad : None ≡ Some y = sym (slice_get_past [] i (omega arith)) ∙ e in cc
-slice_get-unmap f (x ∷ xs) zero y e = (x, refl, cc)
-slice_get-unmap f (x ∷ xs) (suc i) y e = slice_get-unmap f xs i y e
-
 module _ {Y : Type 0} (x : Name) where
   abbrev is_it : String Y → Bool
   is_it k = bytes_eq x (string_bytes k)
@@ -98,10 +93,6 @@ one_more xs y h new j k x e f =
     (λ (q : (k ≡ length xs) × (y ≡ x)). p.0 ∙ sym q.0)
     (last_or_before xs y x k f))
     (last_or_before xs y x j e)
-
-pub numbered_last : (xs : List Name) (y : Name) → IsNumbered (xs ++ y ∷ []) (length xs) y
-numbered_last [] y = refl
-numbered_last (x ∷ xs) y = numbered_last xs y
 
 no_key : {Y : Type 0} (k : String Y) (ks : List (String Y)) → IsUnmet (map string_bytes ks) (string_bytes k) → list_any (string_eq k) ks ≡ false
 no_key k [] h = refl

@@ -1,5 +1,6 @@
 use Rattle.std.proofs.Common.{rules, length-append, refl, [], ◌∷◌, ◌≡◌, ℕ, subst, List, length, get_or, ap, ◌∙◌, sym, arith, ◌+◌, ◌<◌, ◌≤◌}
 use Rattle.std.specs.Prelude.{slice_get, Some}
+use Rattle.std.proofs.lemmas.List.{drop_all}
 use Rattle.std.proofs.lemmas.Option.{slice_get_within, slice_get_read}
 use Rattle.janus_syntax.specs.View.{name_of, stm_of, block_of}
 use Rattle.janus_code.specs.Flat.{tree_at, ahead}
@@ -13,6 +14,8 @@ use Rattle.janus_code.specs.Seen.{SeesBlk}
 use Rattle.janus_code.specs.Slotted.{all_slots}
 use Rattle.janus_code.proofs.Slotting.{symbols_more, exp_more, fits}
 use Rattle.janus_code.specs.Numbered.{HaveNumbers}
+use Rattle.janus_code.specs.Width.{open_in_block}
+use Rattle.janus_code.proofs.Widths.{open_if, open_loop, open_local_int, open_local_stack, open_more}
 use Rattle.janus_code.proofs.flat.+flat.Goals as goal
 
 pub flat_block-returns-clause-block : goal.flat_block-returns-clause-block
@@ -128,19 +131,20 @@ flat_block-loop-i-preserved t c =
       trees = row_trees (λ s. stm_in c.args.entries.now (names_of (in_sight c.args.sight.now)) (stm_of s)) (tree_at all_slots old.members.items old.statements.items) (tree_at all_slots new.members.items new.statements.items) ns more n i (length old.statements.items) c.args.block.now s grown v.as_many v.below (one.grows.trees all_slots) v.trees here one.tree;
       numbered = λ xs w p. one.numbered xs w (v.numbered xs (omega (arith, w, one.wider)) p);
       wider = omega (arith, v.wider, one.wider);
+      width = omega (arith, v.width, one.width, open_more c.args.block.now i s c.index-block-i.is inside);
     }
 
 pub flat_statement-flat_block-requires-in-LocalInt : goal.flat_statement-flat_block-requires-in-LocalInt
 flat_statement-flat_block-requires-in-LocalInt t c =
     let part = local_int_part c.args.entries.now (in_sight c.args.sight.now) c.args.statement.now c.in-LocalInt.name c.in-LocalInt.field-3 c.in-LocalInt.first c.in-LocalInt.last c.in-LocalInt.block c.in-LocalInt.is c.requires.seen in
     let same = c.deref-in-LocalInt.ensures.value in
-    (omega (arith, c.decreases, part.lighter, ap (λ ss. block_weight (block_of ss)) same), (subst (λ ss. SeesBlk c.args.entries.now ((name_of c.in-LocalInt.name, ANumber) ∷ in_sight c.args.sight.now) (block_of ss)) (sym same) part.block, (c.in_ok-symbol-in-LocalInt.ensures.small, (c.in_ok-symbol-in-LocalInt.ensures.room, omega (arith, c.requires.entries, c.in_ok-symbol-in-LocalInt.ensures.wider)))))
+    (omega (arith, c.decreases, part.lighter, ap (λ ss. block_weight (block_of ss)) same), (subst (λ ss. SeesBlk c.args.entries.now ((name_of c.in-LocalInt.name, ANumber) ∷ in_sight c.args.sight.now) (block_of ss)) (sym same) part.block, (c.in_ok-symbol-in-LocalInt.ensures.small, (omega (arith, c.in_ok-symbol-in-LocalInt.ensures.width), omega (arith, c.requires.entries, c.in_ok-symbol-in-LocalInt.ensures.wider)))))
 
 pub flat_statement-flat_block-requires-in-LocalStack : goal.flat_statement-flat_block-requires-in-LocalStack
 flat_statement-flat_block-requires-in-LocalStack t c =
     let part = local_stack_part c.args.entries.now (in_sight c.args.sight.now) c.args.statement.now c.in-LocalStack.name c.in-LocalStack.field-2 c.in-LocalStack.block c.in-LocalStack.is c.requires.seen in
     let same = c.deref-in-LocalStack.ensures.value in
-    (omega (arith, c.decreases, part.lighter, ap (λ ss. block_weight (block_of ss)) same), (subst (λ ss. SeesBlk c.args.entries.now ((name_of c.in-LocalStack.name, AStack) ∷ in_sight c.args.sight.now) (block_of ss)) (sym same) part.block, (c.in_ok-symbol-in-LocalStack.ensures.small, (c.in_ok-symbol-in-LocalStack.ensures.room, omega (arith, c.requires.entries, c.in_ok-symbol-in-LocalStack.ensures.wider)))))
+    (omega (arith, c.decreases, part.lighter, ap (λ ss. block_weight (block_of ss)) same), (subst (λ ss. SeesBlk c.args.entries.now ((name_of c.in-LocalStack.name, AStack) ∷ in_sight c.args.sight.now) (block_of ss)) (sym same) part.block, (c.in_ok-symbol-in-LocalStack.ensures.small, (omega (arith, c.in_ok-symbol-in-LocalStack.ensures.width), omega (arith, c.requires.entries, c.in_ok-symbol-in-LocalStack.ensures.wider)))))
 
 pub flat_statement-returns-in_ok-first-in-LocalInt-clause-tree : goal.flat_statement-returns-in_ok-first-in-LocalInt-clause-tree
 flat_statement-returns-in_ok-first-in-LocalInt-clause-tree t c =
@@ -168,7 +172,7 @@ flat_statement-returns-in_ok-first-in-LocalInt-clause-numbered t c =
     if_ok c.add-in-LocalInt.result (λ n h xs l p.
     let le = fits (in_sight c.args.sight.now) xs c.args.draft.now.width c.add-in-LocalInt.new.draft.width c.requires.sight (omega (arith, w, same, older)) l in
     h xs (c.in_ok-block-in-LocalInt.ensures.numbered xs (omega (arith, l, same)) (subst (HaveNumbers xs) (sym c.in_ok-symbol-in-LocalInt.ensures.statements) p))
-    ((omega (arith, c.in_ok-symbol-in-LocalInt.ensures.number, c.in_ok-symbol-in-LocalInt.ensures.room, w, same, l)), exp_more (names_of (in_sight c.args.sight.now)) xs c.in_ok-first-in-LocalInt.first le c.in_ok-first-in-LocalInt.ensures.numbered.0, exp_more (names_of (in_sight c.args.sight.now)) xs c.in_ok-first-in-LocalInt.last le c.in_ok-first-in-LocalInt.ensures.numbered.1)) c.add-in-LocalInt.ensures.numbered
+    ((omega (arith, c.in_ok-symbol-in-LocalInt.ensures.number, c.in_ok-symbol-in-LocalInt.ensures.width, w, same, l)), exp_more (names_of (in_sight c.args.sight.now)) xs c.in_ok-first-in-LocalInt.first le c.in_ok-first-in-LocalInt.ensures.numbered.0, exp_more (names_of (in_sight c.args.sight.now)) xs c.in_ok-first-in-LocalInt.last le c.in_ok-first-in-LocalInt.ensures.numbered.1)) c.add-in-LocalInt.ensures.numbered
 
 pub flat_statement-returns-in_ok-block-in-LocalStack-clause-numbered : goal.flat_statement-returns-in_ok-block-in-LocalStack-clause-numbered
 flat_statement-returns-in_ok-block-in-LocalStack-clause-numbered t c =
@@ -178,7 +182,7 @@ flat_statement-returns-in_ok-block-in-LocalStack-clause-numbered t c =
     if_ok c.add-in-LocalStack.result (λ n h xs l p.
     let le = fits (in_sight c.args.sight.now) xs c.args.draft.now.width c.add-in-LocalStack.new.draft.width c.requires.sight (omega (arith, w, same, older)) l in
     h xs (c.in_ok-block-in-LocalStack.ensures.numbered xs (omega (arith, l, same)) (subst (HaveNumbers xs) (sym c.in_ok-symbol-in-LocalStack.ensures.statements) p))
-    (omega (arith, c.in_ok-symbol-in-LocalStack.ensures.number, c.in_ok-symbol-in-LocalStack.ensures.room, w, same, l))) c.add-in-LocalStack.ensures.numbered
+    (omega (arith, c.in_ok-symbol-in-LocalStack.ensures.number, c.in_ok-symbol-in-LocalStack.ensures.width, w, same, l))) c.add-in-LocalStack.ensures.numbered
 
 pub flat_statement-returns-in_ok-exp-in-Assign-clause-numbered : goal.flat_statement-returns-in_ok-exp-in-Assign-clause-numbered
 flat_statement-returns-in_ok-exp-in-Assign-clause-numbered t c =
@@ -234,3 +238,37 @@ flat_block-returns-clause-grows t c =
     if_ok c.add_block.result (λ b h.
     grows_on c.args.draft.now.members.items c.loop-i.draft.members.items c.add_block.new.draft.members.items c.args.draft.now.statements.items c.loop-i.draft.statements.items c.add_block.new.draft.statements.items c.loop-i.invariant.grows h)
     c.add_block.ensures.grows
+
+pub flat_block-returns-clause-width : goal.flat_block-returns-clause-width
+flat_block-returns-clause-width t c =
+    let v = c.loop-i.invariant in
+    let none = ap (λ ss. open_in_block (block_of ss)) (drop_all c.loop-i.i c.args.block.now (omega arith)) in
+    always_ok c.add_block.result (λ b. omega (arith, none, v.width, v.wider, c.add_block.ensures.width, c.requires.sight))
+
+pub flat_statement-returns-in_ok-test-in-If-clause-width : goal.flat_statement-returns-in_ok-test-in-If-clause-width
+flat_statement-returns-in_ok-test-in-If-clause-width t c =
+    let most = open_if c.args.statement.now c.in-If.test c.in-If.last c.in-If.then_part c.in-If.else_part
+    c.deref.result.now c.deref-in-If.result.now c.in-If.is c.deref.ensures.value c.deref-in-If.ensures.value in
+    always_ok c.add-in-If.result (λ n.
+    omega (arith, most, c.in_ok-then_part-in-If.ensures.width, c.in_ok-else_part-in-If.ensures.width, c.add-in-If.ensures.width))
+
+pub flat_statement-returns-in_ok-entry-in-Loop-clause-width : goal.flat_statement-returns-in_ok-entry-in-Loop-clause-width
+flat_statement-returns-in_ok-entry-in-Loop-clause-width t c =
+    let most = open_loop c.args.statement.now c.in-Loop.entry c.in-Loop.exit c.in-Loop.do_part c.in-Loop.loop_part
+    c.deref-in-Loop.result.now c.deref-in-Loop-2.result.now c.in-Loop.is c.deref-in-Loop.ensures.value c.deref-in-Loop-2.ensures.value in
+    always_ok c.add-in-Loop.result (λ n.
+    omega (arith, most, c.in_ok-do_part-in-Loop.ensures.width, c.in_ok-loop_part-in-Loop.ensures.width, c.add-in-Loop.ensures.width))
+
+pub flat_statement-returns-in_ok-first-in-LocalInt-clause-width : goal.flat_statement-returns-in_ok-first-in-LocalInt-clause-width
+flat_statement-returns-in_ok-first-in-LocalInt-clause-width t c =
+    let most = open_local_int c.args.statement.now c.in-LocalInt.name c.in-LocalInt.field-3 c.in-LocalInt.first c.in-LocalInt.last c.in-LocalInt.block
+    c.deref-in-LocalInt.result.now c.in-LocalInt.is c.deref-in-LocalInt.ensures.value in
+    always_ok c.add-in-LocalInt.result (λ n.
+    omega (arith, most, c.in_ok-symbol-in-LocalInt.ensures.width, c.in_ok-block-in-LocalInt.ensures.width, c.add-in-LocalInt.ensures.width))
+
+pub flat_statement-returns-in_ok-block-in-LocalStack-clause-width : goal.flat_statement-returns-in_ok-block-in-LocalStack-clause-width
+flat_statement-returns-in_ok-block-in-LocalStack-clause-width t c =
+    let most = open_local_stack c.args.statement.now c.in-LocalStack.name c.in-LocalStack.field-2 c.in-LocalStack.block
+    c.deref-in-LocalStack.result.now c.in-LocalStack.is c.deref-in-LocalStack.ensures.value in
+    always_ok c.add-in-LocalStack.result (λ n.
+    omega (arith, most, c.in_ok-symbol-in-LocalStack.ensures.width, c.in_ok-block-in-LocalStack.ensures.width, c.add-in-LocalStack.ensures.width))

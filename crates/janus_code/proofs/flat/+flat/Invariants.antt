@@ -1,4 +1,4 @@
-use Rattle.std.proofs.Common.{◌≡◌, ℕ, ◌<◌, ◌≤◌, List, length, get_or}
+use Rattle.std.proofs.Common.{◌≡◌, ℕ, ◌<◌, ◌≤◌, ◌+◌, max, List, length, get_or, drop}
 use Rattle.std.specs.Prelude.{slice_get, Some}
 use Rattle.janus_syntax.specs.View.{stm_of, block_of}
 use Rattle.janus_code.proofs.Seeing.{stm_weight, block_weight}
@@ -10,6 +10,7 @@ use Rattle.janus_check.specs.Sight.{in_sight}
 use Rattle.janus_meaning.specs.Syntax.{Name, names_of}
 use Rattle.janus_slots.specs.Slots.{stm_in}
 use Rattle.janus_code.specs.Slotted.{all_slots}
+use Rattle.janus_code.specs.Width.{open_in_block}
 use Rattle.janus_code.proofs.flat.+flat.Given as goal
 
 abbrev pub invariant-flat_block-loop-i : goal.invariant-flat_block-loop-i
@@ -20,6 +21,8 @@ invariant-flat_block-loop-i l = record {
   trees : (j : ℕ) (s : code_stm.Stm) → j < l.i → slice_get l.block j ≡ Some s → tree_at all_slots l.draft.members.items l.draft.statements.items (get_or l.numbers.items j 0) ≡ stm_in l.entries (names_of (in_sight l.sight)) (stm_of s);
   numbered : (xs : List Name) → l.draft.width ≤ length xs → HaveNumbers xs l.fn.draft.statements.items → HaveNumbers xs l.draft.statements.items;
   wider : l.fn.draft.width ≤ l.draft.width;
+  width : max l.draft.width (length (in_sight l.sight) + open_in_block (block_of (drop l.i l.block)))
+      ≡ max l.fn.draft.width (length (in_sight l.sight) + open_in_block (block_of l.block));
 }
 
 abbrev pub decreases-flat_block : goal.decreases-flat_block

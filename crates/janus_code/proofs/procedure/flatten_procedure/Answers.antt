@@ -10,6 +10,7 @@ use Rattle.janus_check.proofs.ParameterLemmas.{all_in_sight}
 use Rattle.janus_check.proofs.SlotLemmas.{seen_long}
 use Rattle.janus_code.specs.Seen.{SeesBlk}
 use Rattle.janus_code.specs.Slotted.{all_slots, slots_from}
+use Rattle.janus_code.specs.Width.{width_of}
 use Rattle.janus_code.proofs.Seeing.{block_seen}
 use Rattle.janus_code.proofs.Slotting.{all_long, are_all, slots_long, parameters_longer, same_symbol, same_params}
 use Rattle.janus_code.proofs.procedure.flatten_procedure.Goals as goal
@@ -54,9 +55,18 @@ returns-clause-wide c =
     let same : n ≡ length params = ap length c.deref.ensures.value ∙ sym (seen_long p.parameters.items) in
     let many = ap (λ (g : Shape). length g) sight in
     λ xs w. record {
-      name = omega (arith, c.entry-name.ensures.numbered, c.in_ok-body.ensures.entries, w);
+      name = omega (arith, c.entry-name.ensures.numbered, c.in_ok-body.ensures.width, w);
       parameters =
           parameters_longer (slots_from 0 n) xs c.in_ok-parameters.parameters.items
-          (omega (arith, slots_long 0 n, same, many, c.in_ok-body.ensures.sight, w)) c.in_ok-parameters.ensures.numbered;
+          (omega (arith, slots_long 0 n, same, many, c.in_ok-body.ensures.width, w)) c.in_ok-parameters.ensures.numbered;
       body = c.in_ok-body.ensures.wide xs w;
     }
+
+pub returns-clause-width : goal.returns-clause-width
+returns-clause-width c =
+    let p = c.args.procedure.now in
+    let params : Shape = map plain_parameter (parameters_view p.parameters.items) in
+    let sight : in_sight c.body-inside.result ≡ params = c.body-inside.ensures.names ∙ ap (λ ps. body_sight (parameters_view ps)) c.deref-2.ensures.value
+    ∙ all_in_sight (parameters_view p.parameters.items) c.requires.formed.few in
+    c.in_ok-body.ensures.width ∙ ap (λ (g : Shape). width_of c.args.entries.now (length g) (block_of c.deref-3.result.now)) sight
+    ∙ ap (λ ss. width_of c.args.entries.now (length params) (block_of ss)) c.deref-3.ensures.value
