@@ -89,14 +89,14 @@ pub struct FlatProcedure {
     pub body: Code,
 }
 
-/// Flat code with slots, and how many slots a table has to have for all of its numbers.
+/// Flat code with slots, and how many slots are enough for all of its numbers.
 #[derive(Drop)]
 pub struct SlottedCode {
     pub code: Code,
     pub width: usize,
 }
 
-/// A procedure whose code has slots, and how many slots a table has to have for all of its numbers.
+/// A procedure whose code has slots, and how many slots are enough for all of its numbers.
 #[derive(Drop)]
 pub struct SlottedProcedure {
     pub procedure: FlatProcedure,
