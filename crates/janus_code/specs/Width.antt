@@ -1,4 +1,4 @@
--- How many slots flat code needs.
+-- How many slots are enough for flat code: its width.
 use Rattle.std.specs.Prelude.{ℕ, suc, ◌+◌, max, List, length}
 use Rattle.janus_meaning.specs.Syntax.{Name, Stm, Blk, Skip, Set, SetAt, Push, Pop, Swap, If, From, LocalInt, LocalStack, Call, Uncall, Nil, Cons, Proc}
 

@@ -367,11 +367,11 @@ impl<L: Ledger> Store<L> {
         requires first { IsFirstOnTop self.old.slots }
         requires whole { IsWhole self.old }
         ensures { self.new ≡ state_of
-          (rest_of self.old.slots)
-          (self.old.declared - 1)
-          (take (self.old.declared - 1) self.old.texts)
-          self.old.names
-          [] }
+            (rest_of self.old.slots)
+            (self.old.declared - 1)
+            (take (self.old.declared - 1) self.old.texts)
+            self.old.names
+            [] }
     {
         let Variable { value, .. } = remove_own(
             &mut self.newest,
