@@ -5,7 +5,8 @@ use Rattle.janus_meaning.specs.Limit.{live_stack_limit, parameter_limit}
 use Rattle.janus_meaning.specs.Syntax.{Name}
 use Rattle.cell_pool.specs.Chains.{times}
 use Rattle.janus_names.specs.Numbers.{HaveOneNumber}
-use Rattle.janus_store.specs.StoreState.{StoreState, state_of, Caller, local_limit, call_limit, bound_limit, params_bound, live_stacks, values_held, slots_below}
+use Rattle.janus_store.specs.StoreState.{StoreState, state_of, Caller, local_limit, call_limit, bound_limit, params_bound, live_stacks}
+use Rattle.janus_store.specs.StoreState.{values_held, slots_below}
 use Rattle.janus_store.specs.Bounds.{Bound, Level, seen, all_of, callers_of, AreNested}
 use Rattle.janus_store.specs.Places.{marks_of, lengths_before, AreSorted, AreCounted}
 use Rattle.janus_store.specs.Plain.{Plain}

@@ -1,6 +1,6 @@
 //! The declared names with their values and texts, in the order of declaration, and the locals above them, found by numbers.
 
-ghost use Rattle.std.specs.Prelude.{◌≡◌, ℤ, ℕ, suc, ◌+◌, ◌-◌, List, [], ◌∷◌, ◌++◌, pos, ◌<◌, ◌≤◌, length, vec_len, vec_capacity, slice_set, slice_index};
+ghost use Rattle.std.specs.Prelude.{◌≡◌, ℤ, ℕ, suc, ◌+◌, ◌-◌, List, [], ◌∷◌, ◌++◌, pos, ◌<◌, ◌≤◌, max, length, vec_len, vec_capacity, slice_set, slice_index};
 ghost use Rattle.std.specs.Prelude.{IsTrue, ◌↔◌, IfOk, OnOk, OnErr, slice_get, Some};
 ghost use Rattle.std.specs.Prelude.{◌^◌, take, reverse, replicate, slice_index_or};
 ghost use Rattle.janus_meaning.specs.Syntax.{Name};
@@ -277,7 +277,7 @@ impl<L: Ledger> Store<L> {
 
     /// Makes room for the numbers below `count`, so that each of them has a name. An error for want of memory leaves what is declared.
     pub fn reach(&mut self, count: usize) -> Result<(), AllocError>
-        ensures reached { OnOk result (count ≤ length self.new.names) }
+        ensures reached { OnOk result (length self.new.names ≡ max count (length self.old.names)) }
         ensures goes_on { GoOn self.old.names self.new.names }
         ensures same { self.new ≡ record self.old { names = self.new.names } }
     {
@@ -750,7 +750,7 @@ fn sight_start(calls: &[Call]) -> usize
 /// Gives each number below `count` that has no place the place 0. An error for want of memory leaves the places.
 fn reach_in(newest: &mut Vec<usize>, count: usize) -> Result<(), AllocError>
     ensures more { (more : ℕ) × (newest.new.items ≡ newest.old.items ++ replicate more 0) }
-    ensures reached { OnOk result (count ≤ vec_len newest.new) }
+    ensures reached { OnOk result (vec_len newest.new ≡ max count (vec_len newest.old)) }
 {
     if count <= newest.len() {
         return Ok(());

@@ -32,7 +32,7 @@ pub struct Runner<L: Ledger> {
     pub store: Store<L>,
     pub cursor: Cursor,
     pub procedures: Procedures,
-    /// The names of all procedures that cells ever defined, each with its number.
+    /// The names of the procedures of all cells that passed the check, each with its number.
     pub entries: Names,
 }
 

@@ -1,4 +1,4 @@
-use Rattle.std.proofs.Common.{◌≤◌, OnOk, length, ap, ◌∙◌, sym, subst}
+use Rattle.std.proofs.Common.{◌≡◌, max, OnOk, length, ap, ◌∙◌, sym, subst}
 use Rattle.janus_names.specs.Numbers.{GoOn}
 use Rattle.janus_store.specs.StoreState.{StoreState, slots_below}
 use Rattle.janus_store.proofs.Reached.{reached_held, reached_on, reached_kept}
@@ -22,5 +22,8 @@ returns-clause-same g c =
 
 pub returns-clause-reached : goal.returns-clause-reached
 returns-clause-reached g c =
+    let ns = c.self.inside.newest in
     let ms = c.reach_in.new.newest in
-    subst (λ n. OnOk c.reach_in.result (c.args.count ≤ n)) (ms.ok.0 ∙ sym (slots_long (length ms.items))) c.reach_in.ensures.reached
+    let was : ns.len ≡ length c.args.self.now.names = ns.ok.0 ∙ sym (slots_long (length ns.items)) ∙ ap (λ (h : StoreState). length h.names) c.self.view_is in
+    subst (λ n. OnOk c.reach_in.result (n ≡ max c.args.count (length c.args.self.now.names))) (ms.ok.0 ∙ sym (slots_long (length ms.items)))
+    (subst (λ n. OnOk c.reach_in.result (ms.len ≡ max c.args.count n)) was c.reach_in.ensures.reached)
