@@ -1,6 +1,7 @@
 -- The body that is kept of a procedure stands for it, with slots in place of names.
-use Rattle.std.proofs.Common.{◌≡◌, ◌+◌, ◌<◌, ◌≤◌, ℕ, zero, suc, List, [], ◌∷◌, ◌++◌, length, get_or, map, take, refl, sym, ap, ◌∙◌, subst, arith}
+use Rattle.std.proofs.Common.{◌≡◌, ◌+◌, ◌<◌, ◌≤◌, ℕ, zero, suc, max, add-one, List, [], ◌∷◌, ◌++◌, length, get_or, map, take, refl, sym, ap, ◌∙◌, subst, arith}
 use Rattle.std.specs.Prelude.{slice_get, Some}
+use Rattle.std.specs.Ordering.{nat_cmp, ord_max}
 use Rattle.std.proofs.lemmas.List.{length-map, map-append}
 use Rattle.janus_machine.proofs.BodiesInEffect.{bodies_from_before, bodies_from_more}
 use Rattle.janus_meaning.specs.Limit.{parameter_limit}
@@ -23,6 +24,8 @@ use Rattle.janus_machine.specs.Bodies.{numbers_of, IsBody, AreBodiesFrom}
 use Rattle.janus_machine.specs.Places.{block_in, BookHasNumbers}
 use Rattle.janus_machine.specs.declared.book.Direction.TheVariants.{Forward}
 use Rattle.janus_machine.specs.declared.linked_procedure.LinkedProcedure.{LinkedProcedure}
+use Rattle.janus_code.specs.Width.{width_of_procedure}
+use Rattle.kernel_loader.specs.Keeping.{width_of_procedures}
 
 parameters_named : (xs : List Name) (ps : List FlatParameter) → ParametersHaveNumbers xs ps → AreNamed xs (numbers_of ps) (names_of (params_of xs ps))
 parameters_named xs [] h = tt
@@ -106,3 +109,19 @@ bodies_more xs es old all new ys i y b l e bodies count made named body =
     subst (λ bs. AreBodiesFrom xs bs (length old) (procedures_in es (map plain_procedure (procedures_view (take (i + 1) ys))))) (sym made)
     (subst (λ qs. AreBodiesFrom xs (all ++ b ∷ []) (length old) qs) (sym more)
     (bodies_from_more xs (all ++ b ∷ []) (length old) ps p (bodies_from_before xs all b (length old) ps bodies) (b, at, named, body)))
+
+-- ---- how many slots they need
+
+pub larger_is : (a b n : ℕ) → n ≡ ord_max nat_cmp a b → n ≡ max a b
+larger_is a b n e = let most : ord_max nat_cmp a b ≡ max a b = grind arith in e ∙ most
+
+width_of_last : (es : List Name) (ps : List Proc) (p : Proc) → width_of_procedures es (ps ++ p ∷ []) ≡ max (width_of_procedures es ps) (width_of_procedure es p)
+width_of_last es [] p = omega arith
+width_of_last es (q ∷ ps) p = omega (arith, width_of_last es ps p)
+
+pub width_more : (es : List Name) (ys : List Defined.Procedure) (i : ℕ) (y : Defined.Procedure) → i < length ys → get_or ys i y ≡ y →
+    width_of_procedures es (map plain_procedure (procedures_view (take (i + 1) ys)))
+    ≡ max (width_of_procedures es (map plain_procedure (procedures_view (take i ys)))) (width_of_procedure es (plain_procedure (procedure_view y)))
+width_more es ys i y l e =
+    ap (λ n. width_of_procedures es (map plain_procedure (procedures_view (take n ys)))) (add-one i) ∙ ap (width_of_procedures es) (procedures_more ys i y l e)
+    ∙ width_of_last es (map plain_procedure (procedures_view (take i ys))) (plain_procedure (procedure_view y))

@@ -4,4 +4,5 @@ pub mod Made
 pub mod Listed
 pub mod CodeCalls
 pub mod Sighted
+pub mod Named
 pub mod Entries

@@ -1,8 +1,10 @@
 -- The code of a cell, and the bodies of its procedures, kept behind those of earlier cells. All of it has slots in place of names, and stands for what it
 -- does over each table of slots that is as wide as told.
-use Rattle.std.specs.Prelude.{◌≡◌, ◌≤◌, ℕ, List, [], ◌∷◌, ◌++◌, length, take}
+use Rattle.std.specs.Prelude.{◌≡◌, ◌≤◌, ℕ, max, List, [], ◌∷◌, ◌++◌, length, take}
 use Rattle.janus_meaning.specs.Syntax.{Name, Blk, Proc}
+use Rattle.janus_meaning.specs.World.{Cell}
 use Rattle.janus_names.specs.Numbers.{IsNumbered}
+use Rattle.janus_code.specs.Width.{width_of, width_of_procedure}
 use Rattle.janus_store.specs.StoreState.{AreSlots}
 use Rattle.janus_machine.specs.Bodies.{AreDefined, AreBodiesFrom, IsBody}
 use Rattle.janus_machine.specs.LinkedProcedure.{name_number_of}
@@ -28,6 +30,15 @@ pub record IsKeptBehind (old new : Procedures) (width : ℕ) (p : Proc) : Type 0
 -- and the bodies of these, in order
 abbrev pub AreBodiesBehind : Procedures → Procedures → ℕ → List Proc → Type 0
 AreBodiesBehind old new width ps = (xs : List Name) → AreSlots xs → width ≤ length xs → AreBodiesFrom xs (kept_in new) (length (kept_in old)) ps
+
+-- how many slots they need, with the names of procedures in this table: as many as the body that needs most
+abbrev pub width_of_procedures : List Name → List Proc → ℕ
+width_of_procedures es [] = 0
+width_of_procedures es (p ∷ ps) = max (width_of_procedure es p) (width_of_procedures es ps)
+
+-- and a cell over so many names in sight, with its procedures
+abbrev pub width_of_cell : List Name → ℕ → Cell → ℕ
+width_of_cell es count cell = max (width_of_procedures es cell.procedures) (width_of es count cell.block)
 
 -- what was kept is, at its index
 abbrev pub KeepsOlder : Procedures → Procedures → Type 0

@@ -6,8 +6,9 @@ ghost use Rattle.janus_syntax.specs.Tree.{procedure_view, procedures_view};
 ghost use Rattle.janus_syntax.specs.View.{plain_procedure};
 ghost use Rattle.janus_check.specs.Sight.{heads_seen};
 ghost use Rattle.janus_code.specs.Slotted.{HasEntries};
+ghost use Rattle.janus_code.specs.Width.{width_of_procedure};
 ghost use Rattle.janus_machine.specs.Procedures.{kept_in};
-ghost use Rattle.kernel_loader.specs.Keeping.{IsKeptBehind, AreBodiesBehind, KeepsOlder, KeepsDefined};
+ghost use Rattle.kernel_loader.specs.Keeping.{IsKeptBehind, AreBodiesBehind, KeepsOlder, KeepsDefined, width_of_procedures};
 
 use janus_check::Sight;
 use janus_code::flatten_procedure;
@@ -29,6 +30,7 @@ pub fn keep_all(
     requires entries { HasEntries (heads_seen sight.now) entries.now }
     ensures bodies { IfOk result (λ width.
         AreBodiesBehind kept.old kept.new width (procedures_in entries.now (map plain_procedure (procedures_view procedures.now)))) }
+    ensures width { IfOk result (λ width. width ≡ width_of_procedures entries.now (map plain_procedure (procedures_view procedures.now))) }
     ensures count { OnOk result (length (kept_in kept.new) ≡ length (kept_in kept.old) + length procedures.now) }
     ensures older { KeepsOlder kept.old kept.new }
     ensures defined { KeepsDefined kept.old kept.new }
@@ -36,7 +38,7 @@ pub fn keep_all(
     let mut width = 0;
     for i in 0..procedures.len() {
         let more = keep(alloc, &procedures[i], sight, entries, kept)?;
-        width = larger(width, more);
+        width = width.max(more);
     }
     Ok(width)
 }
@@ -53,6 +55,7 @@ fn keep(
     requires formed { IsProc (heads_seen sight.now) (plain_procedure (procedure_view procedure.now)) }
     requires entries { HasEntries (heads_seen sight.now) entries.now }
     ensures ok { IfOk result (λ width. IsKeptBehind kept.old kept.new width (procedure_in entries.now (plain_procedure (procedure_view procedure.now)))) }
+    ensures width { IfOk result (λ width. width ≡ width_of_procedure entries.now (plain_procedure (procedure_view procedure.now))) }
     ensures err { OnErr result (kept_in kept.new ≡ kept_in kept.old) }
     ensures defined { KeepsDefined kept.old kept.new }
 {
@@ -63,12 +66,4 @@ fn keep(
     let body = LinkedProcedure::new(alloc, flat.procedure)?;
     let _index = kept.add(body)?;
     Ok(width)
-}
-
-/// The larger one of two.
-pub fn larger(one: usize, other: usize) -> usize
-    ensures one { one ≤ result }
-    ensures other { other ≤ result }
-{
-    if one < other { other } else { one }
 }

@@ -2,7 +2,7 @@
 //!
 //! What the layer above may rely on:
 //! - `load` prepares a cell's text over the names that the runner's store declares and the procedures that it is lent: it is parsed, checked,
-//!   made flat and linked, with slots in place of names, the names of its procedures come into the runner's table behind the others, and the
+//!   made flat and linked, with slots in place of names, the names of its procedures and no others come into the runner's table behind the old ones, and the
 //!   bodies of its procedures are kept behind those of earlier cells. What is refused is refused for the text's fault or for want of memory
 //!   (`Text` of `kernel_machine`). The runner shows what it showed.
 //! - `names_in_sight` gives the names that a store declares, as the check of a cell sees them.
@@ -11,7 +11,7 @@
 //! of its procedures), `frame` (the names over which it runs), `keeping` (the bodies of its procedures), `loader` (all of these for one text).
 //!
 //! The definitions are in specs/: `Kinds`, `Defined`, `Known` (what a cell is checked over), `Keeping` (its code, and the bodies that are kept) and
-//! `Loading` (what stays while a cell is loaded).
+//! `Loading` (what stays while a cell is loaded, and which names of procedures are new).
 #![tactic(auto)]
 
 mod checking;

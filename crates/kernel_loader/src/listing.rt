@@ -4,6 +4,7 @@ ghost use Rattle.janus_names.specs.Numbers.{GoOn};
 ghost use Rattle.janus_slots.specs.Law.{AreListed};
 ghost use Rattle.janus_syntax.specs.Tree.{procedures_view};
 ghost use Rattle.janus_syntax.specs.View.{plain_procedure};
+ghost use Rattle.kernel_loader.specs.Loading.{AddNamesOf};
 
 use janus_names::Names;
 use janus_syntax::tree::Procedure;
@@ -13,6 +14,7 @@ use std::alloc::AllocError;
 pub fn list_all(entries: &mut Names, procedures: &[Procedure]) -> Result<(), AllocError>
     ensures listed { OnOk result (AreListed entries.new (map plain_procedure (procedures_view procedures.now))) }
     ensures onward { GoOn entries.old entries.new }
+    ensures only { AddNamesOf entries.old entries.new (map plain_procedure (procedures_view procedures.now)) }
 {
     for i in 0..procedures.len() {
         let _number = entries.add(procedures[i].name.text.as_str())?;

@@ -1,5 +1,5 @@
 //! A cell's text, made a program that the runner can run.
-ghost use Rattle.std.specs.Prelude.{◌≡◌, ◌+◌, ℕ, List, IfOk, IfErr, OnOk, OnErr, length};
+ghost use Rattle.std.specs.Prelude.{◌≡◌, ◌+◌, ℕ, max, List, IfOk, IfErr, OnOk, OnErr, length};
 ghost use Rattle.janus_meaning.specs.Syntax.{Name, names_of};
 ghost use Rattle.janus_meaning.specs.Formed.{IsBlk, AreProcs};
 ghost use Rattle.janus_meaning.specs.World.{declare, entered};
@@ -11,6 +11,7 @@ ghost use Rattle.janus_check.specs.Checked.{cell_in};
 ghost use Rattle.janus_check.specs.Sight.{in_sight, heads_seen};
 ghost use Rattle.janus_code.specs.CodeBlock.{code_block};
 ghost use Rattle.janus_code.specs.Slotted.{HasEntries};
+ghost use Rattle.janus_code.specs.Width.{width_of};
 ghost use Rattle.janus_store.specs.StoreState.{KeepsSight, shown_store};
 ghost use Rattle.janus_machine.specs.Bodies.{AreBodiesFrom};
 ghost use Rattle.janus_machine.specs.Places.{block_in as block_of_book, BookHasNumbers, KeepsNumbers};
@@ -21,12 +22,12 @@ ghost use Rattle.kernel_machine.specs.Text.{Accepts, Refuses};
 ghost use Rattle.kernel_runner.specs.Program.{cell_of_program, procedures_of, IsReady};
 ghost use Rattle.kernel_runner.specs.Runner.{ShownWorld, over, Is, Between, world_of};
 ghost use Rattle.kernel_loader.specs.Defined.{in_a_row};
-ghost use Rattle.kernel_loader.specs.Keeping.{StandsFor, KeepsOlder, KeepsDefined};
-ghost use Rattle.kernel_loader.specs.Loading.{IsCheckedOver, KeepsShown};
+ghost use Rattle.kernel_loader.specs.Keeping.{StandsFor, KeepsOlder, KeepsDefined, width_of_cell};
+ghost use Rattle.kernel_loader.specs.Loading.{IsCheckedOver, KeepsShown, AddNamesOf, AddNamesOfText};
 
 use crate::checking::cell_of_text;
 use crate::frame::{frame_names, has_loop};
-use crate::keeping::{keep_all, larger};
+use crate::keeping::keep_all;
 use crate::known::known_over;
 use crate::listing::list_all;
 use janus_check::{Checked, Env, Sight, own_of};
@@ -55,9 +56,15 @@ pub fn load<L: Ledger>(
     ensures ready { IfOk result (λ program. IsReady runner.new.store.names runner.new.entries
         (names_in (entered (cell_of_program program) (world_of (in_a_row procedures.now) runner.old)).store) runner.new.procedures program) }
     ensures named { IfOk result (λ program. AreListed runner.new.entries (procedures_of program)) }
+    ensures only { IfOk result (λ program. AddNamesOf runner.old.entries runner.new.entries (procedures_of program)) }
+    ensures only_of_text { OnErr result (AddNamesOfText (world_of (in_a_row procedures.now) runner.old) text.now runner.old.entries runner.new.entries) }
     // Its bodies are behind those that were kept, with none behind them, and what is refused leaves those alone.
     ensures behind { IfOk result (λ program. program.first ≡ length (kept_in runner.old.procedures)) }
     ensures last { IfOk result (λ program. length (kept_in runner.new.procedures) ≡ program.first + length (procedures_of program)) }
+    // The store has as many slots as before, or as the program needs.
+    ensures slots { IfOk result (λ program. length runner.new.store.names ≡ max (width_of_cell runner.new.entries
+        (length (names_in (entered (cell_of_program program) (world_of (in_a_row procedures.now) runner.old)).store))
+        (cell_of_program program)) (length runner.old.store.names)) }
     ensures older { KeepsOlder runner.old.procedures runner.new.procedures }
     ensures none { OnErr result (kept_in runner.new.procedures ≡ kept_in runner.old.procedures) }
     ensures kept { KeepsSight runner.old.store runner.new.store }
@@ -91,8 +98,12 @@ fn link<L: Ledger>(
         (names_in (declare (plain_cell (cell_in checked.now)).declarations (shown_store runner.old.store)))
         runner.new.procedures (record { book = made.0; checked = checked.now; first = made.1 })) }
     ensures named { OnOk result (AreListed runner.new.entries (plain_cell (cell_in checked.now)).procedures) }
+    ensures only { AddNamesOf runner.old.entries runner.new.entries (plain_cell (cell_in checked.now)).procedures }
     ensures behind { IfOk result (λ made. made.1 ≡ length (kept_in runner.old.procedures)) }
     ensures last { IfOk result (λ made. length (kept_in runner.new.procedures) ≡ made.1 + length (plain_cell (cell_in checked.now)).procedures) }
+    ensures slots { OnOk result (length runner.new.store.names ≡ max (width_of_cell runner.new.entries
+        (length (names_in (declare (plain_cell (cell_in checked.now)).declarations (shown_store runner.old.store))))
+        (plain_cell (cell_in checked.now))) (length runner.old.store.names)) }
     ensures older { KeepsOlder runner.old.procedures runner.new.procedures }
     ensures none { OnErr result (kept_in runner.new.procedures ≡ kept_in runner.old.procedures) }
     ensures kept { KeepsSight runner.old.store runner.new.store }
@@ -145,10 +156,12 @@ fn keep_and_link<L: Ledger>(
     ensures older { KeepsOlder kept.old kept.new }
     ensures defined { KeepsDefined kept.old kept.new }
     ensures sight { KeepsSight store.old store.new }
+    ensures slots { OnOk result (length store.new.names
+        ≡ max (width_of_cell entries.now (length (in_sight sight.now)) (plain_cell (cell_in checked.now))) (length store.old.names)) }
 {
     let bodies = keep_all(alloc, &checked.cell().procedures, sight, entries, kept)?;
     let (book, width) = book_of(alloc, checked, sight, entries, store)?;
-    let reached = store.reach(larger(bodies, width));
+    let reached = store.reach(bodies.max(width));
     store.slots_law();
     reached?;
     Ok(book)
@@ -165,8 +178,9 @@ fn book_of<L: Ledger>(
 ) -> Result<(Book, usize), AllocError>
     requires block { IsBlk (heads_seen sight.now) (in_sight sight.now) (plain_cell (cell_in checked.now)).block }
     requires entries { HasEntries (heads_seen sight.now) entries.now }
-    ensures { IfOk result (λ made.
+    ensures block { IfOk result (λ made.
         StandsFor made.1 made.0 (block_in entries.now (names_of (in_sight sight.now)) (plain_cell (cell_in checked.now)).block)) }
+    ensures width { IfOk result (λ made. made.1 ≡ width_of entries.now (length (in_sight sight.now)) (plain_cell (cell_in checked.now)).block) }
 {
     let Ok(slotted) = flatten(alloc, checked, sight, entries) else {
         return Err(AllocError);

@@ -1,15 +1,24 @@
-use Rattle.std.proofs.Common.{◌≡◌, ℕ, ◌+◌, List, length, map, take, refl, sym, ap, ◌∙◌, subst}
+use Rattle.std.proofs.Common.{◌≡◌, ℕ, ◌+◌, max, List, length, map, take, refl, sym, ap, ◌∙◌, subst}
 use Rattle.janus_meaning.specs.Syntax.{Name, Proc}
+use Rattle.janus_meaning.specs.Shape.{Shape}
+use Rattle.janus_meaning.specs.World.{declare}
+use Rattle.janus_slots.specs.Slots.{names_in}
 use Rattle.janus_slots.specs.Law.{AreListed}
 use Rattle.janus_syntax.specs.Tree as tree
 use Rattle.janus_syntax.specs.Tree.{procedures_view}
 use Rattle.janus_syntax.specs.View.{plain_cell, plain_procedure}
 use Rattle.janus_check.specs.Checked.{cell_in}
+use Rattle.janus_check.specs.Names.{shape_in, over}
+use Rattle.janus_check.proofs.SlotLemmas.{names_long}
+use Rattle.janus_store.specs.StoreState.{shown_store}
 use Rattle.janus_machine.specs.Bodies.{AreBelow}
 use Rattle.janus_machine.specs.Procedures.{kept_in}
 use Rattle.kernel_runner.specs.declared.program.Program.{Program}
 use Rattle.kernel_loader.proofs.Sighted.{names_here, entries_here}
 use Rattle.kernel_loader.proofs.Made.{keeps_same, all_kept, shows_more, bodies_within, ready_made}
+use Rattle.kernel_loader.specs.Keeping.{width_of_cell}
+use Rattle.kernel_loader.specs.Loading.{AddNamesOf}
+use Rattle.kernel_loader.proofs.Named.{none_added}
 use Rattle.kernel_loader.proofs.loader.link.Goals as goal
 
 pub returns-in_err-listed-clause-shown : goal.returns-in_err-listed-clause-shown
@@ -58,3 +67,33 @@ returns-clause-shown g c = λ shown h.
     let below : AreBelow c.len-first.result shown.bodies = subst (λ (n : ℕ). AreBelow n shown.bodies) (sym c.len-first.ensures) (bodies_within c.args.runner.now.store.names (kept_in c.args.runner.now.procedures) shown.bodies _ h.0.defined.bodies) in
     shows_more c.args.runner.now _ shown c.keep_and_link-kept.ensures.sight c.slots_law-2.ensures.slots c.list_all-listed.ensures.onward (all_kept (kept_in c.args.runner.now.procedures) (kept_in c.forget.new.self) same)
     (λ d. c.forget.ensures.defined shown.bodies (c.keep_and_link-kept.ensures.defined shown.bodies d) below) h
+
+pub returns-in_err-own-clause-only : goal.returns-in_err-own-clause-only
+returns-in_err-own-clause-only g c = none_added c.args.runner.now.entries (plain_cell (cell_in c.args.checked.now)).procedures
+
+pub returns-in_err-listed-clause-only : goal.returns-in_err-listed-clause-only
+returns-in_err-listed-clause-only g c =
+    let same : map plain_procedure (procedures_view c.deref.result.now) ≡ (plain_cell (cell_in c.args.checked.now)).procedures =
+    ap (λ l. map plain_procedure (procedures_view l)) c.deref.ensures.value ∙ ap (λ (t : tree.Cell). (plain_cell t).procedures) c.cell.ensures in
+    subst (λ (ps : List Proc). AddNamesOf c.args.runner.now.entries c.list_all-listed.new.entries ps) same c.list_all-listed.ensures.only
+
+pub returns-in-Ok-clause-only : goal.returns-in-Ok-clause-only
+returns-in-Ok-clause-only g c =
+    let same : map plain_procedure (procedures_view c.deref.result.now) ≡ (plain_cell (cell_in c.args.checked.now)).procedures =
+    ap (λ l. map plain_procedure (procedures_view l)) c.deref.ensures.value ∙ ap (λ (t : tree.Cell). (plain_cell t).procedures) c.cell.ensures in
+    subst (λ (ps : List Proc). AddNamesOf c.args.runner.now.entries c.list_all-listed.new.entries ps) same c.list_all-listed.ensures.only
+
+pub returns-clause-only : goal.returns-clause-only
+returns-clause-only g c =
+    let same : map plain_procedure (procedures_view c.deref.result.now) ≡ (plain_cell (cell_in c.args.checked.now)).procedures =
+    ap (λ l. map plain_procedure (procedures_view l)) c.deref.ensures.value ∙ ap (λ (t : tree.Cell). (plain_cell t).procedures) c.cell.ensures in
+    subst (λ (ps : List Proc). AddNamesOf c.args.runner.now.entries c.list_all-listed.new.entries ps) same c.list_all-listed.ensures.only
+
+pub returns-in-Ok-clause-slots : goal.returns-in-Ok-clause-slots
+returns-in-Ok-clause-slots g c =
+    let cell = cell_in c.args.checked.now in
+    let shape : Shape = over (shape_in c.args.env.now.names) c.in_ok-own.own.names in
+    let seen : length shape ≡ length (names_in (declare (plain_cell cell).declarations (shown_store c.args.runner.now.store))) =
+    sym (names_long shape) ∙ ap (λ (xs : List Name). length xs) (names_here c.args.runner.now c.args.env.now c.in_ok-own.own cell c.requires.0 c.requires.1 c.in_ok-own.ensures) in
+    c.in-Ok.ensures.slots
+    ∙ ap (λ (n : ℕ). max (width_of_cell c.list_all-listed.new.entries n (plain_cell cell)) (length c.args.runner.now.store.names)) seen

@@ -1,0 +1,36 @@
+-- Which names come into a table of names of procedures.
+use Rattle.std.proofs.Common.{◌≡◌, ◌<◌, ℕ, zero, suc, List, [], ◌∷◌, length, get_or, map, Some, None, ap, ◌∙◌, sym, subst, arith}
+use Rattle.std.proofs.Common.{Contains, inl, inr, ⊎_elim}
+use Rattle.std.proofs.lemmas.Option.{slice_get_past}
+use Rattle.janus_meaning.specs.Syntax.{Name, Proc}
+use Rattle.janus_names.specs.Numbers.{IsNumbered, Adds}
+use Rattle.janus_syntax.specs.Tree.{procedure_view, procedures_view}
+use Rattle.janus_syntax.specs.View.{plain_procedure}
+use Rattle.janus_syntax.specs.declared.tree.Procedure as Defined
+use Rattle.janus_code.proofs.Pairs.{last_or_before}
+use Rattle.kernel_loader.specs.Loading.{AddNamesOf}
+
+abbrev names_defined : List Proc → List Name
+names_defined ps = map (λ (p : Proc). p.name) ps
+
+-- the name of each of several procedures
+pub named_here : (ys : List Defined.Procedure) (i : ℕ) (y : Defined.Procedure) → i < length ys → get_or ys i y ≡ y →
+    Contains (map (λ (p : Proc). p.name) (map plain_procedure (procedures_view ys))) (plain_procedure (procedure_view y)).name
+named_here [] i y l e = absurd (omega arith)
+named_here (z ∷ ys) zero y l e = (0, omega arith, ap (λ (z : Defined.Procedure). (plain_procedure (procedure_view z)).name) e)
+named_here (z ∷ ys) (suc i) y l e =
+    let h : Contains (names_defined (map plain_procedure (procedures_view ys))) (plain_procedure (procedure_view y)).name = named_here ys i y (omega arith) e in
+    (suc h.0, omega (arith, h.1), h.2)
+
+pub none_added : (old : List Name) (ps : List Proc) → AddNamesOf old old ps
+none_added old ps n x behind at = let bad : None ≡ Some x = sym (slice_get_past old n behind) ∙ at in cc
+
+-- one name more, or none
+pub one_added : (old es fs : List Name) (k : ℕ) (x : Name) (ps : List Proc) → AddNamesOf old es ps → Contains (map (λ (p : Proc). p.name) ps) x →
+    Adds es fs k x → AddNamesOf old fs ps
+one_added old es fs k x ps h here (inl same) = subst (λ (l : List Name). AddNamesOf old l ps) (sym same) h
+one_added old es fs k x ps h here (inr more) = λ n y behind at.
+    ⊎_elim
+    (λ (before : IsNumbered es n y). h n y behind before)
+    (λ (last : (n ≡ length es) × (x ≡ y)). subst (λ (y : Name). Contains (names_defined ps) y) last.1 here)
+    (last_or_before es x y n (subst (λ (l : List Name). IsNumbered l n y) more.1 at))
