@@ -1,10 +1,33 @@
-use Rattle.std.proofs.Common.{subst}
+use Rattle.std.proofs.Common.{◌≡◌, List, IfOk, IfErr, ap, ◌∙◌, subst}
+use Rattle.janus_meaning.specs.Syntax.{Proc}
 use Rattle.janus_meaning.specs.Store.{Store}
-use Rattle.janus_meaning.specs.World.{declare}
+use Rattle.janus_meaning.specs.World.{World, declare}
+use Rattle.kernel_machine.specs.State.{here}
+use Rattle.kernel_machine.specs.Text.{Accepts, Refuses}
 use Rattle.janus_slots.specs.Slots.{names_in}
-use Rattle.kernel_runner.specs.Program.{IsReady, declarations_of}
+use Rattle.kernel_runner.specs.Program.{IsReady, cell_of_program, declarations_of}
+use Rattle.kernel_runner.specs.Runner.{world_of}
+use Rattle.kernel_loader.specs.Defined.{in_a_row}
+use Rattle.kernel_history.specs.Fields.{past_of}
 use Rattle.kernel_history.proofs.Standing.{if_ok_map}
 use Rattle.kernel_history.proofs.history.prepare.Goals as goal
+
+abbrev world : Store → List Proc → World
+world s ps = record { store = s; procedures = ps }
+
+same_world : (s t : Store) (ps qs : List Proc) → s ≡ t → ps ≡ qs → world s ps ≡ world t qs
+same_world s t ps qs store procedures = ap (λ (s : Store). world s ps) store ∙ ap (world t) procedures
+
+-- a text is loaded over the world of the position
+pub returns-clause-accepts : goal.returns-clause-accepts
+returns-clause-accepts g c =
+    let same : world_of (in_a_row c.deref.result.now) c.args.runner.now ≡ here (past_of c.args.tree.now) = same_world _ _ _ _ c.requires.is.1.0.store (ap in_a_row c.deref.ensures.value ∙ c.in-Ok.ensures) in
+    subst (λ (w : World). IfOk c.load.result (λ program. Accepts w c.args.text.now (cell_of_program program))) same c.load.ensures.accepts
+
+pub returns-clause-refuses : goal.returns-clause-refuses
+returns-clause-refuses g c =
+    let same : world_of (in_a_row c.deref.result.now) c.args.runner.now ≡ here (past_of c.args.tree.now) = same_world _ _ _ _ c.requires.is.1.0.store (ap in_a_row c.deref.ensures.value ∙ c.in-Ok.ensures) in
+    subst (λ (w : World). IfErr c.load.result (Refuses w c.args.text.now)) same c.load.ensures.refuses
 
 -- the runner shows the world of the position
 pub returns-clause-ready : goal.returns-clause-ready
