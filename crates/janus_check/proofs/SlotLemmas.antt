@@ -18,6 +18,7 @@ use Rattle.janus_syntax.specs.declared.tree.Parameter as code_parameter
 use Rattle.janus_syntax.specs.Tree.{parameter_view, parameters_view}
 use Rattle.janus_syntax.specs.View.{plain_parameter}
 use Rattle.janus_slots.specs.Slots.{slot, slot_in, picked}
+use Rattle.janus_slots.proofs.Stores.{length_names}
 use Rattle.janus_check.specs.Names.{meant_kind, AreAdded, over, shape_in}
 use Rattle.janus_check.specs.Sight.{IsSeen}
 use Rattle.janus_check.specs.declared.env.Kind.{Kind}
@@ -25,13 +26,9 @@ use Rattle.janus_check.specs.declared.sight.Sight.{Sight, Declared, Body, Local'
 use Rattle.janus_check.proofs.ScopeLemmas.{else_kind, over_apart}
 use Rattle.janus_check.proofs.LookupLemmas.{looked_up, meant, same_as_bytes}
 
-pub names_long : {A : Type 0} (g : List (Name × A)) → length (names_of g) ≡ length g
-names_long [] = refl
-names_long (e ∷ g) = ap suc (names_long g)
-
 -- the newest of this name
 pub slot_here : {A : Type 0} (x : Name) (e : Name × A) (g : List (Name × A)) → same_name x e.0 ≡ true → slot_in (names_of (e ∷ g)) x ≡ slot (length g)
-slot_here x e g s = ap (λ b. picked b (slot (length (names_of g))) (slot_in (names_of g) x)) s ∙ ap slot (names_long g)
+slot_here x e g s = ap (λ b. picked b (slot (length (names_of g))) (slot_in (names_of g) x)) s ∙ ap slot (length_names g)
 
 -- the newest name is another
 pub slot_behind : {A : Type 0} (x : Name) (e : Name × A) (g : List (Name × A)) → same_name x e.0 ≡ false → slot_in (names_of (e ∷ g)) x ≡ slot_in (names_of g) x

@@ -8,6 +8,7 @@ ghost use Rattle.janus_check.specs.Check.{is_full, has_all_stacks, fault_if, nam
 ghost use Rattle.janus_check.specs.Check.{after_declaration, after_declarations, is_array_length};
 ghost use Rattle.janus_check.specs.WellFormed.{IsWellFormedOver};
 ghost use Rattle.janus_check.specs.Checked.{cell_in};
+ghost use Rattle.janus_check.specs.Own.{IsOwn};
 ghost use Rattle.janus_check.specs.declared.fault.CheckFault.TheVariants.{Declared, TooMany, ArrayLength, Memory as NoMemory};
 
 use crate::checked::Checked;
@@ -21,30 +22,40 @@ use janus_syntax::token::Span;
 use janus_syntax::tree::{Cell, Declaration, Name};
 use std::alloc::{AllocError, Global};
 
-/// Checks a cell over the names that are declared already and the procedures that are defined. What passes is well formed; else the answer is the fault
-/// that stands first in the text, and at one place the one with the smaller number, or want of memory.
-pub fn check(alloc: Global, env: &Env, cell: Cell) -> Result<Checked, CheckFault>
+/// Checks a cell over the names that are declared already and the procedures that are defined. What passes is well formed, and stands beside the names
+/// and the procedures of its own: over both, `Sight::Declared` has the names in sight of its statements, each with its slot, and the procedures that it
+/// calls. Else the answer is the fault that stands first in the text, and at one place the one with the smaller number, or want of memory.
+pub fn check(alloc: Global, env: &Env, cell: Cell) -> Result<(Checked, Env), CheckFault>
     ensures passes { OnOk result (faults_over env.now (cell_view cell) ≡ []) }
     ensures well_formed { OnOk result (IsWellFormedOver env.now (cell_view cell)) }
-    ensures same { IfOk result (λ checked. cell_in checked ≡ cell_view cell) }
+    ensures same { IfOk result (λ passed. cell_in passed.0 ≡ cell_view cell) }
+    ensures own { IfOk result (λ passed. IsOwn env.now passed.1 (cell_view cell)) }
     ensures first { IfErr result (λ fault. fault ≢ NoMemory → IsFirst fault (faults_over env.now (cell_view cell))) }
 {
-    match first_fault(alloc, env, &cell)? {
-        None => Ok(Checked::new(cell)),
+    let mut own = Env::new(alloc);
+    match first_fault(alloc, env, &mut own, &cell)? {
+        None => Ok((Checked::new(cell), own)),
         Some(fault) => Err(fault),
     }
 }
 
-/// The first fault of a cell, if it has one.
-fn first_fault(alloc: Global, env: &Env, cell: &Cell) -> Result<Option<CheckFault>, AllocError>
-    ensures { IfOk result (λ first. first ≡ first_from None (faults_over env.now (cell_view cell.now))) }
+/// The first fault of a cell, if it has one. The names that it declares are its own then, and so are the procedures that it defines.
+fn first_fault(
+    alloc: Global,
+    env: &Env,
+    own: &mut Env,
+    cell: &Cell,
+) -> Result<Option<CheckFault>, AllocError>
+    requires names { own.old.names ≡ [] }
+    requires procedures { own.old.procedures ≡ [] }
+    ensures first { IfOk result (λ first. first ≡ first_from None (faults_over env.now (cell_view cell.now))) }
+    ensures own { OnOk result (IsWellFormedOver env.now (cell_view cell.now) → IsOwn env.now own.new (cell_view cell.now)) }
 {
-    let mut own = Env::new(alloc);
-    let first = declare_all(env, &mut own, &cell.declarations, None)?;
-    let first = define_all(alloc, env, &mut own, &cell.procedures, first)?;
-    let sight = Sight::Declared(&*env, &own);
+    let first = declare_all(env, own, &cell.declarations, None)?;
+    let first = define_all(alloc, env, own, &cell.procedures, first)?;
+    let sight = Sight::Declared(&*env, &*own);
     let first = block_fault(&cell.statements, &sight, first);
-    Ok(bodies_fault(env, &own, &cell.procedures, first))
+    Ok(bodies_fault(env, own, &cell.procedures, first))
 }
 
 /// The first fault after one more declaration, whose name is then declared if there is room for it.
@@ -154,7 +165,7 @@ fn is_full(env: &Env, own: &Env) -> bool
 }
 
 /// The first fault after the declarations, whose names are then declared as far as there is room for them.
-pub(crate) fn declare_all(
+fn declare_all(
     env: &Env,
     own: &mut Env,
     declarations: &[Declaration],

@@ -7,7 +7,7 @@
 //! procedures or parameters, an array's length out of its range. Calls and bodies see all procedures of the cell, over the old ones. Of several
 //! faults the one that stands first in the text is told, and at one place the one with the smaller number. What passes meets the well-formedness on
 //! which the laws of `janus_meaning` stand. `cell_names` tells whether a cell names a declared name. `Sight` has the names in sight, and gives each
-//! its slot: how many names stand below it. `own_of` has what a cell declares and defines itself.
+//! its slot: how many names stand below it. What a cell declares and defines itself comes with it from `check`.
 //!
 //! The rules are those of Janus (Yokoyama and Glück 2007; Yokoyama, Axelsen and Glück 2008), with this kernel's
 //! limits.
@@ -22,7 +22,6 @@ pub mod env;
 mod expression;
 pub mod fault;
 mod naming;
-mod owned;
 pub mod parameter;
 mod procedure;
 pub mod sight;
@@ -34,7 +33,6 @@ pub use env::{Env, Kind};
 pub use expression::check_exp;
 pub use fault::CheckFault;
 pub use naming::cell_names;
-pub use owned::own_of;
 pub use sight::Sight;
 
 /// A cell has no faults exactly where it is well formed, and so an expression: a law about the definitions of `specs/`. It does

@@ -11,7 +11,7 @@ use Rattle.janus_meaning.proofs.Interface.{machine_meaning}
 use Rattle.janus_slots.specs.Slots.{block_in, names_in, in_slots, under_names, outside_in, procedures_in}
 use Rattle.janus_slots.specs.Places.{place_in, next_in}
 use Rattle.janus_slots.specs.Law.{AreListed, ShownBy, RunsAreTheSame, SlotsStay}
-use Rattle.janus_slots.proofs.Stores.{under_same}
+use Rattle.janus_slots.proofs.Whole.{under_same}
 use Rattle.janus_slots.proofs.Trees.{inverse_block_in}
 use Rattle.janus_slots.proofs.Named.{IsSound, LeadsSound, steps_sound}
 use Rattle.janus_slots.proofs.Steps.{step_in, steps_are_the_same}

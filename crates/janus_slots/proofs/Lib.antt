@@ -1,5 +1,6 @@
 pub mod Results
 pub mod Names
+pub mod Whole
 pub mod Stores
 pub mod Values
 pub mod Trees

@@ -20,7 +20,8 @@ use Rattle.janus_slots.specs.Places.{parameters_of, sight_inside, hole_in}
 use Rattle.janus_slots.specs.Law.{AreListed}
 use Rattle.janus_slots.proofs.Results.{res_in, then_in, same_then, choose_in}
 use Rattle.janus_slots.proofs.Stores.{beside, look_in, take_in, take_names, put_in, put_names, pull_in, fill_in, bind_in, unbind_in, find_in}
-use Rattle.janus_slots.proofs.Stores.{held_same, head_same, tail_is, slots_same}
+use Rattle.janus_slots.proofs.Stores.{head_same, tail_is, slots_same}
+use Rattle.janus_slots.proofs.Whole.{held_same}
 use Rattle.janus_slots.proofs.Values.{value_in, test_in}
 use Rattle.janus_slots.proofs.Trees.{inverse_block_in}
 

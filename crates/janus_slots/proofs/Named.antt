@@ -15,7 +15,8 @@ use Rattle.janus_meaning.proofs.Local.{choose_is, done_is, dropped_int, dropped_
 use Rattle.janus_meaning.proofs.Shapes.{begin_keeps}
 use Rattle.janus_slots.specs.Slots.{names_in}
 use Rattle.janus_slots.specs.Places.{parameters_of, sight_inside, sight_at}
-use Rattle.janus_slots.proofs.Stores.{pull_names, fill_names, bind_names, names_cleared, tail_is}
+use Rattle.janus_slots.proofs.Stores.{pull_names, fill_names, bind_names, tail_is}
+use Rattle.janus_slots.proofs.Whole.{names_cleared}
 use Rattle.janus_slots.proofs.Moves.{IsNamed}
 
 -- ---- one move

@@ -11,6 +11,9 @@ use Rattle.janus_slots.specs.Slots.{slot, picked, slot_in, number_from, number_i
 
 -- ---- slots
 
+pub slot_number : (i j : ℕ) → slot i ≡ slot j → i ≡ j
+slot_number i j e = cc
+
 less_differs : (m n : ℕ) → m < n → nat_eq m n ≡ false
 less_differs m n lt = grind (arith, nat_tests)
 

@@ -9,23 +9,12 @@ use Rattle.janus_meaning.specs.Stepping.{Frame, Framed, Place, BeforeBlock, Afte
 use Rattle.janus_slots.specs.Slots.{slots_in, procedures_in, names_in, in_slots, under_names}
 use Rattle.janus_slots.specs.Places.{sight_inside, sight_at, hole_in, frames_in, place_in}
 use Rattle.janus_slots.proofs.Results.{res_in}
-use Rattle.janus_slots.proofs.Stores.{fill_names, fill_in, size_same, values_same, under_same, tail_is}
+use Rattle.janus_slots.proofs.Stores.{fill_names, fill_in, tail_is}
+use Rattle.janus_slots.proofs.Whole.{names_size, values_same, oldest_same, under_same}
 use Rattle.janus_slots.proofs.Moves.{IsNamed}
 use Rattle.janus_slots.proofs.Named.{AreNamed, IsSound}
 
 -- ---- the oldest names of a store
-
-dropped_same : (n : ℕ) (s : Store) → dropped n (in_slots s) ≡ in_slots (dropped n s)
-dropped_same zero s = refl
-dropped_same (suc n) Bare = refl
-dropped_same (suc n) (Slot x v s) = dropped_same n s
-
-oldest_same : (n : ℕ) (s : Store) → oldest n (in_slots s) ≡ in_slots (oldest n s)
-oldest_same n s = ap (λ m. dropped (m - n) (in_slots s)) (size_same s) ∙ dropped_same (size_of s - n) s
-
-size_is : (s : Store) → size_of s ≡ length (names_in s)
-size_is Bare = refl
-size_is (Slot x v s) = ap suc (size_is s)
 
 dropped_names : (new g : List Name) (s : Store) → names_in s ≡ new ++ g → names_in (dropped (length new) s) ≡ g
 dropped_names [] g s k = k
@@ -34,10 +23,10 @@ dropped_names (x ∷ new) g (Slot y v s) k = dropped_names new g s (tail_is y x 
 
 oldest_names : (s q : Store) (new : List Name) → names_in q ≡ new ++ names_in s → names_in (oldest (size_of s) q) ≡ names_in s
 oldest_names s q new k =
-    let a : size_of q ≡ length (names_in q) = size_is q in
+    let a : length (names_in q) ≡ size_of q = names_size q in
     let b : length (names_in q) ≡ length (new ++ names_in s) = ap length k in
     let c : length (new ++ names_in s) ≡ length new + length (names_in s) = length-append new (names_in s) in
-    let d : size_of s ≡ length (names_in s) = size_is s in
+    let d : length (names_in s) ≡ size_of s = names_size s in
     let e : size_of q - size_of s ≡ length new = omega (arith, a, b, c, d) in
     ap (λ n. names_in (dropped n q)) e ∙ dropped_names new (names_in s) q k
 

@@ -12,7 +12,7 @@ use Rattle.janus_slots.specs.Slots.{stm_in, block_in, procedures_in, names_in, i
 use Rattle.janus_slots.specs.Places.{sight_inside, sight_at, hole_in, frames_in, place_in, next_in}
 use Rattle.janus_slots.specs.Law.{AreListed, StepsAreTheSame}
 use Rattle.janus_slots.proofs.Results.{res_in}
-use Rattle.janus_slots.proofs.Stores.{held_same}
+use Rattle.janus_slots.proofs.Whole.{held_same}
 use Rattle.janus_slots.proofs.Trees.{gap_in, rebuild_in}
 use Rattle.janus_slots.proofs.Moves.{move_in, begin_in, leave_in}
 use Rattle.janus_slots.proofs.Named.{IsSound, LeadsSound, step_sound}

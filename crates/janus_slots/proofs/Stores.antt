@@ -1,13 +1,12 @@
 -- Reading, taking, putting and passing of values: with slots in place of names they do the same.
-use Rattle.std.proofs.Common.{◌≡◌, ℕ, suc, ◌+◌, List, [], ◌∷◌, length, Bool, true, false, refl, ap, ◌∙◌, sym, arith}
+use Rattle.std.proofs.Common.{◌≡◌, ℕ, suc, List, [], ◌∷◌, length, Bool, true, false, refl, ap, ◌∙◌, sym, arith}
 use Rattle.janus_meaning.specs.Fault.{Res, Fine, Broken, and_then, guard}
 use Rattle.janus_meaning.specs.Syntax.{Name, Proc, Kind, names_of}
 use Rattle.janus_meaning.specs.Store.{Val, Num, Arr, Stk, Lent, Store, Bare, Slot, same_name, look, look_at, take, take_at, take_slot, put, put_at}
-use Rattle.janus_meaning.specs.Store.{put_slot, pull, fill, bind, unbind, values_in, pick, find, held_by, held_in, cleared}
-use Rattle.janus_meaning.specs.World.{size_of}
+use Rattle.janus_meaning.specs.Store.{put_slot, pull, fill, bind, unbind, pick, find}
 use Rattle.janus_meaning.proofs.Results.{with_parts, by_fine}
 use Rattle.janus_meaning.proofs.Stores.{same_name_self, put-take, fill-pull}
-use Rattle.janus_slots.specs.Slots.{slot, picked, slot_in, slots_in, number_in, stacked, procedure_in, procedures_in, names_in, in_slots, under_names}
+use Rattle.janus_slots.specs.Slots.{slot, picked, slot_in, slots_in, number_in, stacked, procedure_in, procedures_in, names_in, in_slots}
 use Rattle.janus_slots.specs.Law.{AreListed}
 use Rattle.janus_slots.proofs.Results.{res_in, then_in}
 use Rattle.janus_slots.proofs.Names.{IsBelow, slot_in_below, numbers_same}
@@ -199,27 +198,3 @@ find_in es f [] h = refl
 find_in es f (p ∷ ps) h =
     ap (λ b. pick b (procedure_in es p) (find (number_in es f) (procedures_in es ps))) (numbers_same es f p.name h.0)
     ∙ pick_same es (same_name f p.name) p (find f ps) (find (number_in es f) (procedures_in es ps)) (find_in es f ps h.1)
-
--- ---- whole stores
-
-pub held_same : (s : Store) → held_in (in_slots s) ≡ held_in s
-held_same Bare = refl
-held_same (Slot x v s) = ap (λ n. held_by v + n) (held_same s)
-
-pub size_same : (s : Store) → size_of (in_slots s) ≡ size_of s
-size_same Bare = refl
-size_same (Slot x v s) = ap suc (size_same s)
-
-pub values_same : (s : Store) → values_in (in_slots s) ≡ values_in s
-values_same Bare = refl
-values_same (Slot x v s) = ap (λ l. v ∷ l) (values_same s)
-
--- values do not matter to names
-pub names_cleared : (s : Store) → names_in (cleared s) ≡ names_in s
-names_cleared Bare = refl
-names_cleared (Slot x v s) = ap (λ g. x ∷ g) (names_cleared s)
-
--- the names give the store back
-pub under_same : (s : Store) → under_names (names_in s) (in_slots s) ≡ s
-under_same Bare = refl
-under_same (Slot x v s) = ap (Slot x v) (under_same s)

@@ -17,7 +17,7 @@ use Rattle.janus_store.specs.declared.store.Variable.{Variable}
 use Rattle.janus_store.specs.declared.value.Value.{Value}
 use Rattle.janus_store.specs.declared.value.Value.TheVariants as values
 use Rattle.std.proofs.Math.Seq.{get_or-append_seam}
-use Rattle.janus_store.proofs.Laid.{same_state}
+use Rattle.janus_store.proofs.States.{same_state}
 use Rattle.janus_store.proofs.Levels.{AgreeBelow, callers_below, same_sight}
 use Rattle.janus_store.proofs.NameStack.{get_there, read_back, set_back}
 use Rattle.janus_store.proofs.Standing.{place_fits, value_is, set_written, set_held, set_like, set_stacks, set_values}

@@ -4,6 +4,7 @@ pub mod Rows
 pub mod Indexes
 pub mod Numbers
 pub mod Laid
+pub mod States
 pub mod Grown
 pub mod Slots
 pub mod Reached

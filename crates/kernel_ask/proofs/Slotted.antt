@@ -1,5 +1,5 @@
 -- A question asked between two jobs: an expression with slots in place of declared names, and the store in which it is valued.
-use Rattle.std.proofs.Common.{◌≡◌, ℕ, suc, ◌<◌, ◌≤◌, List, [], ◌∷◌, length, refl, sym, ap, ◌∙◌, subst, arith}
+use Rattle.std.proofs.Common.{◌≡◌, ℕ, ◌<◌, ◌≤◌, List, [], ◌∷◌, length, refl, sym, ap, ◌∙◌, subst, arith}
 use Rattle.std.specs.Prelude.{slice_get, Some}
 use Rattle.std.proofs.lemmas.Option.{slice_get_within}
 use Rattle.janus_meaning.specs.Fault.{Fine}
@@ -9,40 +9,26 @@ use Rattle.janus_meaning.specs.Shape.{Shape, shape_of}
 use Rattle.janus_meaning.specs.FormedWorld.{IsValue, HaveValues}
 use Rattle.janus_meaning.specs.Value.{value}
 use Rattle.janus_meaning.proofs.Stores.{same_name_self}
-use Rattle.janus_meaning.proofs.Worlds.{oldest_whole}
 use Rattle.janus_slots.specs.Slots.{slot, names_in, in_slots, exp_in}
+use Rattle.janus_slots.proofs.Names.{slot_number}
+use Rattle.janus_slots.proofs.Stores.{length_names}
 use Rattle.janus_slots.proofs.Values.{value_in}
+use Rattle.janus_slots.proofs.Whole.{shape_names}
 use Rattle.janus_check.specs.Names.{Known, shape_in, over}
 use Rattle.janus_code.specs.Expressions.{exp_of}
 use Rattle.janus_code.specs.Numbered.{HasNumbers}
 use Rattle.janus_code.specs.declared.code.FlatExp.{FlatExp}
-use Rattle.janus_store.specs.StoreState.{StoreState, Caller, IsWhole, AreKnown, AreSlots, declared_store, shown_store}
+use Rattle.janus_store.specs.StoreState.{StoreState, IsWhole, AreKnown, AreSlots, declared_store, shown_store}
+use Rattle.janus_store.proofs.States.{whole_in_sight}
 use Rattle.kernel_ask.specs.Slotted.{IsSlotted}
 
 -- ---- what is in sight
 
--- the names in sight of a store that lends nothing are all of its names
-shown_names : (s : Store) → HaveValues s → names_of (shape_of s) ≡ names_in s
-shown_names Bare h = refl
-shown_names (Slot x (Num n) s) h = ap (λ (l : List Name). x ∷ l) (shown_names s h.1)
-shown_names (Slot x (Arr l) s) h = ap (λ (l : List Name). x ∷ l) (shown_names s h.1)
-shown_names (Slot x (Stk l) s) h = ap (λ (l : List Name). x ∷ l) (shown_names s h.1)
-shown_names (Slot x Lent s) h = absurd h.0
-
-count_names : (g : Shape) → length (names_of g) ≡ length g
-count_names [] = refl
-count_names (e ∷ g) = ap suc (count_names g)
-
 -- where no local and no call is open, what is shown is in sight, each name in its slot
 sight_shown : (h : StoreState) → IsWhole h → in_slots (shown_store h) ≡ declared_store h → in_slots (shown_store h) ≡ h.slots
-sight_shown h whole slotted =
-    slotted
-    ∙ subst (λ (cs : List Caller). declared_store (record h { callers = cs }) ≡ h.slots) (sym whole.callers) (oldest_whole h.declared h.slots (sym whole.declared))
+sight_shown h whole slotted = slotted ∙ whole_in_sight h whole
 
 -- ---- there is a slot for each name in sight
-
-slot_number : (i j : ℕ) → slot i ≡ slot j → i ≡ j
-slot_number i j e = cc
 
 held : (v : Val) → IsValue v → read_slot v ≡ Fine v
 held (Num n) h = refl
@@ -89,8 +75,8 @@ is_slotted h env none e flat whole values known slots slotted shape nothing read
     let g : Shape = over (shape_in env.names) none.names in
     let sight : in_slots (shown_store h) ≡ h.slots = sight_shown h whole slotted in
     let all : g ≡ shape_of (shown_store h) = ap (over (shape_in env.names)) nothing ∙ shape in
-    let names : names_of g ≡ names_in (shown_store h) = ap (λ (g : Shape). names_of g) all ∙ shown_names (shown_store h) values in
-    let as_many : length g ≡ length (names_in (shown_store h)) = sym (count_names g) ∙ ap (λ (l : List Name). length l) names in
+    let names : names_of g ≡ names_in (shown_store h) = ap (λ (g : Shape). names_of g) all ∙ shape_names (shown_store h) values in
+    let as_many : length g ≡ length (names_in (shown_store h)) = sym (length_names g) ∙ ap (λ (l : List Name). length l) names in
     let less : length (names_in (shown_store h)) ≤ length h.names = wide_enough h known slots values sight in
     let numbered : HasNumbers h.names flat = enough h.names (omega (arith, as_many, less)) in
     record { numbered = numbered; same = value_shown h (names_of g) e (exp_of h.names flat) sight names (reads h.names slots numbered) }

@@ -51,7 +51,7 @@ use Rattle.kernel_history.specs.declared.job.Open.{Open}
 use Rattle.kernel_history.specs.declared.job.Open.TheVariants.{Idle, Border, Inside}
 use Rattle.kernel_machine.proofs.LanguageLaws.{part_none_forward, part_none_backward, exec_end, exec_some}
 use Rattle.kernel_runner.proofs.Growing.{same_more, ready_grows, defined_grow}
-use Rattle.kernel_runner.proofs.Slotted.{names_size}
+use Rattle.janus_slots.proofs.Whole.{names_size}
 use Rattle.kernel_runner.proofs.Running.{stands_part}
 use Rattle.kernel_history.proofs.BodiesAt.{bodies_same, bodies_of_cell, bodies_new, bodies_below, cell_behind, ready_same, ready_less, ready_more}
 use Rattle.kernel_history.proofs.Nodes.{count_of_nodes, cell_there, same_program, contents_more, cell_kept, cell_added}

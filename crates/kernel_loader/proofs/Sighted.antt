@@ -1,7 +1,7 @@
 -- What a cell's block sees: the names of the store in which it begins, and procedures that are all listed.
 use Rattle.std.proofs.Common.{◌≡◌, ℕ, zero, suc, ◌<◌, Bool, true, false, List, [], ◌∷◌, length, map, take, get_or, inl, inr, refl, sym, ap, ◌∙◌, subst, arith}
 use Rattle.janus_meaning.specs.Syntax.{Name, Proc, names_of}
-use Rattle.janus_meaning.specs.Store.{Num, Arr, Stk, Lent, Store, Bare, Slot, same_name}
+use Rattle.janus_meaning.specs.Store.{Store, same_name}
 use Rattle.janus_meaning.specs.Shape.{Shape, Heads, head_at, head_of, heads_of, kinds_in, pick_newest, shape_of}
 use Rattle.janus_meaning.specs.World.{Declaration, DeclareInt, DeclareArray, DeclareStack, declare, declare_one, declared_name}
 use Rattle.janus_meaning.specs.FormedWorld.{with_declared, with_heads, declared_kind}
@@ -9,6 +9,7 @@ use Rattle.janus_meaning.proofs.Stores.{same_name_true}
 use Rattle.janus_names.specs.Numbers.{IsMet, GoOn, Adds}
 use Rattle.janus_slots.specs.Slots.{names_in}
 use Rattle.janus_slots.specs.Law.{AreListed}
+use Rattle.janus_slots.proofs.Whole.{shape_names}
 use Rattle.janus_syntax.specs.Tree as tree
 use Rattle.janus_syntax.specs.Tree.{procedure_view, procedures_view}
 use Rattle.janus_syntax.specs.View.{plain_cell, plain_procedure}
@@ -20,20 +21,11 @@ use Rattle.janus_code.specs.Slotted.{HasEntries}
 use Rattle.janus_store.specs.StoreState.{shown_store}
 use Rattle.kernel_runner.specs.Runner.{ShownWorld}
 use Rattle.kernel_runner.specs.declared.runner.Runner.{Runner}
-use Rattle.kernel_runner.proofs.Declaring.{LendNothing, values_lend_nothing}
 use Rattle.kernel_runner.proofs.Growing.{no_more}
 use Rattle.kernel_loader.specs.Loading.{IsCheckedOver}
 use Rattle.kernel_loader.proofs.Listed.{listed_still, met_still}
 
 -- ---- names
-
--- the names in sight of a store that lends nothing
-shown_names : (s : Store) → LendNothing s → names_of (shape_of s) ≡ names_in s
-shown_names Bare h = refl
-shown_names (Slot x (Num n) s) h = ap (λ (l : List Name). x ∷ l) (shown_names s h)
-shown_names (Slot x (Arr l) s) h = ap (λ (l : List Name). x ∷ l) (shown_names s h)
-shown_names (Slot x (Stk l) s) h = ap (λ (l : List Name). x ∷ l) (shown_names s h)
-shown_names (Slot x Lent s) h = absurd h
 
 one_declared : (d : Declaration) (s : Store) → names_in (declare_one d s) ≡ declared_name d ∷ names_in s
 one_declared (DeclareInt x) s = refl
@@ -48,7 +40,7 @@ pub names_here : {L : Type 0} (runner : Runner L) (env own : Known) (cell : tree
     names_of (over (shape_in env.names) own.names) ≡ names_in (declare (plain_cell cell).declarations (shown_store runner.store))
 names_here runner env own cell shown checked is =
     let known : names_of (shape_in env.names) ≡ names_in (shown_store runner.store) =
-    ap (λ (g : Shape). names_of g) checked.known.names ∙ shown_names shown.world.store (values_lend_nothing shown.world.store checked.values) ∙ ap names_in (sym checked.is.0.store) in
+    ap (λ (g : Shape). names_of g) checked.known.names ∙ shape_names shown.world.store checked.values ∙ ap names_in (sym checked.is.0.store) in
     ap (λ (g : Shape). names_of g) is.names ∙ names_declared (plain_cell cell).declarations (shape_in env.names) (shown_store runner.store) known
 
 -- ---- procedures

@@ -8,6 +8,7 @@ ghost use Rattle.janus_slots.specs.Slots.{names_in, block_in, procedures_in};
 ghost use Rattle.janus_slots.specs.Law.{AreListed};
 ghost use Rattle.janus_syntax.specs.View.{plain_cell};
 ghost use Rattle.janus_check.specs.Checked.{cell_in};
+ghost use Rattle.janus_check.specs.Own.{IsOwn};
 ghost use Rattle.janus_check.specs.Sight.{in_sight, heads_seen};
 ghost use Rattle.janus_code.specs.CodeBlock.{code_block};
 ghost use Rattle.janus_code.specs.Slotted.{HasEntries};
@@ -30,7 +31,7 @@ use crate::frame::{frame_names, has_loop};
 use crate::keeping::keep_all;
 use crate::known::known_over;
 use crate::listing::list_all;
-use janus_check::{Checked, Env, Sight, own_of};
+use janus_check::{Checked, Env, Sight};
 use janus_code::{Code, flatten};
 use janus_machine::{Book, Procedures, Store};
 use janus_names::Names;
@@ -74,8 +75,8 @@ pub fn load<L: Ledger>(
     let Ok(env) = known_over(alloc, &runner.store, procedures) else {
         return Err(Refusal::Memory);
     };
-    let checked = cell_of_text(alloc, text, &env)?;
-    match link(alloc, &env, &checked, runner) {
+    let (checked, own) = cell_of_text(alloc, text, &env)?;
+    match link(alloc, &env, &own, &checked, runner) {
         Ok((book, first)) => Ok(Program {
             book,
             checked,
@@ -85,15 +86,17 @@ pub fn load<L: Ledger>(
     }
 }
 
-/// Links a cell that was checked over what is known of the shown world, and keeps the bodies of its procedures: its code both ways, and where these
-/// bodies begin. The only error is want of memory, as which code of more statements or places than 32 bits count is refused too.
+/// Links a cell that was checked over what is known of the shown world, with what it declares and defines itself, and keeps the bodies of its procedures:
+/// its code both ways, and where these bodies begin. The only error is want of memory, as which code of more statements or places than 32 bits count is refused too.
 fn link<L: Ledger>(
     alloc: Global,
     env: &Env,
+    own: &Env,
     checked: &Checked,
     runner: &mut Runner<L>,
 ) -> Result<(Book, usize), AllocError>
-    requires { (shown : ShownWorld) × IsCheckedOver runner.old env.now (cell_in checked.now) shown }
+    requires checked { (shown : ShownWorld) × IsCheckedOver runner.old env.now (cell_in checked.now) shown }
+    requires own { IsOwn env.now own.now (cell_in checked.now) }
     ensures ready { IfOk result (λ made. IsReady runner.new.store.names runner.new.entries
         (names_in (declare (plain_cell (cell_in checked.now)).declarations (shown_store runner.old.store)))
         runner.new.procedures (record { book = made.0; checked = checked.now; first = made.1 })) }
@@ -110,12 +113,11 @@ fn link<L: Ledger>(
     ensures entries { GoOn runner.old.entries runner.new.entries }
     ensures shown { KeepsShown runner.old runner.new }
 {
-    let own = own_of(alloc, env, checked)?;
     let listed = list_all(&mut runner.entries, &checked.cell().procedures);
     runner.store.slots_law();
     listed?;
     let first = runner.procedures.len();
-    let sight = Sight::Declared(env, &own);
+    let sight = Sight::Declared(env, own);
     let kept = keep_and_link(
         alloc,
         checked,

@@ -9,6 +9,7 @@ use Rattle.janus_meaning.proofs.Safe.{well_formed_is_safe}
 use Rattle.janus_slots.specs.Slots.{names_in, procedure_in, procedures_in}
 use Rattle.janus_slots.specs.Law.{AreListed}
 use Rattle.janus_slots.proofs.Laws.{runs_are_the_same, slots_stay}
+use Rattle.janus_slots.proofs.Whole.{size_same, stacks_same}
 use Rattle.janus_meaning.specs.Store.{Store}
 use Rattle.janus_meaning.specs.Shape.{Shape, Heads, shape_of, heads_of}
 use Rattle.janus_meaning.specs.Formed.{IsBlk}
@@ -43,7 +44,7 @@ use Rattle.kernel_runner.specs.Runner.{ShownWorld, Becomes, block_of, slots_of, 
 use Rattle.kernel_runner.specs.declared.program.Program.{Program}
 use Rattle.kernel_runner.specs.declared.runner.Runner.{Runner}
 use Rattle.kernel_runner.proofs.Growing.{no_more, same_more, defined_grow, ready_grows}
-use Rattle.kernel_runner.proofs.Slotted.{slots_size, slots_stacks, IsStoreOf, whole_is}
+use Rattle.kernel_runner.proofs.Slotted.{IsStoreOf, whole_is}
 use Rattle.kernel_machine.proofs.LanguageLaws.{sound_good}
 
 -- ---- before the first step nothing is open
@@ -139,7 +140,7 @@ entered_here old new program from can becomes kept entries defined before =
     let ready : IsReady new.store.names es (names_in start.store) new.procedures program = ready_still old new (names_in start.store) program becomes.names entries kept can.ready in
     let meant : block_in new.store.names program.book Forward ≡ block_of es cell.block start = ready.meant es (no_more es) in
     let place : place_of new.store.names new.procedures program.book new.cursor new.store.callers ≡ BeforeBlock (block_of es cell.block start) [] = before.place new.procedures new.store.callers ∙ ap (λ (b : Blk). BeforeBlock b []) meant in
-    let stacks : stacks_in new.store.slots ≡ stacks_in start.store = ap stacks_in is.slots ∙ slots_stacks start.store in
+    let stacks : stacks_in new.store.slots ≡ stacks_in start.store = ap stacks_in is.slots ∙ stacks_same start.store in
     let listed : AreListed es start.procedures = subst (λ (es : List Name). AreListed es start.procedures) (sym entries) (listed_more old.entries cell.procedures from.world.procedures can.named can.is.0.listed) in
     let grown : Define new.store.names old.procedures from.bodies (procedures_in es from.world.procedures) =
     subst (λ (es : List Name). Define new.store.names old.procedures from.bodies (procedures_in es from.world.procedures)) (sym entries)
@@ -154,7 +155,7 @@ entered_here old new program from can becomes kept entries defined before =
       counted = before.counts.0;
       turned = before.counts.1;
       standing = standing;
-      declared = becomes.whole.declared ∙ ap size_of is.slots ∙ slots_size start.store;
+      declared = becomes.whole.declared ∙ ap size_of is.slots ∙ size_same start.store;
       texts = is.texts;
       agrees = agrees_before (stacks_in start.store) new.procedures program.book new.cursor new.store (block_of es cell.block start) becomes.whole stacks standing place;
       ready = ready;
@@ -193,7 +194,7 @@ entered_inverse_here old new program from can store procedures entries before =
     let turned : block_in new.store.names program.book Inverse ≡ block_of es inverse start =
     books_turn new.store.names program.book ∙ ap inverse_block (ready.meant es (no_more es)) ∙ slots_stay.inverse es (names_in start.store) cell.block in
     let place : place_of new.store.names new.procedures program.book new.cursor new.store.callers ≡ BeforeBlock (block_of es inverse start) [] = before.place new.procedures new.store.callers ∙ ap (λ (b : Blk). BeforeBlock b []) turned in
-    let stacks : stacks_in new.store.slots ≡ stacks_in start.store = ap stacks_in is.slots ∙ slots_stacks start.store in
+    let stacks : stacks_in new.store.slots ≡ stacks_in start.store = ap stacks_in is.slots ∙ stacks_same start.store in
     record {
       cell = refl;
       good = back.good;
@@ -201,7 +202,7 @@ entered_inverse_here old new program from can store procedures entries before =
       counted = before.counts.0;
       turned = before.counts.1;
       standing = standing;
-      declared = now.declared ∙ ap size_of is.slots ∙ slots_size start.store;
+      declared = now.declared ∙ ap size_of is.slots ∙ size_same start.store;
       texts = is.texts;
       agrees = agrees_before (stacks_in start.store) new.procedures program.book new.cursor new.store (block_of es inverse start) now stacks standing place;
       ready = ready;

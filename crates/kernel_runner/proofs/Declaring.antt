@@ -1,6 +1,7 @@
 -- Names that are declared one after another, and retired again.
 use Rattle.std.proofs.Common.{get_or, ◌≡◌, ℕ, pos, ◌+◌, ◌-◌, ◌<◌, ◌≤◌, inl, inr, List, [], ◌∷◌, length, map, take, zero, suc, Bool, true, false, Some, None, refl, ap, sym, ◌∙◌, subst, arith}
 use Rattle.std.proofs.lemmas.Bool.{cases_lt}
+use Rattle.std.proofs.lemmas.Option.{same_Some}
 use Rattle.janus_meaning.specs.Fault.{Res, Bad, Broken}
 use Rattle.janus_meaning.specs.Syntax.{Name, Kind, ANumber, AnArray, AStack}
 use Rattle.janus_meaning.specs.Store.{Val, Num, Arr, Stk, Lent, Store, Bare, Slot, zeros, look, look_at, same_name}
@@ -15,12 +16,13 @@ use Rattle.janus_syntax.specs.View.{plain_declaration}
 use Rattle.janus_syntax.specs.declared.tree.Declaration as Tree
 use Rattle.janus_names.specs.Numbers.{IsUnmet}
 use Rattle.janus_slots.specs.Slots.{slot, names_in, in_slots, under_names}
+use Rattle.janus_slots.proofs.Whole.{names_size, stacks_same}
 use Rattle.janus_store.specs.StoreState.{StoreState, state_of, IsWhole, AreSlots, Declares, KeepsSight, declared_store, shown_store}
 use Rattle.janus_store.specs.Stores.{IsFirstOnTop, rest_of}
+use Rattle.janus_store.proofs.States.{whole_in_sight}
 use Rattle.kernel_runner.specs.Declarable.{HasStackRoom}
 use Rattle.kernel_runner.specs.Runner.{Becomes}
 use Rattle.kernel_runner.proofs.Growing.{no_more, more_yet}
-use Rattle.kernel_runner.proofs.Slotted.{names_size, slots_stacks, all_declared}
 use Rattle.std.specs.Prelude.{reverse, ◌++◌}
 use Rattle.std.proofs.lemmas.List.{reverse-append, reverse-reverse, length-append, length-take-le, take_at}
 
@@ -167,16 +169,13 @@ room_at (e ∷ ds) s (suc i) d h new l = room_at ds (declare_one e s) i d (decla
 pub room_in_slots : (d : Declaration) (s : Store) → HasStackRoom d s → HasStackRoom d (in_slots s)
 room_in_slots (DeclareInt x) s h = tt
 room_in_slots (DeclareArray x n) s h = tt
-room_in_slots (DeclareStack x) s h = subst (λ n. n < live_stack_limit) (sym (slots_stacks s)) h
+room_in_slots (DeclareStack x) s h = subst (λ n. n < live_stack_limit) (sym (stacks_same s)) h
 
 -- ---- no text is declared twice
 
-some_same : (x y : Name) → Some x ≡ Some y → x ≡ y
-some_same x y e = cc
-
 -- one name more behind the others
 unmet_behind : (xs : List Name) (x y : Name) → IsUnmet xs x → (y ≡ x → ⊥) → IsUnmet (xs ++ y ∷ []) x
-unmet_behind [] x y none other zero at = other (some_same y x at)
+unmet_behind [] x y none other zero at = other (same_Some y x at)
 unmet_behind [] x y none other (suc k) at = cc
 unmet_behind (z ∷ xs) x y none other zero at = none zero at
 unmet_behind (z ∷ xs) x y none other (suc k) at = unmet_behind xs x y (λ j. none (suc j)) other k at
@@ -198,7 +197,7 @@ other_newest x y k g false e none = (e, sym (ap (λ b. pick_newest b k (kind_at 
 unmet_newest : (x y : Name) (k : Kind) (s : Store) → kind_at x ((y, k) ∷ shape_of s) ≡ None → (kind_at x (shape_of s) ≡ None → IsUnmet (names_in s) x) → IsUnmet (y ∷ names_in s) x
 unmet_newest x y k s none rest zero at =
     let other = other_newest x y k (shape_of s) (same_name x y) refl none in
-    true_is_false (sym (same_name_self x) ∙ ap (same_name x) (sym (some_same y x at)) ∙ other.0)
+    true_is_false (sym (same_name_self x) ∙ ap (same_name x) (sym (same_Some y x at)) ∙ other.0)
 unmet_newest x y k s none rest (suc i) at = rest (other_newest x y k (shape_of s) (same_name x y) refl none).1 i at
 
 nothing_met : (x : Name) → IsUnmet [] x
@@ -238,9 +237,9 @@ becomes_declared old new x v whole many slots h =
       slots = ap in_slots h.slots ∙ ap (λ (n : ℕ). Slot (slot n) v (in_slots old.slots)) depth ∙ ap (Slot (slot old.declared) v) whole.slots ∙ sym h.slots;
     } in
     record {
-      shown = ap (under_names (reverse new.texts)) (all_declared new now ∙ h.slots)
+      shown = ap (under_names (reverse new.texts)) (whole_in_sight new now ∙ h.slots)
           ∙ ap (λ (g : List Name). under_names g (Slot (slot old.declared) v old.slots)) (ap reverse h.texts ∙ reverse-append old.texts (x ∷ []))
-          ∙ ap (λ (s : Store). Slot x v (under_names (reverse old.texts) s)) (sym (all_declared old whole));
+          ∙ ap (λ (s : Store). Slot x v (under_names (reverse old.texts) s)) (sym (whole_in_sight old whole));
       texts = ap length h.texts ∙ length-append old.texts (x ∷ []) ∙ (let e : length old.texts + 1 ≡ suc (length old.texts) = omega arith in e) ∙ ap suc many ∙ sym h.declared;
       whole = now;
       names = h.names;
@@ -256,7 +255,7 @@ becomes_kept old new whole many slots h =
       slots = ap in_slots h.slots ∙ whole.slots ∙ sym h.slots;
     } in
     record {
-      shown = ap (under_names (reverse new.texts)) (all_declared new now ∙ h.slots ∙ sym (all_declared old whole)) ∙ ap (λ (g : List Name). under_names (reverse g) (declared_store old)) h.texts;
+      shown = ap (under_names (reverse new.texts)) (whole_in_sight new now ∙ h.slots ∙ sym (whole_in_sight old whole)) ∙ ap (λ (g : List Name). under_names (reverse g) (declared_store old)) h.texts;
       texts = ap length h.texts ∙ many ∙ sym h.declared;
       whole = now;
       names = h.names;
@@ -300,8 +299,8 @@ becomes_rest old new whole many slots e =
     let texts : reverse (take (old.declared - 1) old.texts) ≡ rest_names (reverse old.texts) =
     ap (λ (n : ℕ). reverse (take (n - 1) old.texts)) (sym many) ∙ subst (λ (l : List Name). reverse (take (length l - 1) l) ≡ rest_names (reverse old.texts)) (reverse-reverse old.texts) (last_taken (reverse old.texts)) in
     subst (λ (h : StoreState). Becomes old h (rest_of (shown_store old))) (sym e) (record {
-      shown = ap (under_names (reverse rest.texts)) (all_declared rest now) ∙ ap (λ (g : List Name). under_names g (rest_of old.slots)) texts ∙ rest_under (reverse old.texts) old.slots
-          ∙ ap (λ (s : Store). rest_of (under_names (reverse old.texts) s)) (sym (all_declared old whole));
+      shown = ap (under_names (reverse rest.texts)) (whole_in_sight rest now) ∙ ap (λ (g : List Name). under_names g (rest_of old.slots)) texts ∙ rest_under (reverse old.texts) old.slots
+          ∙ ap (λ (s : Store). rest_of (under_names (reverse old.texts) s)) (sym (whole_in_sight old whole));
       texts = length-take-le (old.declared - 1) old.texts (omega (arith, many));
       whole = now;
       names = no_more old.names;

@@ -12,6 +12,7 @@ use Rattle.janus_meaning.specs.Cells.{around}
 use Rattle.janus_meaning.specs.Limit.{step_limit}
 use Rattle.janus_meaning.proofs.Worlds.{worlds_start_and_end}
 use Rattle.janus_slots.specs.Slots.{names_in, in_slots, under_names, outside_in, procedures_in}
+use Rattle.janus_slots.proofs.Whole.{names_size, size_same, twice_same, under_named}
 use Rattle.janus_store.specs.StoreState.{Caller, IsWhole, declared_store, shown_store, given_back}
 use Rattle.janus_machine.specs.Open.{Agrees}
 use Rattle.janus_machine.specs.Nested.{AreOpenCalls}
@@ -32,7 +33,7 @@ use Rattle.kernel_runner.specs.Runner.{Place, at_count, start_at, block_of, slot
 use Rattle.kernel_runner.specs.declared.program.Program.{Program}
 use Rattle.kernel_runner.specs.declared.runner.Runner.{Runner}
 use Rattle.kernel_runner.proofs.Going.{run_means, back_means, the_same, stops_at}
-use Rattle.kernel_runner.proofs.Slotted.{names_size, slots_size, slots_twice, under_named, shown_whole}
+use Rattle.kernel_runner.proofs.Slotted.{shown_whole}
 use Rattle.janus_meaning.proofs.Cleared.{same_size}
 use Rattle.janus_meaning.proofs.Shapes.{keeps_shape}
 
@@ -100,16 +101,16 @@ module _ {L : Type 0} (runner : Runner L) (program : Program) (at : Place) where
       let ran = same.ended runner.store.slots run in
       let kept : in_slots end ≡ runner.store.slots = same.kept runner.store.slots run in
       let size : size_of end ≡ size_of (start_at at).store = same_size end (start_at at).store (keeps_shape _ _ _ _ _ ran) in
-      let many : length g ≡ size_of runner.store.slots = names_size (start_at at).store ∙ sym size ∙ sym (slots_size end) ∙ ap size_of kept in
+      let many : length g ≡ size_of runner.store.slots = names_size (start_at at).store ∙ sym size ∙ sym (size_same end) ∙ ap size_of kept in
       record { store = end; ran = ran; slots = kept; names = under_named g runner.store.slots many }
 
   pub whole_at_end : Stands runner program at false → has_ended runner.cursor ≡ true → IsWhole runner.store
   whole_at_end h ended =
       let end = ends_in h ended in
       record {
-        declared = h.declared ∙ sym (names_size (start_at at).store) ∙ ap length (sym end.names) ∙ names_size end.store ∙ sym (slots_size end.store) ∙ ap size_of end.slots;
+        declared = h.declared ∙ sym (names_size (start_at at).store) ∙ ap length (sym end.names) ∙ names_size end.store ∙ sym (size_same end.store) ∙ ap size_of end.slots;
         callers = ended_callers h.standing ended;
-        slots = ap in_slots (sym end.slots) ∙ slots_twice end.store ∙ end.slots;
+        slots = ap in_slots (sym end.slots) ∙ twice_same end.store ∙ end.slots;
       }
 
   pub at_end : Stands runner program at false → has_ended runner.cursor ≡ true → CodeExec at.code at.world at.count (world_inside at runner)
@@ -189,9 +190,9 @@ whole_at_start runner program at none h =
     let means = back_means runner program at h in
     let start : runner.store.slots ≡ in_slots (start_at at).store = means.at_start none in
     record {
-      declared = h.declared ∙ sym (slots_size (start_at at).store) ∙ sym (ap size_of start);
+      declared = h.declared ∙ sym (size_same (start_at at).store) ∙ sym (ap size_of start);
       callers = ended_callers runner program at h.standing (means.begun.1 none);
-      slots = ap in_slots start ∙ slots_twice (start_at at).store ∙ sym start;
+      slots = ap in_slots start ∙ twice_same (start_at at).store ∙ sym start;
     }
 
 -- ---- by why a slice ends, after t steps of m

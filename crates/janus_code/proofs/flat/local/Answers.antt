@@ -2,10 +2,10 @@ use Rattle.std.proofs.Common.{◌≡◌, ◌∙◌, length, ap, sym}
 use Rattle.janus_meaning.specs.Syntax.{names_of}
 use Rattle.janus_slots.specs.Slots.{slot}
 use Rattle.janus_check.specs.Sight.{in_sight}
-use Rattle.janus_check.proofs.SlotLemmas.{names_long}
+use Rattle.janus_slots.proofs.Stores.{length_names}
 use Rattle.janus_code.proofs.flat.local.Goals as goal
 
 pub returns-clause-name : goal.returns-clause-name
 returns-clause-name c =
-    let is : c.len-number.result ≡ length (names_of (in_sight c.args.sight.now)) = c.len-number.ensures ∙ sym (names_long (in_sight c.args.sight.now)) in
+    let is : c.len-number.result ≡ length (names_of (in_sight c.args.sight.now)) = c.len-number.ensures ∙ sym (length_names (in_sight c.args.sight.now)) in
     c.symbol_of.ensures.name ∙ ap slot is

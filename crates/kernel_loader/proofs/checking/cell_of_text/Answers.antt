@@ -3,6 +3,7 @@ use Rattle.janus_syntax.specs.Tree as tree
 use Rattle.janus_syntax.specs.Tree.{cell_view}
 use Rattle.janus_syntax.specs.View.{plain_cell}
 use Rattle.janus_check.specs.Names.{shape_in, heads_in}
+use Rattle.janus_check.specs.Own.{IsOwn}
 use Rattle.janus_check.specs.WellFormed.{IsWellFormedOver}
 use Rattle.kernel_machine.specs.Text.{Refuses}
 use Rattle.kernel_machine.specs.declared.outcome.Refusal.{Refusal}
@@ -21,6 +22,10 @@ returns-in-Ok-check-clause-accepts c = λ w known. record {
 pub returns-in-Ok-check-clause-formed : goal.returns-in-Ok-check-clause-formed
 returns-in-Ok-check-clause-formed c =
     subst (λ (t : tree.Cell). IsWellFormedOver c.args.env.now t) (sym c.in-Ok-check.ensures.same) c.in-Ok-check.ensures.well_formed
+
+pub returns-in-Ok-check-clause-own : goal.returns-in-Ok-check-clause-own
+returns-in-Ok-check-clause-own c =
+    subst (λ (t : tree.Cell). IsOwn c.args.env.now c.in-Ok-check.passed.1 t) (sym c.in-Ok-check.ensures.same) c.in-Ok-check.ensures.own
 
 pub returns-in-Err-check-clause-refuses : goal.returns-in-Err-check-clause-refuses
 returns-in-Err-check-clause-refuses c = λ w known.

@@ -16,8 +16,8 @@ pub known_over-requires-clause-distinct : goal.known_over-requires-clause-distin
 known_over-requires-clause-distinct g c =
     c.requires.sound.formed.names
 
-pub link-requires : goal.link-requires
-link-requires g c =
+pub link-requires-clause-checked : goal.link-requires-clause-checked
+link-requires-clause-checked g c =
     let w : World = world_of (in_a_row c.args.procedures.now) c.args.runner.now in (
       over c.requires.is.0 w,
       record {
@@ -27,6 +27,10 @@ link-requires g c =
         values = c.requires.sound.formed.values;
       },
     )
+
+pub link-requires-clause-own : goal.link-requires-clause-own
+link-requires-clause-own g c =
+    c.in_ok-checked.ensures.own
 
 pub returns-in-Ok-link-clause-accepts : goal.returns-in-Ok-link-clause-accepts
 returns-in-Ok-link-clause-accepts g c =

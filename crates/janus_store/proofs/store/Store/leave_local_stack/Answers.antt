@@ -9,7 +9,8 @@ use Rattle.janus_store.specs.Stacks.{Pooled, total}
 use Rattle.janus_store.specs.Values.{val_at, number_in, Holdings}
 use Rattle.janus_store.proofs.NameStack.{with_number}
 use Rattle.janus_store.proofs.Owned.{times_append, times_left}
-use Rattle.janus_store.proofs.Laid.{laid_of, as_many, met, same_state}
+use Rattle.janus_store.proofs.Laid.{laid_of, as_many, met}
+use Rattle.janus_store.proofs.States.{same_state}
 use Rattle.janus_store.proofs.Standing.{names_are_held}
 use Rattle.janus_store.proofs.Opening.{more_stacks, left_over, left_held, is_above, start_under, still_declared}
 use Rattle.std.specs.Prelude.{slice_set}

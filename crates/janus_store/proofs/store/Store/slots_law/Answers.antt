@@ -5,7 +5,8 @@ use Rattle.janus_meaning.specs.Store.{look}
 use Rattle.janus_slots.specs.Slots.{names_in, in_slots}
 use Rattle.janus_store.specs.StoreState.{StoreState, AreSlots, declared_store, shown_store}
 use Rattle.janus_store.specs.Inside.{holdings, slots_of}
-use Rattle.janus_store.proofs.Oldest.{declared_in_slots, is_whole, shown_names, shown_in_slots, unmet_by}
+use Rattle.janus_store.proofs.Oldest.{declared_in_slots, shown_names, shown_in_slots, unmet_by}
+use Rattle.janus_store.proofs.States.{is_whole}
 use Rattle.janus_store.proofs.Slots.{are_slots}
 use Rattle.janus_store.proofs.Standing.{is_met}
 use Rattle.janus_store.proofs.store.Store.slots_law.Goals as goal
