@@ -1,5 +1,6 @@
 -- Paths from the root, and where two of them part.
-use Rattle.std.proofs.Common.{◌≡◌, ℕ, ◌+◌, ◌-◌, ◌<◌, ◌≤◌, ◌==◌, Bool, false, if◌then◌else◌, List, [], ◌∷◌, ◌++◌, length, get_or, zero, suc, refl, sym, ap, ◌∙◌, subst, arith, inl, inr, length-append, append_assoc, eq-eqb}
+use Rattle.std.proofs.Common.{◌≡◌, ℕ, ◌+◌, ◌-◌, ◌<◌, ◌≤◌, ◌==◌, Bool, false, if◌then◌else◌, List, [], ◌∷◌, ◌++◌, length, get_or, zero, suc, refl, sym, ap, ◌∙◌}
+use Rattle.std.proofs.Common.{subst, arith, inl, inr, length-append, append_assoc, eq-eqb}
 use Rattle.std.specs.List.{Contains}
 use Rattle.std.proofs.lemmas.List.{get_or_append_left, get_or_at}
 use Rattle.std.proofs.lemmas.List.Elements.{Contains-append_left, Contains-push, Contains-push_cases}
@@ -34,13 +35,15 @@ goes_on : (parents : List ℕ) (n : ℕ) → IsOrdered parents → 0 < n → n <
 goes_on parents zero g above l = absurd (omega arith)
 goes_on parents (suc n) g above l =
     let low = g.before (suc n) above l in
-    ap (λ (path : List ℕ). path ++ suc n ∷ []) (path_enough parents n (parent_in parents (suc n)) (parent_in parents (suc n)) g (omega arith) (omega arith) (omega arith))
+    ap (λ (path : List ℕ). path ++ suc n ∷ [])
+    (path_enough parents n (parent_in parents (suc n)) (parent_in parents (suc n)) g (omega arith) (omega arith) (omega arith))
 
 pub path_goes_on : PathGoesOn
 path_goes_on parents = (refl, λ n g above l. goes_on parents n g above l)
 
 -- a path as one who goes up it gathers it
-pub path_further : (parents : List ℕ) (n : ℕ) (below : List ℕ) → IsOrdered parents → 0 < n → n < length parents → path_of parents (parent_in parents n) ++ n ∷ below ≡ path_of parents n ++ below
+pub path_further : (parents : List ℕ) (n : ℕ) (below : List ℕ) → IsOrdered parents → 0 < n → n < length parents →
+    path_of parents (parent_in parents n) ++ n ∷ below ≡ path_of parents n ++ below
 path_further parents n below g above l =
     sym (append_assoc (path_of parents (parent_in parents n)) (n ∷ []) below)
     ∙ ap (λ (path : List ℕ). path ++ below) (sym (goes_on parents n g above l))
@@ -172,28 +175,33 @@ meeting_same parents (suc a) g l =
     (last_common_same 0 (path_of parents (parent_in parents (suc a))) (suc a))
 
 -- the larger of two nodes is not on the path to the other: they meet where its parent and the other do
-pub meeting_up : (parents : List ℕ) (a b : ℕ) → IsOrdered parents → a < length parents → b < a → meeting_of parents (parent_in parents a) b ≡ meeting_of parents a b
+pub meeting_up : (parents : List ℕ) (a b : ℕ) → IsOrdered parents → a < length parents → b < a →
+    meeting_of parents (parent_in parents a) b ≡ meeting_of parents a b
 meeting_up parents a b g l less =
     sym (last_common_drop 0 (path_of parents (parent_in parents a)) (path_of parents b) a (path_below parents b a b g (omega arith) less))
     ∙ ap (λ (path : List ℕ). last_common 0 path (path_of parents b)) (sym (goes_on parents a g (omega arith) l))
 
-pub meeting_up_second : (parents : List ℕ) (a b : ℕ) → IsOrdered parents → b < length parents → a < b → meeting_of parents a (parent_in parents b) ≡ meeting_of parents a b
+pub meeting_up_second : (parents : List ℕ) (a b : ℕ) → IsOrdered parents → b < length parents → a < b →
+    meeting_of parents a (parent_in parents b) ≡ meeting_of parents a b
 meeting_up_second parents a b g l less =
     meeting_swap parents a (parent_in parents b) ∙ meeting_up parents b a g l less ∙ meeting_swap parents b a
 
 ends_there : (parents : List ℕ) (n : ℕ) → IsOrdered parents → n < length parents → Contains (path_of parents n) n
 ends_there parents zero g l = (0, omega arith, refl)
 ends_there parents (suc n) g l =
-    subst (λ (path : List ℕ). Contains path (suc n)) (sym (goes_on parents (suc n) g (omega arith) l)) (Contains-push (path_of parents (parent_in parents (suc n))) (suc n))
+    subst (λ (path : List ℕ). Contains path (suc n)) (sym (goes_on parents (suc n) g (omega arith) l))
+    (Contains-push (path_of parents (parent_in parents (suc n))) (suc n))
 
 nearest_turned : (parents : List ℕ) (a b : ℕ) → IsNearest parents b a (meeting_of parents b a) → IsNearest parents a b (meeting_of parents a b)
 nearest_turned parents a b n =
     subst (λ (m : ℕ). IsNearest parents a b m) (meeting_swap parents b a)
     (record { on_first = n.on_second; on_second = n.on_first; nearest = λ k first second. n.nearest k second first })
 
-on_child_path : (parents : List ℕ) (a k : ℕ) → IsOrdered parents → 0 < a → a < length parents → Contains (path_of parents (parent_in parents a)) k → Contains (path_of parents a) k
+on_child_path : (parents : List ℕ) (a k : ℕ) → IsOrdered parents → 0 < a → a < length parents → Contains (path_of parents (parent_in parents a)) k →
+    Contains (path_of parents a) k
 on_child_path parents a k g above l there =
-    subst (λ (path : List ℕ). Contains path k) (sym (goes_on parents a g above l)) (Contains-append_left (path_of parents (parent_in parents a)) (a ∷ []) k there)
+    subst (λ (path : List ℕ). Contains path k) (sym (goes_on parents a g above l))
+    (Contains-append_left (path_of parents (parent_in parents a)) (a ∷ []) k there)
 
 nearest_up : (parents : List ℕ) (a b : ℕ) → IsOrdered parents → a < length parents → b < a →
     IsNearest parents (parent_in parents a) b (meeting_of parents (parent_in parents a) b) → IsNearest parents a b (meeting_of parents a b)
@@ -201,12 +209,15 @@ nearest_up parents a b g l less n =
     subst (λ (m : ℕ). IsNearest parents a b m) (meeting_up parents a b g l less) (record {
       on_first = on_child_path parents a (meeting_of parents (parent_in parents a) b) g (omega arith) l n.on_first;
       on_second = n.on_second;
-      nearest = λ k first second. elim (Contains-push_cases (path_of parents (parent_in parents a)) a k (subst (λ (path : List ℕ). Contains path k) (goes_on parents a g (omega arith) l) first)) [
-        | inl there ↦ n.nearest k there second
-        | inr last ↦ absurd (
-            let small : k < suc b = below_at (suc b) (path_of parents b) k second.0 (path_below parents b (suc b) b g (omega arith) (omega arith)) second.1 second.2 in
-            omega arith)
-      ];
+      nearest = λ k first second. elim
+          (Contains-push_cases (path_of parents (parent_in parents a)) a k
+          (subst (λ (path : List ℕ). Contains path k) (goes_on parents a g (omega arith) l) first)) [
+            | inl there ↦ n.nearest k there second
+            | inr last ↦ absurd (
+                let small : k < suc b =
+                below_at (suc b) (path_of parents b) k second.0 (path_below parents b (suc b) b g (omega arith) (omega arith)) second.1 second.2 in
+                omega arith)
+          ];
     })
 
 nearest_same : (parents : List ℕ) (a : ℕ) → IsOrdered parents → a < length parents → IsNearest parents a a (meeting_of parents a a)
@@ -214,7 +225,8 @@ nearest_same parents a g l =
     subst (λ (m : ℕ). IsNearest parents a a m) (sym (meeting_same parents a g l))
     (record { on_first = ends_there parents a g l; on_second = ends_there parents a g l; nearest = λ k first second. first })
 
-nearest_within : (parents : List ℕ) (s a b : ℕ) → a + b ≤ s → IsOrdered parents → a < length parents → b < length parents → IsNearest parents a b (meeting_of parents a b)
+nearest_within : (parents : List ℕ) (s a b : ℕ) → a + b ≤ s → IsOrdered parents → a < length parents → b < length parents →
+    IsNearest parents a b (meeting_of parents a b)
 nearest_within parents zero a b few g k l =
     let same : a ≡ b = omega arith in
     subst (λ (c : ℕ). IsNearest parents a c (meeting_of parents a c)) same (nearest_same parents a g k)

@@ -1,5 +1,6 @@
 -- Trees after one more node and after a new favourite, and nodes as they are read.
-use Rattle.std.proofs.Common.{◌≡◌, ℕ, ◌+◌, ◌-◌, ◌<◌, ◌≤◌, List, [], ◌∷◌, ◌++◌, length, get_or, set, zero, suc, sym, ap, ◌∙◌, subst, arith, inl, inr, length-append, length-set, get_or-set_same, get_or-set_other}
+use Rattle.std.proofs.Common.{◌≡◌, ℕ, ◌+◌, ◌-◌, ◌<◌, ◌≤◌, List, [], ◌∷◌, ◌++◌, length, get_or, set, zero, suc, sym, ap, ◌∙◌, subst, arith, inl, inr}
+use Rattle.std.proofs.Common.{length-append, length-set, get_or-set_same, get_or-set_other}
 use Rattle.std.proofs.lemmas.List.{get_or_append_left, get_or_at, get_or-map, map-append, length-map}
 use Rattle.std.proofs.lemmas.Bool.{cases_eq, cases_lt}
 use Rattle.cell_tree.specs.declared.node.Node.{Node}
@@ -29,7 +30,8 @@ module _ {C : Type 0} where
   parents_more nodes node = ap (λ (xs : List ℕ). 0 ∷ xs) (map-append (λ (node : Node C). node.parent) nodes (node ∷ []))
 
   -- the parent that is read at a place
-  pub parent_read : (nodes : List (Node C)) (n : ℕ) (node : Node C) → 0 < n → n ≤ length nodes → node ≡ get_or nodes (n - 1) node → node.parent ≡ parent_in (parents_of nodes) n
+  pub parent_read : (nodes : List (Node C)) (n : ℕ) (node : Node C) → 0 < n → n ≤ length nodes → node ≡ get_or nodes (n - 1) node →
+      node.parent ≡ parent_in (parents_of nodes) n
   parent_read nodes zero node above l e = absurd (omega arith)
   parent_read nodes (suc n) node above l e =
       let place : suc n - 1 ≡ n = omega arith in
@@ -59,7 +61,8 @@ module _ {C : Type 0} where
       elim (cases_lt n (length t.favourites)) [
         | inl old ↦
             (let e : get_or (t.favourites ++ 0 ∷ []) n 0 ≡ favourite_of t n = get_or_append_left t.favourites (0 ∷ []) 0 n old in
-            subst (λ (child : ℕ). IsChild (record { nodes = t.nodes ++ node ∷ []; favourites = t.favourites ++ 0 ∷ []; way = t.way; room = room }) n child) (sym e)
+            subst (λ (child : ℕ). IsChild (record { nodes = t.nodes ++ node ∷ []; favourites = t.favourites ++ 0 ∷ []; way = t.way; room = room }) n child)
+            (sym e)
             (child_more t node room n (favourite_of t n) (g.children n (omega arith) (omega arith))))
         | inr new ↦ absurd (
             let at : length t.favourites ≡ n = omega arith in
@@ -76,7 +79,8 @@ module _ {C : Type 0} where
       let way = g.way in
       let count = count_of_parents t.nodes in
       record {
-        ordered = subst (λ (parents : List ℕ). IsOrdered parents) (sym (parents_more t.nodes node)) (ordered_more (parents_of t.nodes) node.parent g.ordered (omega arith) (omega arith));
+        ordered = subst (λ (parents : List ℕ). IsOrdered parents) (sym (parents_more t.nodes node))
+            (ordered_more (parents_of t.nodes) node.parent g.ordered (omega arith) (omega arith));
         few = omega arith;
         favourites = omega arith;
         children = λ n l some. children_more t node room n g l some;
@@ -84,21 +88,26 @@ module _ {C : Type 0} where
       }
 
   -- the tree after one more node, as its lists are kept
-  pub tree_more : (t : Tree C) (node : Node C) (nodes : List (Node C)) (favourites : List ℕ) (room : ℕ) → IsTree t → length t.nodes < node_limit → node.parent ≤ length t.nodes →
+  pub tree_more : (t : Tree C) (node : Node C) (nodes : List (Node C)) (favourites : List ℕ) (room : ℕ) → IsTree t → length t.nodes < node_limit →
+      node.parent ≤ length t.nodes →
       nodes ≡ t.nodes ++ node ∷ [] → favourites ≡ t.favourites ++ 0 ∷ [] → IsTree (record { nodes = nodes; favourites = favourites; way = t.way; room = room })
   tree_more t node nodes favourites room g few known e f =
       subst (λ (ns : List (Node C)). IsTree (record { nodes = ns; favourites = favourites; way = t.way; room = room })) (sym e)
-      (subst (λ (fs : List ℕ). IsTree (record { nodes = t.nodes ++ node ∷ []; favourites = fs; way = t.way; room = room })) (sym f) (grown_tree t node room g few known))
+      (subst (λ (fs : List ℕ). IsTree (record { nodes = t.nodes ++ node ∷ []; favourites = fs; way = t.way; room = room })) (sym f)
+      (grown_tree t node room g few known))
 
   -- a child is one whatever the favourites
-  child_among : (t : Tree C) (favourites : List ℕ) (room n child : ℕ) → IsChild t n child → IsChild (record { nodes = t.nodes; favourites = favourites; way = t.way; room = room }) n child
+  child_among : (t : Tree C) (favourites : List ℕ) (room n child : ℕ) → IsChild t n child →
+      IsChild (record { nodes = t.nodes; favourites = favourites; way = t.way; room = room }) n child
   child_among t favourites room n child c = record { below_root = c.below_root; known = c.known; parent = c.parent }
 
-  child_with_way : (t : Tree C) (way : List ℕ) (room n child : ℕ) → IsChild t n child → IsChild (record { nodes = t.nodes; favourites = t.favourites; way = way; room = room }) n child
+  child_with_way : (t : Tree C) (way : List ℕ) (room n child : ℕ) → IsChild t n child →
+      IsChild (record { nodes = t.nodes; favourites = t.favourites; way = way; room = room }) n child
   child_with_way t way room n child c = record { below_root = c.below_root; known = c.known; parent = c.parent }
 
   -- the tree after a new favourite
-  pub tree_with_favourite : (t : Tree C) (room n child : ℕ) → IsTree t → IsChild t n child → IsTree (record { nodes = t.nodes; favourites = set t.favourites n child; way = t.way; room = room })
+  pub tree_with_favourite : (t : Tree C) (room n child : ℕ) → IsTree t → IsChild t n child →
+      IsTree (record { nodes = t.nodes; favourites = set t.favourites n child; way = t.way; room = room })
   tree_with_favourite t room n child g c = record {
     ordered = g.ordered;
     few = g.few;
@@ -106,7 +115,8 @@ module _ {C : Type 0} where
     children = λ m l some. elim (cases_eq m n) [
       | inl same ↦
           (let places = g.favourites in
-          let e : get_or (set t.favourites n child) m 0 ≡ child = ap (λ (k : ℕ). get_or (set t.favourites n child) k 0) same ∙ get_or-set_same t.favourites n child 0 (omega arith) in
+          let e : get_or (set t.favourites n child) m 0 ≡ child = ap (λ (k : ℕ). get_or (set t.favourites n child) k 0) same
+          ∙ get_or-set_same t.favourites n child 0 (omega arith) in
           subst (λ (k : ℕ). IsChild (record { nodes = t.nodes; favourites = set t.favourites n child; way = t.way; room = room }) m k) (sym e)
           (subst (λ (k : ℕ). IsChild (record { nodes = t.nodes; favourites = set t.favourites n child; way = t.way; room = room }) k child) (sym same)
           (child_among t (set t.favourites n child) room n child c)))
@@ -119,7 +129,8 @@ module _ {C : Type 0} where
   }
 
   -- the tree with another way
-  pub tree_with_way : (t : Tree C) (way : List ℕ) (room : ℕ) → IsTree t → length way ≤ length t.nodes → IsTree (record { nodes = t.nodes; favourites = t.favourites; way = way; room = room })
+  pub tree_with_way : (t : Tree C) (way : List ℕ) (room : ℕ) → IsTree t → length way ≤ length t.nodes →
+      IsTree (record { nodes = t.nodes; favourites = t.favourites; way = way; room = room })
   tree_with_way t way room g few = record {
     ordered = g.ordered;
     few = g.few;

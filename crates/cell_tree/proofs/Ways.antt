@@ -1,5 +1,6 @@
 -- The walk to where two paths meet: from the larger of two numbers to its parent, until they are the same.
-use Rattle.std.proofs.Common.{◌≡◌, ℕ, ◌+◌, ◌-◌, ◌<◌, ◌≤◌, List, [], ◌∷◌, ◌++◌, length, get_or, if◌then◌else◌, Bool, zero, suc, refl, sym, ap, ◌∙◌, subst, arith, inl, inr, length-append}
+use Rattle.std.proofs.Common.{◌≡◌, ℕ, ◌+◌, ◌-◌, ◌<◌, ◌≤◌, List, [], ◌∷◌, ◌++◌, length, get_or, if◌then◌else◌, Bool, zero, suc, refl, sym, ap, ◌∙◌, subst, arith}
+use Rattle.std.proofs.Common.{inl, inr, length-append}
 use Rattle.std.proofs.lemmas.Bool.{cases_eq, ne_eqb}
 use Rattle.cell_tree.specs.Tree.{parent_in, IsOrdered}
 use Rattle.cell_tree.specs.Paths.{meeting_of, ancestor, upward, downward, IsRoute}
@@ -27,7 +28,8 @@ falls parents n k j g l le =
     let at : ancestor parents n k ≤ n = ancestors_below parents n k g l in
     let low = ancestors_below parents (ancestor parents n k) (j - k) g (omega arith) in
     let e : k + (j - k) ≡ j = omega arith in
-    let same : ancestor parents n j ≡ ancestor parents (ancestor parents n k) (j - k) = subst (λ (i : ℕ). ancestor parents n i ≡ ancestor parents (ancestor parents n k) (j - k)) e (further_up parents n k (j - k)) in
+    let same : ancestor parents n j ≡ ancestor parents (ancestor parents n k) (j - k) =
+    subst (λ (i : ℕ). ancestor parents n i ≡ ancestor parents (ancestor parents n k) (j - k)) e (further_up parents n k (j - k)) in
     omega arith
 
 ancestor_of_parent : (parents : List ℕ) (n j : ℕ) → ancestor parents (parent_in parents n) j ≡ parent_in parents (ancestor parents n j)
@@ -93,7 +95,8 @@ nears_start parents start end = record {
   meets = refl;
 }
 
-pub nears_up : (parents : List ℕ) (start end from to up : ℕ) (way : List ℕ) → IsOrdered parents → start < length parents → end < length parents → Nears parents start end from to up way → to < from →
+pub nears_up : (parents : List ℕ) (start end from to up : ℕ) (way : List ℕ) → IsOrdered parents → start < length parents → end < length parents →
+    Nears parents start end from to up way → to < from →
     Nears parents start end (parent_in parents from) to (up + 1) way
 nears_up parents start end from to up way g l h n over =
     let few = n.few_up in
@@ -122,7 +125,8 @@ nears_up parents start end from to up way g l h n over =
       meets = meeting_up parents from to g known over ∙ n.meets;
     }
 
-pub nears_down : (parents : List ℕ) (start end from to up : ℕ) (way : List ℕ) → IsOrdered parents → start < length parents → end < length parents → Nears parents start end from to up way → from < to →
+pub nears_down : (parents : List ℕ) (start end from to up : ℕ) (way : List ℕ) → IsOrdered parents → start < length parents → end < length parents →
+    Nears parents start end from to up way → from < to →
     Nears parents start end from (parent_in parents to) up (way ++ to ∷ [])
 nears_down parents start end from to up way g l h n over =
     let few = n.few_down in
@@ -147,7 +151,8 @@ nears_down parents start end from to up way g l h n over =
           elim (cases_eq j (length way)) [
             | inl at ↦ absurd (
                 let falling = falls parents start up i g l one in
-                let down_there : ancestor parents start i ≡ ancestor parents end (length way) = subst (λ (k : ℕ). ancestor parents start i ≡ ancestor parents end k) at c in
+                let down_there : ancestor parents start i ≡ ancestor parents end (length way) =
+                subst (λ (k : ℕ). ancestor parents start i ≡ ancestor parents end k) at c in
                 let a = n.from_is in
                 let b = n.to_is in
                 omega arith)
@@ -156,7 +161,8 @@ nears_down parents start end from to up way g l h n over =
       meets = meeting_up_second parents from to g known over ∙ n.meets;
     }
 
-pub nears_end : (parents : List ℕ) (start end from to up : ℕ) (way : List ℕ) → IsOrdered parents → start < length parents → Nears parents start end from to up way → from ≡ to → IsRoute parents start end up (length way)
+pub nears_end : (parents : List ℕ) (start end from to up : ℕ) (way : List ℕ) → IsOrdered parents → start < length parents →
+    Nears parents start end from to up way → from ≡ to → IsRoute parents start end up (length way)
 nears_end parents start end from to up way g l n e =
     let few = n.few_up in
     let there : from ≡ meeting_of parents start end = sym (meeting_same parents from g (omega arith)) ∙ ap (λ (k : ℕ). meeting_of parents from k) e ∙ n.meets in
@@ -199,5 +205,6 @@ way_leads_down parents from to up down g w =
           ∙ ap (λ (k : ℕ). ancestor parents to k) above
           ∙ sym (upward_are_ancestors parents to down (i + 1) (omega arith)));
       last = λ some. upward_are_ancestors parents to down 0 (omega arith);
-      below_root = λ i l. subst (λ (k : ℕ). 0 < k) (sym (upward_are_ancestors parents to down i (omega arith))) (below_root parents from to up down i g w (omega arith));
+      below_root = λ i l. subst (λ (k : ℕ). 0 < k) (sym (upward_are_ancestors parents to down i (omega arith)))
+          (below_root parents from to up down i g w (omega arith));
     }

@@ -1,5 +1,6 @@
 -- Names in a set are those that were put into it, and the procedures of these names are those that a name calls.
-use Rattle.std.proofs.Common.{◌≡◌, ℕ, ◌<◌, zero, suc, Bool, true, false, List, [], ◌∷◌, ◌++◌, length, get_or, map, take, refl, sym, ap, ◌∙◌, subst, inl, inr, ◌⊎◌, arith, String, string_bytes, Contains, append-nil, IfOk, Result, Ok, Err, Vec}
+use Rattle.std.proofs.Common.{◌≡◌, ℕ, ◌<◌, zero, suc, Bool, true, false, List, [], ◌∷◌, ◌++◌, length, get_or, map, take, refl, sym, ap, ◌∙◌, subst, inl, inr}
+use Rattle.std.proofs.Common.{◌⊎◌, arith, String, string_bytes, Contains, append-nil, IfOk, Result, Ok, Err, Vec}
 use Rattle.std.specs.Borrow.{Bor}
 use Rattle.std.specs.declared.alloc.AllocError.{AllocError}
 use Rattle.std.specs.declared.alloc.Global.{Global}
@@ -48,7 +49,8 @@ names_from : (known names : List Name) (x : Name) → Contains (with_names known
 names_from known [] x h = inl h
 names_from known (n ∷ ns) x h =
     elim (names_from (with_name known n) ns x h) as (λ _. Contains known x ⊎ Contains (n ∷ ns) x) [
-      | inl first ↦ elim (named_from known n x first) as (λ _. Contains known x ⊎ Contains (n ∷ ns) x) [ inl e ↦ inr (contains_first ns n x e) | inr old ↦ inl old ]
+      | inl first ↦ elim (named_from known n x first) as (λ _. Contains known x ⊎ Contains (n ∷ ns) x)
+          [ inl e ↦ inr (contains_first ns n x e) | inr old ↦ inl old ]
       | inr later ↦ inr (contains_later ns n x later)
     ]
 
@@ -78,7 +80,8 @@ fine_same : (a b : Proc) (r : Res Proc) → r ≡ Fine a → r ≡ Fine b → a 
 unfolding found_in
 fine_same a b r e f = ap (found_in a) (sym e ∙ f)
 
-picked : (t : Bool) (q : Proc) (ps : List Proc) (f : Name) (p : Proc) → same_name f q.name ≡ t → pick t q (find f ps) ≡ Fine p → (find f ps ≡ Fine p → Finds ps f p) → Finds (q ∷ ps) f p
+picked : (t : Bool) (q : Proc) (ps : List Proc) (f : Name) (p : Proc) → same_name f q.name ≡ t → pick t q (find f ps) ≡ Fine p →
+    (find f ps ≡ Fine p → Finds ps f p) → Finds (q ∷ ps) f p
 picked true q ps f p s e rest =
     let is = same_names f q.name s in
     record { named = ap (λ (z : Proc). z.name) (sym (fine_same q p (Fine q) refl e)) ∙ sym is; among = contains_first (procedure_names ps) q.name f (sym is) }
@@ -116,7 +119,8 @@ pub found_more : (all : List Proc) (xs : List Name) (x : Name) → found all (xs
 found_more all [] x = refl
 found_more all (y ∷ xs) x = ap (onto_found (find y all)) (found_more all xs x) ∙ onto_more (find y all) (found all xs) (onto_found (find x all) [])
 
-onto_names : (all : List Proc) (x : Name) (ps : List Proc) (r : Res Proc) → find x all ≡ r → Some_found r → procedure_names (onto_found r ps) ≡ x ∷ procedure_names ps
+onto_names : (all : List Proc) (x : Name) (ps : List Proc) (r : Res Proc) → find x all ≡ r → Some_found r →
+    procedure_names (onto_found r ps) ≡ x ∷ procedure_names ps
 onto_names all x ps (Fine p) e s = ap (λ n. n ∷ procedure_names ps) (finds all x p e).named
 onto_names all x ps (Bad f) e s = absurd (cc (s.1))
 
@@ -127,7 +131,8 @@ found_names all (x ∷ xs) h =
     onto_names all x (found all xs) (find x all) refl (some_found all x (h x (contains_first xs x x refl)))
     ∙ ap (λ ns. x ∷ ns) (found_names all xs (λ y c. h y (contains_later xs x y c)))
 
-onto_has : (all : List Proc) (x : Name) (ps : List Proc) (p : Proc) (r : Res Proc) → find x all ≡ r → Contains (onto_found r ps) p → (Contains ps p → find p.name all ≡ Fine p) → find p.name all ≡ Fine p
+onto_has : (all : List Proc) (x : Name) (ps : List Proc) (p : Proc) (r : Res Proc) → find x all ≡ r → Contains (onto_found r ps) p →
+    (Contains ps p → find p.name all ≡ Fine p) → find p.name all ≡ Fine p
 onto_has all x ps p (Fine q) e h rest =
     elim (contains_cases ps q p h) as (λ _. find p.name all ≡ Fine p) [
       | inl same ↦ subst (λ (z : Proc). find z.name all ≡ Fine z) same (ap (λ (n : Name). find n all) (finds all x q e).named ∙ e)
@@ -147,7 +152,8 @@ found_there : (all : List Proc) (xs : List Name) (p : Proc) → Contains xs p.na
 found_there all [] p h e = absurd (contains_none p.name h)
 found_there all (x ∷ xs) p h e =
     elim (contains_cases xs x p.name h) as (λ _. Contains (onto_found (find x all) (found all xs)) p) [
-      | inl is ↦ subst (λ (r : Res Proc). Contains (onto_found r (found all xs)) p) (sym (ap (λ (n : Name). find n all) is ∙ e)) (contains_first (found all xs) p p refl)
+      | inl is ↦ subst (λ (r : Res Proc). Contains (onto_found r (found all xs)) p) (sym (ap (λ (n : Name). find n all) is ∙ e))
+          (contains_first (found all xs) p p refl)
       | inr later ↦ onto_kept (find x all) (found all xs) p (found_there all xs p later e)
     ]
 
@@ -157,7 +163,8 @@ among : (all : List Proc) (x : Name) → Contains (with_names [] (procedure_name
 among all x h =
     elim (names_from [] (procedure_names all) x h) as (λ _. Contains (procedure_names all) x) [ inl none ↦ absurd (contains_none x none) | inr there ↦ there ]
 
-pub is_listing : (all : List Proc) (names : List Name) → names ≡ with_names [] (procedure_names all) → IsStrictlySortedBy (slice_cmp nat_cmp) names → IsListing all (found all names)
+pub is_listing : (all : List Proc) (names : List Name) → names ≡ with_names [] (procedure_names all) → IsStrictlySortedBy (slice_cmp nat_cmp) names →
+    IsListing all (found all names)
 is_listing all names e sorted = record {
   ordered = subst (IsStrictlySortedBy (slice_cmp nat_cmp)) (sym (found_names all names (λ x h. among all x (subst (λ ns. Contains ns x) e h)))) sorted;
   each = λ p. (
@@ -179,5 +186,6 @@ pub is_listed :
     IsStrictlySortedBy string_cmp items → map string_bytes items ≡ with_names [] (procedure_names all) →
     IfOk r (λ v. in_a_row v.items ≡ found all (map string_bytes names)) → IfOk r (λ v. IsListing all (in_a_row v.items))
 is_listed (Ok v) all items names same sorted e f =
-    subst (IsListing all) (sym (f ∙ ap (λ (ns : List (String Global)). found all (map string_bytes ns)) same)) (is_listing all (map string_bytes items) e (ordered_octets items sorted))
+    subst (IsListing all) (sym (f ∙ ap (λ (ns : List (String Global)). found all (map string_bytes ns)) same))
+    (is_listing all (map string_bytes items) e (ordered_octets items sorted))
 is_listed (Err x) all items names same sorted e f = tt

@@ -1,5 +1,6 @@
 -- What a command line says, by its octets.
-use Rattle.std.proofs.Common.{◌≡◌, ◌≢◌, ℕ, ◌<◌, ◌^◌, Bool, true, false, ◌&&◌, nat_lt, nat_eq, List, [], ◌∷◌, ◌++◌, length, drop, Option, Some, None, Result, Ok, Err, if◌then◌else◌, refl, sym, ap, ◌∙◌, arith, length-append, Bor, ⊎_elim, true≢false}
+use Rattle.std.proofs.Common.{◌≡◌, ◌≢◌, ℕ, ◌<◌, ◌^◌, Bool, true, false, ◌&&◌, nat_lt, nat_eq, List, [], ◌∷◌, ◌++◌, length, drop, Option, Some, None, Result, Ok}
+use Rattle.std.proofs.Common.{Err, if◌then◌else◌, refl, sym, ap, ◌∙◌, arith, length-append, Bor, ⊎_elim, true≢false}
 use Rattle.std.specs.Char.{is_ascii_digit}
 use Rattle.std.specs.List.{list_all, starts_with}
 use Rattle.std.specs.Option.{MatchOption}
@@ -27,11 +28,14 @@ last_dropped c t xs front e = (ap trimmed e ∙ trimmed_drops c t front, omega (
 not_trimmed : (c : ℕ) → c ≢ 32 → c ≢ 9 → c ≢ 13 → is_trimmed c ≡ false
 not_trimmed c a b d = grind (arith, common_steps)
 
-trimmed_same : (xs : List ℕ) → ((front : List ℕ) → xs ≢ front ++ (32 ∷ [])) → ((front : List ℕ) → xs ≢ front ++ (9 ∷ [])) → ((front : List ℕ) → xs ≢ front ++ (13 ∷ [])) → trimmed xs ≡ xs
+trimmed_same : (xs : List ℕ) → ((front : List ℕ) → xs ≢ front ++ (32 ∷ [])) → ((front : List ℕ) → xs ≢ front ++ (9 ∷ [])) →
+    ((front : List ℕ) → xs ≢ front ++ (13 ∷ [])) → trimmed xs ≡ xs
 trimmed_same [] a b d = refl
-trimmed_same (c ∷ []) a b d = ap (λ t. if t then [] else c ∷ []) (not_trimmed c (λ e. a [] (ap (λ x. x ∷ []) e)) (λ e. b [] (ap (λ x. x ∷ []) e)) (λ e. d [] (ap (λ x. x ∷ []) e)))
+trimmed_same (c ∷ []) a b d =
+    ap (λ t. if t then [] else c ∷ []) (not_trimmed c (λ e. a [] (ap (λ x. x ∷ []) e)) (λ e. b [] (ap (λ x. x ∷ []) e)) (λ e. d [] (ap (λ x. x ∷ []) e)))
 trimmed_same (c ∷ x ∷ rest) a b d =
-    ap (trimmed_onto c) (trimmed_same (x ∷ rest) (λ f e. a (c ∷ f) (ap (λ l. c ∷ l) e)) (λ f e. b (c ∷ f) (ap (λ l. c ∷ l) e)) (λ f e. d (c ∷ f) (ap (λ l. c ∷ l) e)))
+    ap (trimmed_onto c)
+    (trimmed_same (x ∷ rest) (λ f e. a (c ∷ f) (ap (λ l. c ∷ l) e)) (λ f e. b (c ∷ f) (ap (λ l. c ∷ l) e)) (λ f e. d (c ∷ f) (ap (λ l. c ∷ l) e)))
 
 pub last_tried : (xs : List ℕ) (r : Option (Bor (List ℕ))) → ((front : List ℕ) → xs ≢ front ++ (32 ∷ [])) → ((front : List ℕ) → xs ≢ front ++ (9 ∷ []))
     → MatchOption r ((front : List ℕ) → xs ≢ front ++ (13 ∷ [])) (λ x. xs ≡ x.now ++ (13 ∷ []))

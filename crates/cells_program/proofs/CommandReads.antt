@@ -1,7 +1,9 @@
 -- Which command lines meet no fault, and which number of steps they give.
-use Rattle.std.proofs.Common.{append-nil, drop, is_some, ◌≡◌, ◌⊎◌, ◌∙◌, ℕ, Bool, true, false, List, [], ◌∷◌, ◌++◌, Option, Some, None, inl, inr, refl, sym, ap, ap₂, subst, arith, codes, ◌<◌}
+use Rattle.std.proofs.Common.{append-nil, drop, is_some, ◌≡◌, ◌⊎◌, ◌∙◌, ℕ, Bool, true, false, List, [], ◌∷◌, ◌++◌, Option, Some, None, inl, inr, refl, sym, ap}
+use Rattle.std.proofs.Common.{ap₂, subst, arith, codes, ◌<◌}
 use Rattle.std.specs.Prelude.{Err, Ok, Result, ◌^◌, if◌then◌else◌, fold, length, ◌==◌}
-use Rattle.clap.specs.Faults.{check_fault, defaults_fault, entered_fault, fault_of, is_simple_and_free, settle_fault, turn_fault, use_fault, values_fault, walk_fault}
+use Rattle.clap.specs.Faults.{check_fault, defaults_fault, entered_fault, fault_of, is_simple_and_free, settle_fault, turn_fault, use_fault, values_fault}
+use Rattle.clap.specs.Faults.{walk_fault}
 use Rattle.std.specs.Str.Parse.{IsNumeral, ParsesUnsigned, digits_value, without_leading_plus}
 use Rattle.std.proofs.lemmas.Bool.{eqb-true, ne_eqb}
 use Rattle.std.proofs.lemmas.Str.Parse.{digit_from_value}
@@ -25,7 +27,8 @@ use Rattle.clap.specs.declared.builder.value_parser.Reading.TheVariants as readi
 use Rattle.clap.specs.declared.error.kind.ErrorKind.TheVariants as kind
 use Rattle.cells_program.specs.CommandLine as line
 use Rattle.cells_program.specs.CommandLine.{Chooses, IsSteps, Runs, Writes, default_steps}
-use Rattle.cells_program.proofs.CommandWords.{Passes, at, behind_end, closes, default_text, fills, given, held, joins, opens, or_else_first, or_else_second, passes, program, rules, top}
+use Rattle.cells_program.proofs.CommandWords.{Passes, at, behind_end, closes, default_text, fills, given, held, joins, opens, or_else_first, or_else_second}
+use Rattle.cells_program.proofs.CommandWords.{passes, program, rules, top}
 
 -- ---- words that meet no fault
 
@@ -61,7 +64,8 @@ twice v values e =
     let again : kind.ArgumentConflict ∷ [] ≡ [] = or_else_second (range_kinds 1 1 (length values)) (kind.ArgumentConflict ∷ []) e in
     cc
 
-twice_by : (v : Text) (values : List Text) (word : Text) (some : Bool) (rest : List Text) (w : Walk) → Passes (row v ∷ []) (open_with values) word some w → IsFaultFree w rest
+twice_by : (v : Text) (values : List Text) (word : Text) (some : Bool) (rest : List Text) (w : Walk) → Passes (row v ∷ []) (open_with values) word some w →
+    IsFaultFree w rest
     → ((us : List Text) (b : Bool) → IsFaultFree (at (held (row v ∷ []) (open_with us)) b false) rest → ⊥) → ⊥
 twice_by v values word some rest w (closes e) f later =
     let h = held (row v ∷ []) (open_with values) in
@@ -83,7 +87,8 @@ never_twice v values some (word ∷ rest) f =
 abbrev IsClosed : List Text → Type 0
 IsClosed words = (words ≡ []) ⊎ (words ≡ codes "--" ∷ [])
 
-joined_by : (v word : Text) (rest : List Text) (w : Walk) → Passes (row v ∷ []) None word false w → IsFaultFree w rest → IsClosed (word ∷ rest) × ((end_of w rest).held ≡ held (row v ∷ []) None)
+joined_by : (v word : Text) (rest : List Text) (w : Walk) → Passes (row v ∷ []) None word false w → IsFaultFree w rest → IsClosed (word ∷ rest) ×
+    ((end_of w rest).held ≡ held (row v ∷ []) None)
 joined_by v word rest w (closes e) f =
     let h = held (row v ∷ []) None in
     let none = nothing_behind h false rest f in
@@ -92,7 +97,8 @@ joined_by v word rest w (joins {v = u} e react) f = let again : kind.ArgumentCon
 joined_by v word rest w (opens e settle) f = absurd (never_twice v [] true rest f)
 joined_by v word rest w (fills e) f = cc
 
-after_joined : (v : Text) (words : List Text) → IsFaultFree (at (held (row v ∷ []) None) false false) words → IsClosed words × ((end_of (at (held (row v ∷ []) None) false false) words).held ≡ held (row v ∷ []) None)
+after_joined : (v : Text) (words : List Text) → IsFaultFree (at (held (row v ∷ []) None) false false) words → IsClosed words ×
+    ((end_of (at (held (row v ∷ []) None) false false) words).held ≡ held (row v ∷ []) None)
 after_joined v [] f = (inl refl, refl)
 after_joined v (word ∷ rest) f =
     let n = next (at (held (row v ∷ []) None) false false) word rest f in
@@ -132,13 +138,15 @@ IsFilled words w =
 opened_by : (word : Text) (rest : List Text) (w : Walk) → Passes [] (open_with []) word true w → IsFaultFree w rest → IsFilled (word ∷ rest) (end_of w rest)
 opened_by word rest w (closes e) f =
     let h = held [] (open_with []) in
-    let none : kind.InvalidValue ∷ [] ≡ [] = subst (λ words. settle_fault rules false (end_of (at h true true) words).held ≡ []) (nothing_behind h true rest f) f.1 in
+    let none : kind.InvalidValue ∷ [] ≡ [] = subst (λ words. settle_fault rules false (end_of (at h true true) words).held ≡ []) (nothing_behind h true rest f)
+    f.1 in
     cc
 opened_by word rest w (joins e react) f = let none : kind.InvalidValue ∷ [] ≡ [] = react in cc
 opened_by word rest w (opens e settle) f = let none : kind.InvalidValue ∷ [] ≡ [] = settle in cc
 opened_by word rest w (fills e) f = let a = after_filled word rest f in (word, (rest, refl, a.0), a.1, a.2)
 
-after_opened : (words : List Text) → IsFaultFree (at (held [] (open_with [])) true false) words → IsFilled words (end_of (at (held [] (open_with [])) true false) words)
+after_opened : (words : List Text) → IsFaultFree (at (held [] (open_with [])) true false) words →
+    IsFilled words (end_of (at (held [] (open_with [])) true false) words)
 after_opened [] f = let none : kind.InvalidValue ∷ [] ≡ [] = f.1 in cc
 after_opened (word ∷ rest) f =
     let n = next (at (held [] (open_with [])) true false) word rest f in
@@ -213,7 +221,8 @@ fault_free words e =
     let w = at (held [] None) false false in
     let ws = drop 1 words in
     let below = entered_fault (built program) (end_of w ws).stopped in
-    let last = or_else (defaults_fault (settled rules (end_of w ws).held).rows rules) (check_fault top (finished rules (end_of w ws).held) (is_some (entered (built program) (end_of w ws).stopped))) in
+    let last = or_else (defaults_fault (settled rules (end_of w ws).held).rows rules)
+    (check_fault top (finished rules (end_of w ws).held) (is_some (entered (built program) (end_of w ws).stopped))) in
     let settle = settle_fault rules false (end_of w ws).held in (
       or_else_first (walk_fault top [] w ws) (or_else below (or_else settle last)) e,
       or_else_first settle last (or_else_second below (or_else settle last) (or_else_second (walk_fault top [] w ws) (or_else below (or_else settle last)) e)),
@@ -225,7 +234,8 @@ number_of t = digits_value 10 (without_leading_plus t)
 accepted : (t : Text) → IsAccepted t → IsUnsignedIn 1 1000000000000 t
 accepted t e = accepts-Accepts false (vp.Unsigned 1 1000000000000) t (go (accepts false (vp.Unsigned 1 1000000000000) t) refl e)
   where
-    go : (b : Bool) → accepts false (vp.Unsigned 1 1000000000000) t ≡ b → or_else (if b then [] else kind.ValueValidation ∷ []) [] ≡ [] → accepts false (vp.Unsigned 1 1000000000000) t ≡ true
+    go : (b : Bool) → accepts false (vp.Unsigned 1 1000000000000) t ≡ b → or_else (if b then [] else kind.ValueValidation ∷ []) [] ≡ [] →
+        accepts false (vp.Unsigned 1 1000000000000) t ≡ true
     go true is h = is
     go false is h = cc
 
@@ -287,7 +297,8 @@ walks_none : (w : Walk) → Walks [] w w
 unfolding walk_fault
 walks_none w = (refl, refl)
 
-walks_more : (word : Text) (rest : List Text) (w mid end : Walk) → turn_fault top [] w word ≡ [] → walked rules [] w word ≡ mid → Walks rest mid end → Walks (word ∷ rest) w end
+walks_more : (word : Text) (rest : List Text) (w mid end : Walk) → turn_fault top [] w word ≡ [] → walked rules [] w word ≡ mid → Walks rest mid end →
+    Walks (word ∷ rest) w end
 unfolding walk_fault
 walks_more word rest w mid end turn is f = (
   ap₂ or_else turn (ap (λ v. walk_fault top [] v rest) is ∙ f.0),
@@ -322,15 +333,18 @@ joined_ends t behind = refl
 
 walks_option : Walks (codes "--steps" ∷ []) (at (held [] None) false false) (at (held [] (open_with [])) true false)
 unfolding walked
-walks_option = walks_more (codes "--steps") [] (at (held [] None) false false) (at (held [] (open_with [])) true false) (at (held [] (open_with [])) true false) refl refl (walks_none (at (held [] (open_with [])) true false))
+walks_option = walks_more (codes "--steps") [] (at (held [] None) false false) (at (held [] (open_with [])) true false) (at (held [] (open_with [])) true false)
+    refl refl (walks_none (at (held [] (open_with [])) true false))
 
 value_met : (t : Text) → bytes_eq t (codes "--") ≡ false → long_of t ≡ None → short_of t ≡ None
-    → (turn_fault top [] (at (held [] (open_with [])) true false) t ≡ []) × (walked rules [] (at (held [] (open_with [])) true false) t ≡ at (held [] (open_with (t ∷ []))) false false)
+    → (turn_fault top [] (at (held [] (open_with [])) true false) t ≡ []) ×
+    (walked rules [] (at (held [] (open_with [])) true false) t ≡ at (held [] (open_with (t ∷ []))) false false)
 unfolding walked
 value_met t b l s = (rw (b, l, s), rw (b, l, s))
 
 joined_met : (t : Text) → Takes t
-    → (turn_fault top [] (at (held [] None) false false) (codes "--steps=" ++ t) ≡ []) × (walked rules [] (at (held [] None) false false) (codes "--steps=" ++ t) ≡ at (held (row t ∷ []) None) false false)
+    → (turn_fault top [] (at (held [] None) false false) (codes "--steps=" ++ t) ≡ []) ×
+    (walked rules [] (at (held [] None) false false) (codes "--steps=" ++ t) ≡ at (held (row t ∷ []) None) false false)
 unfolding walked
 joined_met t a = (rw a, refl)
 
@@ -349,7 +363,10 @@ chosen_walks option n line.by_default = (held [] None, walks_none (at (held [] N
 chosen_walks option n (line.in_two_words {text = t} w s) =
     let d = digits_first t w.0 in
     let flag = is_no_flag d.0 d.1 d.3 in
-    let met = subst (λ u. (turn_fault top [] (at (held [] (open_with [])) true false) u ≡ []) × (walked rules [] (at (held [] (open_with [])) true false) u ≡ at (held [] (open_with (u ∷ []))) false false)) (sym d.2) (value_met (d.0 ∷ d.1) flag.0 flag.1 flag.2) in
+    let met = subst
+    (λ u. (turn_fault top [] (at (held [] (open_with [])) true false) u ≡ []) ×
+    (walked rules [] (at (held [] (open_with [])) true false) u ≡ at (held [] (open_with (u ∷ []))) false false)) (sym d.2)
+    (value_met (d.0 ∷ d.1) flag.0 flag.1 flag.2) in
     let h = held [] (open_with (t ∷ [])) in (
       h,
       walks_then (codes "--steps" ∷ []) (t ∷ []) (at (held [] None) false false) (at (held [] (open_with [])) true false) (at h false false) walks_option
@@ -376,7 +393,8 @@ fine words n (line.with_option {name = name} {option = option} c) =
     runs_fine name option (at g.0 false false) g.1 (g.2 false)
 fine words n (line.with_end {name = name} {option = option} c) =
     let g = chosen_walks option n c in
-    runs_fine name (option ++ codes "--" ∷ []) (at g.0 false true) (walks_then option (codes "--" ∷ []) (at (held [] None) false false) (at g.0 false false) (at g.0 false true) g.1 (walks_closed g.0)) (g.2 true)
+    runs_fine name (option ++ codes "--" ∷ []) (at g.0 false true)
+    (walks_then option (codes "--" ∷ []) (at (held [] None) false false) (at g.0 false false) (at g.0 false true) g.1 (walks_closed g.0)) (g.2 true)
 
 -- ---- what a parse answers
 
@@ -388,7 +406,8 @@ is_simple = refl
 of_program : (a : App) (P : App → Type 0) → a ≡ program → (is_simple_and_free a ≡ true → P a) → P program
 of_program a P is h = subst P is (h (ap is_simple_and_free is ∙ is_simple))
 
-number_read : (E : Type 0) (G : List ℕ → Result ℕ E → Type 0) (t : Text) (n : ℕ) (r : Option ℕ) → ((u : List ℕ) (x : Result ℕ E) → G u x → ParsesUnsigned 64 10 u x)
+number_read : (E : Type 0) (G : List ℕ → Result ℕ E → Type 0) (t : Text) (n : ℕ) (r : Option ℕ) →
+    ((u : List ℕ) (x : Result ℕ E) → G u x → ParsesUnsigned 64 10 u x)
     → ReadsOne G t r → Writes t n → IsSteps n → r ≡ Some n
 number_read E G t n (Some v) only h w s = let p = only t (Ok v) h in ap (λ k. Some k) (p.1 ∙ sym w.1)
 number_read E G t n None only h w s =
@@ -408,18 +427,21 @@ pub never_none : (words : List Text) (r : Option ℕ) → IsGiven words r → r 
 never_none words r h is = subst (IsGiven words) is h
 
 -- what is read of words that are served
-pub steps_given : (E : Type 0) (G : List ℕ → Result ℕ E → Type 0) (a : App) (m : ArgMatches) (words : List Text) (r : Option ℕ) → ((u : List ℕ) (x : Result ℕ E) → G u x → ParsesUnsigned 64 10 u x)
+pub steps_given : (E : Type 0) (G : List ℕ → Result ℕ E → Type 0) (a : App) (m : ArgMatches) (words : List Text) (r : Option ℕ) →
+    ((u : List ℕ) (x : Result ℕ E) → G u x → ParsesUnsigned 64 10 u x)
     → a ≡ program → (is_simple_and_free a ≡ true → fault_of a words ≡ []) → HasMatchesOf a words m
     → ((t : Text) → one_text (found_of m) (codes "steps") ≡ Some t → ReadsOne G t r)
     → IsGiven words r
 steps_given E G a m words r only is none matches read =
     let given = reads words (of_program a (λ b. fault_of b words ≡ []) is none) in
     let rows = subst (λ b. HasMatchesOf b words m) is matches refl in
-    let text : one_text (found_of m) (codes "steps") ≡ Some given.1 = one_text-rows (found_of m) (codes "steps") ∙ ap (one_of (codes "steps")) rows.0 ∙ given.5 in
+    let text : one_text (found_of m) (codes "steps") ≡ Some given.1 = one_text-rows (found_of m) (codes "steps") ∙ ap (one_of (codes "steps")) rows.0
+    ∙ given.5 in
     subst (IsGiven words) (sym (number_read E G given.1 given.0 r only (read given.1 text) given.4 given.3)) (given.2, given.3)
 
 -- words that run are refused for want of memory alone
-pub refused_memory : (a : App) (words : List Text) (error : Error) → a ≡ program → (is_simple_and_free a ≡ true → HasKind (fault_of a words) error) → (n : ℕ) → Runs words n → kind_of error ≡ kind.OutOfMemory
+pub refused_memory : (a : App) (words : List Text) (error : Error) → a ≡ program → (is_simple_and_free a ≡ true → HasKind (fault_of a words) error) → (n : ℕ) →
+    Runs words n → kind_of error ≡ kind.OutOfMemory
 refused_memory a words error is fails n runs =
     elim (subst (λ kinds. HasKind kinds error) (fine words n runs) (of_program a (λ b. HasKind (fault_of b words) error) is fails)) [
       | inl memory ↦ memory
@@ -434,7 +456,8 @@ help_asked : (words : List Text) → AsksForHelp words → fault_of program word
 help_asked words asks = ap (fault_of program) asks.1 ∙ asked asks.0
 
 -- words that ask for help are refused with it
-pub refused_help : (a : App) (words : List Text) (error : Error) → a ≡ program → (is_simple_and_free a ≡ true → HasKind (fault_of a words) error) → AsksForHelp words → (kind_of error ≡ kind.OutOfMemory) ⊎ (kind_of error ≡ kind.DisplayHelp)
+pub refused_help : (a : App) (words : List Text) (error : Error) → a ≡ program → (is_simple_and_free a ≡ true → HasKind (fault_of a words) error) →
+    AsksForHelp words → (kind_of error ≡ kind.OutOfMemory) ⊎ (kind_of error ≡ kind.DisplayHelp)
 refused_help a words error is fails asks =
     elim (subst (λ kinds. HasKind kinds error) (help_asked words asks) (of_program a (λ b. HasKind (fault_of b words) error) is fails)) [
       | inl memory ↦ inl memory

@@ -6,11 +6,13 @@ use Rattle.std.specs.Option.{option_map_or}
 use Rattle.std.specs.Str.{bytes_eq, chars}
 use Rattle.std.proofs.lemmas.Bool.{eqb-true}
 use Rattle.std.proofs.lemmas.Slice.Eq.{bytes_eq-Decides}
-use Rattle.clap.specs.Faults.{bundle_fault, bundle_step_fault, flag_word_fault, flags_fault, long_fault, react_fault, settle_fault, short_fault, step_fault, turn_fault, use_fault, walk_fault}
+use Rattle.clap.specs.Faults.{bundle_fault, bundle_step_fault, flag_word_fault, flags_fault, long_fault, react_fault, settle_fault, short_fault, step_fault}
+use Rattle.clap.specs.Faults.{turn_fault, use_fault, walk_fault}
 use Rattle.clap.specs.Kinds.{Kinds, or_else}
 use Rattle.clap.specs.Lexer.{has_byte, long_of, long_of_rest, name_and_value, short_of, strip_byte}
 use Rattle.clap.specs.Simple.{App, Shape, built, filled, help_rule, new_app, new_rule, with_rule}
-use Rattle.clap.specs.Walk.{Held, Rule, Row, Step, Text, Waiting, Walk, after_flag, after_step, arg_by_long, arg_by_short, bundle_met, bundle_step, idle, long_met, long_or_other, option, plain, plain_word, pushed, pending_count, reacted, settled, short_or_plain, trailing, walked}
+use Rattle.clap.specs.Walk.{Held, Rule, Row, Step, Text, Waiting, Walk, after_flag, after_step, arg_by_long, arg_by_short, bundle_met, bundle_step, idle}
+use Rattle.clap.specs.Walk.{long_met, long_or_other, option, plain, plain_word, pushed, pending_count, reacted, settled, short_or_plain, trailing, walked}
 use Rattle.clap.specs.declared.builder.value_parser.ValueParser.TheVariants as vp
 use Rattle.clap.specs.declared.error.kind.ErrorKind.TheVariants as kind
 
@@ -148,7 +150,9 @@ pub data Passes (rows : List Row) (pending : Option (Text × List Text)) (word :
   opens : word ≡ codes "--steps" → settle_fault rules false (held rows pending) ≡ []
       → Passes rows pending word some (at (record (settled rules (held rows pending)) { pending = Some (codes "steps", []) }) true false)
   fills : some ≡ true
-      → Passes rows pending word some (at (pushed (codes "steps") word (held rows pending)) (nat_lt (pending_count given (pushed (codes "steps") word (held rows pending)).pending) 1) false)
+      → Passes rows pending word some
+      (at (pushed (codes "steps") word (held rows pending)) (nat_lt (pending_count given (pushed (codes "steps") word (held rows pending)).pending) 1)
+      false)
 
 -- a word behind `--` never passes
 pub behind_end : (h : Held) (some : Bool) (word : Text) (rest : List Text) → walk_fault top [] (at h some true) (word ∷ rest) ≡ [] → ⊥
@@ -161,11 +165,13 @@ abbrev help : Rule
 help = filled help_rule
 
 -- which option a name names
-found_long : (name : Text) → ((bytes_eq (codes "steps") name ≡ true) × (arg_by_long rules name ≡ Some given)) ⊎ ((arg_by_long rules name ≡ Some help) ⊎ (arg_by_long rules name ≡ None))
+found_long : (name : Text) → ((bytes_eq (codes "steps") name ≡ true) × (arg_by_long rules name ≡ Some given)) ⊎
+    ((arg_by_long rules name ≡ Some help) ⊎ (arg_by_long rules name ≡ None))
 found_long name = go (bytes_eq (codes "steps") name) refl (bytes_eq (codes "help") name) refl
   where
     go : (a : Bool) → bytes_eq (codes "steps") name ≡ a → (b : Bool) → bytes_eq (codes "help") name ≡ b
-        → ((bytes_eq (codes "steps") name ≡ true) × (arg_by_long rules name ≡ Some given)) ⊎ ((arg_by_long rules name ≡ Some help) ⊎ (arg_by_long rules name ≡ None))
+        → ((bytes_eq (codes "steps") name ≡ true) × (arg_by_long rules name ≡ Some given)) ⊎
+        ((arg_by_long rules name ≡ Some help) ⊎ (arg_by_long rules name ≡ None))
     go true e b f = inl (e, rw e)
     go false e true f = inr (inl (rw (e, f)))
     go false e false f = inr (inr (rw (e, f)))
@@ -182,7 +188,8 @@ unknown_first b e = cc
 
 shows_help : (h : Held) → react_fault rules false help [] h ≡ [] → ⊥
 shows_help h e =
-    let shown : use_fault false help [] (settled rules h).rows ≡ [] = or_else_second (settle_fault rules false h) (use_fault false help [] (settled rules h).rows) e in
+    let shown : use_fault false help [] (settled rules h).rows ≡ [] =
+    or_else_second (settle_fault rules false h) (use_fault false help [] (settled rules h).rows) e in
     let none : kind.DisplayHelp ∷ [] ≡ [] = shown in
     cc
 
@@ -190,7 +197,8 @@ help_first : (h : Held) (b c : Kinds) → or_else (or_else (react_fault rules fa
 help_first h b c e =
     shows_help h (or_else_first (react_fault rules false help [] h) b (or_else_first (or_else (react_fault rules false help [] h) b) c e))
 
-no_short : (f : Option Rule) → (f ≡ Some help) ⊎ (f ≡ None) → (rest : Text) (h : Held) (next : Held → Kinds) (c : Kinds) → or_else (short_fault rules false f rest h next) c ≡ [] → ⊥
+no_short : (f : Option Rule) → (f ≡ Some help) ⊎ (f ≡ None) → (rest : Text) (h : Held) (next : Held → Kinds) (c : Kinds) →
+    or_else (short_fault rules false f rest h next) c ≡ [] → ⊥
 no_short f (inl is) rest h next c e =
     help_first h (next (reacted rules help [] h)) c (subst (λ g. or_else (short_fault rules false g rest h next) c ≡ []) is e)
 no_short f (inr is) rest h next c e = unknown_first c (subst (λ g. or_else (short_fault rules false g rest h next) c ≡ []) is e)
@@ -200,14 +208,16 @@ abbrev StepPasses : List Row → Option (Text × List Text) → Text → Bool �
 StepPasses rows pending word some fault met =
     or_else fault (step_fault top 1 met.0 met.1) ≡ [] → Passes rows pending word some (after_step rules word (at (held rows pending) some false) met.0 met.1)
 
-plain_passes : (rows : List Row) (pending : Option (Text × List Text)) (word : Text) (some : Bool) → StepPasses rows pending word some [] (plain_word rules (waits some) word (held rows pending))
+plain_passes : (rows : List Row) (pending : Option (Text × List Text)) (word : Text) (some : Bool) →
+    StepPasses rows pending word some [] (plain_word rules (waits some) word (held rows pending))
 plain_passes rows pending word true e = fills refl
 plain_passes rows pending word false e = let none : kind.UnknownArgument ∷ [] ≡ [] = e in cc
 
 -- a word with one hyphen
 short_passes : (rows : List Row) (pending : Option (Text × List Text)) (word : Text) (some : Bool) (flags : Text) (k : ℕ) (o : Option ℕ)
     → (let met = bundle_step rules o flags 0 plain (held rows pending) (bundle_met rules k) in
-    StepPasses rows pending word some (bundle_step_fault rules false o flags 0 (held rows pending) (flags_fault rules false k)) (after_flag rules (waits some) word met.0 met.1))
+    StepPasses rows pending word some (bundle_step_fault rules false o flags 0 (held rows pending) (flags_fault rules false k))
+    (after_flag rules (waits some) word met.0 met.1))
 short_passes rows pending word some flags k None e = plain_passes rows pending word some e
 short_passes rows pending word some flags k (Some x) e =
     let rest = drop (length (encode_utf8 x)) flags in
@@ -238,18 +248,23 @@ steps_pass rows pending word some (Some v) (inr (w, same, h)) e =
     let q : v ≡ w = cc in
     joins (h ∙ ap (λ t. codes "--steps=" ++ t) (sym q)) (or_else_first (react_fault rules false given (v ∷ []) (held rows pending)) [] e)
 
-help_passes : (rows : List Row) (pending : Option (Text × List Text)) (word : Text) (some : Bool) (value : Option Text) → LongPasses rows pending word some (Some help) value
+help_passes : (rows : List Row) (pending : Option (Text × List Text)) (word : Text) (some : Bool) (value : Option Text) →
+    LongPasses rows pending word some (Some help) value
 help_passes rows pending word some None e = absurd (shows_help (held rows pending) (or_else_first (react_fault rules false help [] (held rows pending)) [] e))
 help_passes rows pending word some (Some v) e = let none : kind.TooManyValues ∷ [] ≡ [] = e in cc
 
-unknown_passes : (rows : List Row) (pending : Option (Text × List Text)) (word : Text) (some : Bool) (value : Option Text) → LongPasses rows pending word some None value
+unknown_passes : (rows : List Row) (pending : Option (Text × List Text)) (word : Text) (some : Bool) (value : Option Text) →
+    LongPasses rows pending word some None value
 unknown_passes rows pending word some value e = let none : kind.UnknownArgument ∷ [] ≡ [] = e in cc
 
-long_passes : (rows : List Row) (pending : Option (Text × List Text)) (word name : Text) (value : Option Text) (some : Bool) → long_of word ≡ Some (name, value) → LongPasses rows pending word some (arg_by_long rules name) value
+long_passes : (rows : List Row) (pending : Option (Text × List Text)) (word name : Text) (value : Option Text) (some : Bool) →
+    long_of word ≡ Some (name, value) → LongPasses rows pending word some (arg_by_long rules name) value
 long_passes rows pending word name value some is = go (found_long name)
   where
-    go : ((bytes_eq (codes "steps") name ≡ true) × (arg_by_long rules name ≡ Some given)) ⊎ ((arg_by_long rules name ≡ Some help) ⊎ (arg_by_long rules name ≡ None)) → LongPasses rows pending word some (arg_by_long rules name) value
-    go (inl h) = subst (λ f. LongPasses rows pending word some f value) (sym h.1) (steps_pass rows pending word some value (steps_word_is word name value is h.0))
+    go : ((bytes_eq (codes "steps") name ≡ true) × (arg_by_long rules name ≡ Some given)) ⊎
+        ((arg_by_long rules name ≡ Some help) ⊎ (arg_by_long rules name ≡ None)) → LongPasses rows pending word some (arg_by_long rules name) value
+    go (inl h) = subst (λ f. LongPasses rows pending word some f value) (sym h.1)
+        (steps_pass rows pending word some value (steps_word_is word name value is h.0))
     go (inr (inl h)) = subst (λ f. LongPasses rows pending word some f value) (sym h) (help_passes rows pending word some value)
     go (inr (inr h)) = subst (λ f. LongPasses rows pending word some f value) (sym h) (unknown_passes rows pending word some value)
 
@@ -259,7 +274,8 @@ other_passes : (rows : List Row) (pending : Option (Text × List Text)) (word : 
 other_passes rows pending word some (Some (name, value)) is e = long_passes rows pending word name value some is e
 other_passes rows pending word some None is e = go (short_of word) e
   where
-    go : (s : Option Text) → StepPasses rows pending word some (option_map_or (λ flags. bundle_fault rules false flags (held rows pending)) s []) (short_or_plain rules (waits some) word s (held rows pending))
+    go : (s : Option Text) → StepPasses rows pending word some (option_map_or (λ flags. bundle_fault rules false flags (held rows pending)) s [])
+        (short_or_plain rules (waits some) word s (held rows pending))
     go None e = plain_passes rows pending word some e
     go (Some flags) e = flags_pass rows pending word some flags (length flags) e
 
@@ -269,7 +285,8 @@ word_passes : (rows : List Row) (pending : Option (Text × List Text)) (word : T
 word_passes rows pending word some true is e = closes ((bytes_eq-Decides word (codes "--")).0 is)
 word_passes rows pending word some false is e = other_passes rows pending word some (long_of word) refl e
 
-pub passes : (rows : List Row) (pending : Option (Text × List Text)) (word : Text) (some : Bool) → turn_fault top [] (at (held rows pending) some false) word ≡ []
+pub passes : (rows : List Row) (pending : Option (Text × List Text)) (word : Text) (some : Bool) →
+    turn_fault top [] (at (held rows pending) some false) word ≡ []
     → Passes rows pending word some (walked rules [] (at (held rows pending) some false) word)
 unfolding walked
 passes rows pending word true e = word_passes rows pending word true (bytes_eq word (codes "--")) refl e

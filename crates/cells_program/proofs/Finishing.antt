@@ -54,7 +54,8 @@ going_left : (c : ℕ) → step_limit < turn_left GoesOn c
 going_left zero = omega arith
 going_left (suc c) = omega arith
 
-backs_nearer : (s : Past) (work : Work) (why : Why) (old : Job) (j : ℕ) (told : Sliced) (new : State) → cells_left work * (step_limit + 4) + j < left old → Backs s work why j told new → Nearer old told new.job
+backs_nearer : (s : Past) (work : Work) (why : Why) (old : Job) (j : ℕ) (told : Sliced) (new : State) → cells_left work * (step_limit + 4) + j < left old →
+    Backs s work why j told new → Nearer old told new.job
 backs_nearer s work why old zero told new lt h =
     subst (λ t. Nearer old t new.job) (sym h.0) (ap (λ x. x.job) h.1)
 backs_nearer s work why old (suc c) told new lt h =
@@ -71,7 +72,8 @@ stepped_left : (t : Travel) (way : Way) → next_way t ≡ way → cells (steppe
 stepped_left t Up way = (let some = way_up t.up way in rw (way, stepped) (omega arith))
 stepped_left t Down way = (let none = way_down t.up way in rw (way, stepped) (omega arith))
 
-arrives_nearer : (s : Past) (travel on : Travel) (n c : ℕ) (told : Sliced) (new : State) → cells travel - 1 ≡ n → cells on ≡ n → Arrives n s on told new → Nearer (inside (Move travel) c) told new.job
+arrives_nearer : (s : Past) (travel on : Travel) (n c : ℕ) (told : Sliced) (new : State) → cells travel - 1 ≡ n → cells on ≡ n → Arrives n s on told new →
+    Nearer (inside (Move travel) c) told new.job
 arrives_nearer s travel on zero c told new e f h =
     subst (λ t. Nearer (inside (Move travel) c) t new.job) (sym h.0) (ap (λ x. x.job) h.1)
 arrives_nearer s travel on (suc n) c told new e f h =
@@ -79,24 +81,29 @@ arrives_nearer s travel on (suc n) c told new e f h =
     subst (λ t. Nearer (inside (Move travel) c) t new.job) (sym h.0)
     ((_, ap (λ x. x.job) h.1), subst (λ n. n < left (inside (Move travel) c)) (sym there) (one_less (cells travel) n (turn_left GoesOn c) e (going_left c)))
 
-settles_nearer : (s : Past) (work : Work) (c n : ℕ) (w : World) (told : Sliced) (new : State) → Settles s work n w told new → Nearer (inside work c) told new.job
+settles_nearer : (s : Past) (work : Work) (c n : ℕ) (w : World) (told : Sliced) (new : State) → Settles s work n w told new →
+    Nearer (inside work c) told new.job
 settles_nearer s (Posted cell) c n w told new h = subst (λ t. Nearer (inside (Posted cell) c) t new.job) (sym h.0) (ap (λ x. x.job) h.1)
-settles_nearer s (Move travel) c n w told new h = arrives_nearer (moved s travel) travel (stepped travel) (cells (stepped travel)) c told new (sym (stepped_left travel (next_way travel) refl)) refl h
+settles_nearer s (Move travel) c n w told new h =
+    arrives_nearer (moved s travel) travel (stepped travel) (cells (stepped travel)) c told new (sym (stepped_left travel (next_way travel) refl)) refl h
 
 -- a part is never past the limit
 part_limit : (code : Code) (w v : World) (j : ℕ) → CodePart code w j v → j ≤ step_limit
 unfolding CodePart
 part_limit code w v j h = h.limit
 
-comes_nearer : (s : Past) (work : Work) (c : ℕ) (ran : Progress) (w : World) (told : Sliced) (new : State) → Reaches (code_of s work) (here s) (c + step_limit) ran w → Comes s work (c + step_limit) ran w told new → Nearer (inside work c) told new.job
+comes_nearer : (s : Past) (work : Work) (c : ℕ) (ran : Progress) (w : World) (told : Sliced) (new : State) →
+    Reaches (code_of s work) (here s) (c + step_limit) ran w → Comes s work (c + step_limit) ran w told new → Nearer (inside work c) told new.job
 comes_nearer s work c Went w told new r h =
     let le = part_limit (code_of s work) (here s) w (c + step_limit) r.0 in
     let none : c ≡ zero = omega arith in
     let some : c + step_limit ≡ suc (step_limit - 1) = omega arith in
     let old_left : turn_left GoesOn c ≡ step_limit + 2 = ap (turn_left GoesOn) none in
     let new_left : turn_left GoesOn (c + step_limit) ≡ step_limit + 1 = ap (turn_left GoesOn) some in
-    let less : cells_left work * (step_limit + 4) + turn_left GoesOn (c + step_limit) < cells_left work * (step_limit + 4) + turn_left GoesOn c = further (cells_left work * (step_limit + 4)) _ _ new_left old_left in
-    subst (λ t. Nearer (inside work c) t new.job) (sym h.0) ((_, ap (λ x. x.job) h.1), subst (λ n. n < left (inside work c)) (sym (ap (λ x. left x.job) h.1)) less)
+    let less : cells_left work * (step_limit + 4) + turn_left GoesOn (c + step_limit) < cells_left work * (step_limit + 4) + turn_left GoesOn c =
+    further (cells_left work * (step_limit + 4)) _ _ new_left old_left in
+    subst (λ t. Nearer (inside work c) t new.job) (sym h.0)
+    ((_, ap (λ x. x.job) h.1), subst (λ n. n < left (inside work c)) (sym (ap (λ x. left x.job) h.1)) less)
   where
     further : (a m n : ℕ) → m ≡ step_limit + 1 → n ≡ step_limit + 2 → a + m < a + n
     further a m n e f = omega arith
@@ -112,23 +119,30 @@ back_less : (a c n : ℕ) → c - step_limit ≡ suc n → a + suc n < a + c
 back_less a c n e = omega arith
 
 -- backing: what is left to go back is less
-backing_nearer : (s : Past) (work : Work) (why : Why) (c n : ℕ) (told : Sliced) (new : State) → c - step_limit ≡ n → Backs s work why n told new → Nearer (Inside (record { work = work; count = c; heading = GoesBack why })) told new.job
+backing_nearer : (s : Past) (work : Work) (why : Why) (c n : ℕ) (told : Sliced) (new : State) → c - step_limit ≡ n → Backs s work why n told new →
+    Nearer (Inside (record { work = work; count = c; heading = GoesBack why })) told new.job
 backing_nearer s work why c zero told new e h =
     subst (λ t. Nearer (Inside (record { work = work; count = c; heading = GoesBack why })) t new.job) (sym h.0) (ap (λ x. x.job) h.1)
 backing_nearer s work why c (suc n) told new e h =
-    subst (λ t. Nearer (Inside (record { work = work; count = c; heading = GoesBack why })) t new.job) (sym h.0)
-    ((_, ap (λ x. x.job) h.1), subst (λ n. n < cells_left work * (step_limit + 4) + c) (sym (ap (λ x. left x.job) h.1)) (back_less (cells_left work * (step_limit + 4)) c n e))
+    subst (λ t. Nearer (Inside (record { work = work; count = c; heading = GoesBack why })) t new.job) (sym h.0) (
+      (_, ap (λ x. x.job) h.1),
+      subst (λ n. n < cells_left work * (step_limit + 4) + c) (sym (ap (λ x. left x.job) h.1))
+          (back_less (cells_left work * (step_limit + 4)) c n e),
+    )
 
-slices_nearer : (s : Past) (work : Work) (c : ℕ) (heading : Heading) (told : Sliced) (new : State) → SlicesIn s work c heading step_limit false told new → Nearer (Inside (record { work = work; count = c; heading = heading })) told new.job
+slices_nearer : (s : Past) (work : Work) (c : ℕ) (heading : Heading) (told : Sliced) (new : State) → SlicesIn s work c heading step_limit false told new →
+    Nearer (Inside (record { work = work; count = c; heading = heading })) told new.job
 slices_nearer s work c GoesOn told new h = comes_nearer s work c h.0 h.1 told new h.2 h.3
 slices_nearer s work c (GoesBack why) told new h = backing_nearer s work why c (c - step_limit) told new refl h
 
 -- a slice of a job inside a cell
-pub slice_nearer : (old new : Machine) (told : Sliced) → IsInside old.state.job → IsSliceOf old step_limit false told new → Nearer old.state.job told new.state.job
+pub slice_nearer : (old new : Machine) (told : Sliced) → IsInside old.state.job → IsSliceOf old step_limit false told new →
+    Nearer old.state.job told new.state.job
 slice_nearer old new told i h =
     let at : SlicesAt old.state.past (Inside i.0) step_limit false told h.0 = subst (λ job. SlicesAt old.state.past job step_limit false told h.0) i.1 h.1 in
     subst (λ job. Nearer job told new.state.job) (sym i.1)
-    (subst (λ state. Nearer (Inside i.0) told state.job) (sym (ap (λ m. m.state) h.2)) (slices_nearer old.state.past i.0.work i.0.count i.0.heading told h.0 at))
+    (subst (λ state. Nearer (Inside i.0) told state.job) (sym (ap (λ m. m.state) h.2))
+    (slices_nearer old.state.past i.0.work i.0.count i.0.heading told h.0 at))
 
 -- ---- begins
 
@@ -144,7 +158,8 @@ enter_less a = omega arith
 enters_nearer : (s : Past) (t : Travel) (told : Begun) (new : State) → Enters s t told new → Begins (Border t) told new.job
 enters_nearer s t told new h =
     ⊎_elim
-    (λ h. subst (λ b. Begins (Border t) b new.job) (sym h.0) ((_, ap (λ x. x.job) h.1), subst (λ n. n < left (Border t)) (sym (ap (λ x. left x.job) h.1)) (enter_less (cells t * (step_limit + 4)))))
+    (λ h. subst (λ b. Begins (Border t) b new.job) (sym h.0)
+    ((_, ap (λ x. x.job) h.1), subst (λ n. n < left (Border t)) (sym (ap (λ x. left x.job) h.1)) (enter_less (cells t * (step_limit + 4)))))
     (λ h. subst (λ b. Begins (Border t) b new.job) (sym h.0) (ap (λ x. x.job) h.2))
     h
 

@@ -44,7 +44,8 @@ Nearer asked old (sliced.Ended o) new = new ≡ Idle
 less : (c n : ℕ) → c - step_limit ≡ suc n → suc n < c
 less c n e = omega arith
 
-backs_nearer : (asked : Bool) (s : Past) (work : Work) (why : Why) (heading : Heading) (c n : ℕ) (told : Sliced) (new : State) → c - step_limit ≡ n → Backs s work why n told new
+backs_nearer : (asked : Bool) (s : Past) (work : Work) (why : Why) (heading : Heading) (c n : ℕ) (told : Sliced) (new : State) → c - step_limit ≡ n →
+    Backs s work why n told new
     → Nearer asked (Inside (record { work = work; count = c; heading = heading })) told new.job
 backs_nearer asked s work why heading c zero told new e h =
     subst (λ t. Nearer asked (Inside (record { work = work; count = c; heading = heading })) t new.job) (sym h.0) (ap (λ x. x.job) h.1)
@@ -53,17 +54,20 @@ backs_nearer asked s work why heading c (suc n) told new e h =
     subst (λ t. Nearer asked (Inside (record { work = work; count = c; heading = heading })) t new.job) (sym h.0)
     (turned_must asked work (suc n) why new.job job, subst (λ k. k < c) (sym (ap count_of job)) (less c n e))
 
-slices_nearer : (asked : Bool) (s : Past) (work : Work) (c : ℕ) (heading : Heading) (told : Sliced) (new : State) → TurnsBack asked heading → SlicesIn s work c heading step_limit asked told new
+slices_nearer : (asked : Bool) (s : Past) (work : Work) (c : ℕ) (heading : Heading) (told : Sliced) (new : State) → TurnsBack asked heading →
+    SlicesIn s work c heading step_limit asked told new
     → Nearer asked (Inside (record { work = work; count = c; heading = heading })) told new.job
 slices_nearer true s work c GoesOn told new t h = backs_nearer true s work (WasAsked c) GoesOn c (c - step_limit) told new refl h
 slices_nearer false s work c GoesOn told new t h = absurd t
 slices_nearer asked s work c (GoesBack why) told new t h = backs_nearer asked s work why (GoesBack why) c (c - step_limit) told new refl h
 
-pub slice_back : (old new : Machine) (asked : Bool) (told : Sliced) → MustGoBack asked old.state.job → IsSliceOf old step_limit asked told new → Nearer asked old.state.job told new.state.job
+pub slice_back : (old new : Machine) (asked : Bool) (told : Sliced) → MustGoBack asked old.state.job → IsSliceOf old step_limit asked told new →
+    Nearer asked old.state.job told new.state.job
 slice_back old new asked told i h =
     let at : SlicesAt old.state.past (Inside i.0) step_limit asked told h.0 = subst (λ job. SlicesAt old.state.past job step_limit asked told h.0) i.1 h.1 in
     subst (λ job. Nearer asked job told new.state.job) (sym i.1)
-    (subst (λ state. Nearer asked (Inside i.0) told state.job) (sym (ap (λ m. m.state) h.2)) (slices_nearer asked old.state.past i.0.work i.0.count i.0.heading told h.0 i.2 at))
+    (subst (λ state. Nearer asked (Inside i.0) told state.job) (sym (ap (λ m. m.state) h.2))
+    (slices_nearer asked old.state.past i.0.work i.0.count i.0.heading told h.0 i.2 at))
 
 -- ---- a slice of a posted cell
 
@@ -79,17 +83,20 @@ backs_so : (s : Past) (work : Work) (why : Why) (j : ℕ) (told : Sliced) (new :
 backs_so s work why zero told new h = subst (λ t. Tells t new.job) (sym h.0) (ap (λ x. x.job) h.1)
 backs_so s work why (suc j) told new h = subst (λ t. Tells t new.job) (sym h.0) (turned_must false work (suc j) why new.job (ap (λ x. x.job) h.1))
 
-comes_so : (s : Past) (cell : Cell) (c : ℕ) (ran : Progress) (w : World) (told : Sliced) (new : State) → Comes s (Posted cell) c ran w told new → Tells told new.job
+comes_so : (s : Past) (cell : Cell) (c : ℕ) (ran : Progress) (w : World) (told : Sliced) (new : State) → Comes s (Posted cell) c ran w told new →
+    Tells told new.job
 comes_so s cell c Went w told new h = subst (λ t. Tells t new.job) (sym h.0) (_, ap (λ x. x.job) h.1, tt)
 comes_so s cell c (Ended n) w told new h = subst (λ t. Tells t new.job) (sym h.0) (ap (λ x. x.job) h.1)
 comes_so s cell c (Stopped j fault) w told new h = backs_so s (Posted cell) (Faulted fault j) j told new h
 
-slices_so : (s : Past) (cell : Cell) (c m : ℕ) (heading : Heading) (told : Sliced) (new : State) → SlicesIn s (Posted cell) c heading m false told new → Tells told new.job
+slices_so : (s : Past) (cell : Cell) (c m : ℕ) (heading : Heading) (told : Sliced) (new : State) → SlicesIn s (Posted cell) c heading m false told new →
+    Tells told new.job
 slices_so s cell c m GoesOn told new h = comes_so s cell (c + m) h.0 h.1 told new h.3
 slices_so s cell c m (GoesBack why) told new h = backs_so s (Posted cell) why (c - m) told new h
 
 pub cell_slice : (old new : Machine) (m : ℕ) (told : Sliced) → IsInCell old.state.job → IsSliceOf old m false told new → Tells told new.state.job
 cell_slice old new m told i h =
     let at : SlicesAt old.state.past (Inside i.0) m false told h.0 = subst (λ job. SlicesAt old.state.past job m false told h.0) i.2 h.1 in
-    let in_cell : SlicesIn old.state.past (Posted i.1) i.0.count i.0.heading m false told h.0 = subst (λ work. SlicesIn old.state.past work i.0.count i.0.heading m false told h.0) i.3 at in
+    let in_cell : SlicesIn old.state.past (Posted i.1) i.0.count i.0.heading m false told h.0 =
+    subst (λ work. SlicesIn old.state.past work i.0.count i.0.heading m false told h.0) i.3 at in
     subst (λ state. Tells told state.job) (sym (ap (λ m. m.state) h.2)) (slices_so old.state.past i.1 i.0.count m i.0.heading told h.0 in_cell)

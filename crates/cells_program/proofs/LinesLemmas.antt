@@ -17,7 +17,8 @@ onto_some : {A : Type 0} (x : A) (parts : List (List A)) → (first : List A) ×
 onto_some x [] = (x ∷ [], [], refl)
 onto_some x (part ∷ parts) = (x ∷ part, parts, refl)
 
-some_by : {A : Type 0} (b : Bool) (x : A) (parts : List (List A)) → (first : List A) × (rest : List (List A)) × (cond b ([] ∷ parts) (onto_first x parts) ≡ first ∷ rest)
+some_by : {A : Type 0} (b : Bool) (x : A) (parts : List (List A)) → (first : List A) × (rest : List (List A)) ×
+    (cond b ([] ∷ parts) (onto_first x parts) ≡ first ∷ rest)
 some_by true x parts = ([], parts, refl)
 some_by false x parts = onto_some x parts
 
@@ -26,11 +27,13 @@ pub some_part : {A : Type 0} (p : A → Bool) (xs : List A) → (first : List A)
 some_part p [] = ([], [], refl)
 some_part p (x ∷ xs) = some_by (p x) x (slice_split p xs)
 
-line_then_parts : (part : List ℕ) (parts : List (List ℕ)) → (first : List ℕ) × (rest : List (List ℕ)) × (parts ≡ first ∷ rest) → lines_of_parts (part ∷ parts) ≡ part ∷ lines_of_parts parts
+line_then_parts : (part : List ℕ) (parts : List (List ℕ)) → (first : List ℕ) × (rest : List (List ℕ)) × (parts ≡ first ∷ rest) →
+    lines_of_parts (part ∷ parts) ≡ part ∷ lines_of_parts parts
 line_then_parts part parts (first, rest, e) = subst (λ ps. lines_of_parts (part ∷ ps) ≡ part ∷ lines_of_parts ps) (sym e) (line_then part first rest)
 
 -- the octets before the first LF are the first line
-pub first_line : (xs : List ℕ) → position_or_len (λ b. b == 10) xs < length xs → lines xs ≡ before_first (λ b. b == 10) xs ∷ lines (after_first (λ b. b == 10) xs)
+pub first_line : (xs : List ℕ) → position_or_len (λ b. b == 10) xs < length xs →
+    lines xs ≡ before_first (λ b. b == 10) xs ∷ lines (after_first (λ b. b == 10) xs)
 first_line xs h =
     let p : ℕ → Bool = λ b. b == 10 in
     ap lines_of_parts (slice_split_first p xs 0 h) ∙ line_then_parts (before_first p xs) (slice_split p (after_first p xs)) (some_part p (after_first p xs))
@@ -58,7 +61,8 @@ no_line [] h = refl
 no_line (x ∷ xs) h = absurd (cc h)
 
 -- the same of what a cut at the first LF gives
-pub cut_lines : (xs line more : List ℕ) → line ≡ before_first (λ b. b == 10) xs → more ≡ after_first (λ b. b == 10) xs → position_or_len (λ b. b == 10) xs < length xs → lines xs ≡ line ∷ lines more
+pub cut_lines : (xs line more : List ℕ) → line ≡ before_first (λ b. b == 10) xs → more ≡ after_first (λ b. b == 10) xs →
+    position_or_len (λ b. b == 10) xs < length xs → lines xs ≡ line ∷ lines more
 cut_lines xs line more e f h = first_line xs h ∙ ap (λ l. l ∷ lines (after_first (λ b. b == 10) xs)) (sym e) ∙ ap (λ m. line ∷ lines m) (sym f)
 
 pub cut_shorter : (xs more : List ℕ) → more ≡ after_first (λ b. b == 10) xs → position_or_len (λ b. b == 10) xs < length xs → length more < length xs

@@ -1,5 +1,6 @@
 -- Procedures are told one after the other.
-use Rattle.std.proofs.Common.{◌≡◌, ◌<◌, ◌+◌, ℕ, zero, suc, length, get_or, take, arith, List, [], ◌∷◌, ◌++◌, refl, sym, ap, ◌∙◌, append_assoc, append-nil, add-one, Option, inr}
+use Rattle.std.proofs.Common.{◌≡◌, ◌<◌, ◌+◌, ℕ, zero, suc, length, get_or, take, arith, List, [], ◌∷◌, ◌++◌, refl, sym, ap, ◌∙◌, append_assoc, append-nil}
+use Rattle.std.proofs.Common.{add-one, Option, inr}
 use Rattle.std.specs.Prelude.{Result, Ok, Err, OnErr}
 use Rattle.std.specs.Borrow.{Bor}
 use Rattle.janus_meaning.specs.Syntax.{Proc}
@@ -17,9 +18,11 @@ use Rattle.cells_program.specs.Listing.{IsListed, listing_text}
 -- one procedure more
 told_more : (ps : List Proc) (p : Proc) → listing_text (ps ++ p ∷ []) ≡ listing_text ps ++ ended_line (procedure_text p)
 told_more [] p = append-nil (ended_line (procedure_text p))
-told_more (q ∷ ps) p = ap (λ (t : List ℕ). ended_line (procedure_text q) ++ t) (told_more ps p) ∙ sym (append_assoc (ended_line (procedure_text q)) (listing_text ps) (ended_line (procedure_text p)))
+told_more (q ∷ ps) p = ap (λ (t : List ℕ). ended_line (procedure_text q) ++ t) (told_more ps p)
+    ∙ sym (append_assoc (ended_line (procedure_text q)) (listing_text ps) (ended_line (procedure_text p)))
 
-row_more : (all : List (Bor Procedure)) (i : ℕ) (b : Bor Procedure) → i < length all → get_or all i b ≡ b → in_a_row (take (suc i) all) ≡ in_a_row (take i all) ++ plain b ∷ []
+row_more : (all : List (Bor Procedure)) (i : ℕ) (b : Bor Procedure) → i < length all → get_or all i b ≡ b →
+    in_a_row (take (suc i) all) ≡ in_a_row (take i all) ++ plain b ∷ []
 row_more [] i b l e = absurd (omega arith)
 row_more (z ∷ all) zero b l e = ap (λ (c : Bor Procedure). plain c ∷ []) e
 row_more (z ∷ all) (suc i) b l e = ap (λ (ps : List Proc). plain z ∷ ps) (row_more all i b (omega arith) e)

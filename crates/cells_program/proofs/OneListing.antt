@@ -64,7 +64,8 @@ among_rest : (x y : Proc) (xs ys : List Proc) → x ≡ y → AreSorted (x ∷ x
 among_rest x y xs ys e s f p c =
     elim (contains_cases ys y p (f p (contains_later xs x p c))) as (λ _. Contains ys p) [
       | inl is ↦
-          let own : slice_cmp nat_cmp x.name x.name ≡ ordering.Less = subst (λ (r : Proc). slice_cmp nat_cmp x.name r.name ≡ ordering.Less) (sym (e ∙ is)) (below x.name xs p (first_below x xs s) c) in
+          let own : slice_cmp nat_cmp x.name x.name ≡ ordering.Less =
+          subst (λ (r : Proc). slice_cmp nat_cmp x.name r.name ≡ ordering.Less) (sym (e ∙ is)) (below x.name xs p (first_below x xs s) c) in
           absurd (not_both x.name x.name own own)
       | inr later ↦ later
     ]
@@ -76,7 +77,8 @@ same_members (x ∷ xs) [] s t f g = absurd (contains_none x (f x (contains_firs
 same_members (x ∷ xs) (y ∷ ys) s t f g =
     let e = same_first x y xs ys s t f g in
     ap (λ (z : Proc). z ∷ xs) e
-    ∙ ap (λ (zs : List Proc). y ∷ zs) (same_members xs ys (rest_sorted x xs s) (rest_sorted y ys t) (among_rest x y xs ys e s f) (among_rest y x ys xs (sym e) t g))
+    ∙ ap (λ (zs : List Proc). y ∷ zs)
+    (same_members xs ys (rest_sorted x xs s) (rest_sorted y ys t) (among_rest x y xs ys e s f) (among_rest y x ys xs (sym e) t g))
 
 -- ---- the text
 

@@ -1,5 +1,6 @@
 -- A request that is served is a run of the machine, and what stops it.
-use Rattle.std.proofs.Common.{◌≡◌, ◌∙◌, ◌≤◌, ◌<◌, ℕ, zero, suc, ◌+◌, ◌-◌, Bool, true, false, List, [], ◌∷◌, ◌++◌, ◌⊎◌, inl, inr, refl, sym, ap, subst, arith, ⊎_elim, IsTrue, Result, Ok, Err}
+use Rattle.std.proofs.Common.{◌≡◌, ◌∙◌, ◌≤◌, ◌<◌, ℕ, zero, suc, ◌+◌, ◌-◌, Bool, true, false, List, [], ◌∷◌, ◌++◌, ◌⊎◌, inl, inr, refl, sym, ap, subst, arith}
+use Rattle.std.proofs.Common.{⊎_elim, IsTrue, Result, Ok, Err}
 use Rattle.janus_meaning.specs.World.{World, Cell}
 use Rattle.janus_meaning.specs.Limit.{step_limit}
 use Rattle.janus_machine.specs.declared.fault.Fault.{Fault}
@@ -28,7 +29,8 @@ use Rattle.kernel_core.specs.outcome.Begun.TheVariants as begun
 use Rattle.kernel_core.specs.outcome.Sliced.{Sliced}
 use Rattle.kernel_core.specs.outcome.Sliced.TheVariants as sliced
 use Rattle.cells_program.specs.OpenJob.{is_cell}
-use Rattle.cells_program.specs.Served.{lane, GoesBack, is_back, not_yet_back, CellFinishes, in_time, interrupted, faulted, FinishesAs, Finishes, ended, going, backing, next_cell, no_next_cell, Came, NotPosted, Finished, Serves, not_posted, at_once, later}
+use Rattle.cells_program.specs.Served.{lane, GoesBack, is_back, not_yet_back, CellFinishes, in_time, interrupted, faulted, FinishesAs, Finishes, ended, going}
+use Rattle.cells_program.specs.Served.{backing, next_cell, no_next_cell, Came, NotPosted, Finished, Serves, not_posted, at_once, later}
 use Rattle.cells_program.specs.ServedEnds.{RunsToItsEnd, ServesByARun, ServedJobEnds, StopsCellsAlone}
 
 -- ---- runs
@@ -65,7 +67,8 @@ none_asked : HasAsked [] → ⊥
 none_asked h = h
 
 move_ends : (old new : Machine) (o : Outcome) → Finishes old o new → EndsUnasked old o new
-move_ends old new o (ended s) = (event.Slice step_limit false ∷ [], told.Slice (sliced.Ended o) ∷ [], (new, s, refl), (refl, refl), λ h. none_asked (unasked step_limit [] h))
+move_ends old new o (ended s) =
+    (event.Slice step_limit false ∷ [], told.Slice (sliced.Ended o) ∷ [], (new, s, refl), (refl, refl), λ h. none_asked (unasked step_limit [] h))
 move_ends old new o (going {mid = mid} s f) =
     let rest = move_ends mid new o f in
     (event.Slice step_limit false ∷ rest.0, told.Slice sliced.Going ∷ rest.1, (mid, s, rest.2), rest.3, λ h. rest.4 (unasked step_limit rest.0 h))
@@ -129,7 +132,8 @@ served_job_ends jobs_end steps old new r o idle alone h =
     let run = serves_by_a_run steps old new r o h in
     let state = posted_state old run.0 r run.1 run.2 in
     let ends = jobs_end run.0 new r run.3.0 run.3.1 o (ap (λ s. s.job) state ∙ idle) (posted_next old run.0 r run.1 alone run.2) run.3.2 run.3.3 in
-    subst (λ s. JobEnds s r o new.state) (ap (λ s. s.past) state) (subst (λ b. EndsUnless b run.0.state.past r o new.state) (posted_open old run.0 r run.1 run.2) ends)
+    subst (λ s. JobEnds s r o new.state) (ap (λ s. s.past) state)
+    (subst (λ b. EndsUnless b run.0.state.past r o new.state) (posted_open old run.0 r run.1 run.2) ends)
 
 -- ---- what stops a cell
 
@@ -161,21 +165,26 @@ SliceTells (TurnedBack why) asked c t cell new = BackTells t cell why new
 SliceTells GoesOn true c t cell new = BackTells t cell (WasAsked c) new
 SliceTells GoesOn false c t cell new = Unit {0}
 
-slice_tells : (s : Past) (cell : Cell) (c : ℕ) (heading : Heading) (m : ℕ) (asked : Bool) (t : Sliced) (new : State) → SlicesIn s (Posted cell) c heading m asked t new → SliceTells heading asked c t cell new.job
+slice_tells : (s : Past) (cell : Cell) (c : ℕ) (heading : Heading) (m : ℕ) (asked : Bool) (t : Sliced) (new : State) →
+    SlicesIn s (Posted cell) c heading m asked t new → SliceTells heading asked c t cell new.job
 slice_tells s cell c GoesOn m true t new h = backs_tell s cell (WasAsked c) (c - m) t new h
 slice_tells s cell c GoesOn m false t new h = tt
 slice_tells s cell c (TurnedBack why) m asked t new h = backs_tell s cell why (c - m) t new h
 
 -- the slice of a machine that stands in a cell
-cell_slices : (old new : Machine) (cell : Cell) (c : ℕ) (heading : Heading) (m : ℕ) (asked : Bool) (t : Sliced) → old.state.job ≡ cell_at cell c heading → IsSliceOf old m asked t new → SlicesIn old.state.past (Posted cell) c heading m asked t new.state
+cell_slices : (old new : Machine) (cell : Cell) (c : ℕ) (heading : Heading) (m : ℕ) (asked : Bool) (t : Sliced) → old.state.job ≡ cell_at cell c heading →
+    IsSliceOf old m asked t new → SlicesIn old.state.past (Posted cell) c heading m asked t new.state
 cell_slices old new cell c heading m asked t e h =
     subst (λ x. SlicesIn old.state.past (Posted cell) c heading m asked t x) (sym (ap (λ m. m.state) h.2))
     (subst (λ job. SlicesAt old.state.past job m asked t h.0) e h.1)
 
-machine_tells : (old new : Machine) (cell : Cell) (c : ℕ) (heading : Heading) (m : ℕ) (asked : Bool) (t : Sliced) → old.state.job ≡ cell_at cell c heading → IsSliceOf old m asked t new → SliceTells heading asked c t cell new.state.job
-machine_tells old new cell c heading m asked t e h = slice_tells old.state.past cell c heading m asked t new.state (cell_slices old new cell c heading m asked t e h)
+machine_tells : (old new : Machine) (cell : Cell) (c : ℕ) (heading : Heading) (m : ℕ) (asked : Bool) (t : Sliced) → old.state.job ≡ cell_at cell c heading →
+    IsSliceOf old m asked t new → SliceTells heading asked c t cell new.state.job
+machine_tells old new cell c heading m asked t e h =
+    slice_tells old.state.past cell c heading m asked t new.state (cell_slices old new cell c heading m asked t e h)
 
-back_ends : (heading : Heading) (asked : Bool) (c : ℕ) (cell : Cell) (o : Outcome) (new : Job) → SliceTells heading asked c (sliced.Ended o) cell new → TellsWhy heading asked c o
+back_ends : (heading : Heading) (asked : Bool) (c : ℕ) (cell : Cell) (o : Outcome) (new : Job) → SliceTells heading asked c (sliced.Ended o) cell new →
+    TellsWhy heading asked c o
 back_ends GoesOn true c cell o new h = h
 back_ends GoesOn false c cell o new h = tt
 back_ends (TurnedBack (WasAsked at)) asked c cell o new h = h
@@ -188,8 +197,10 @@ back_goes GoesOn false c cell o mid h k = tt
 back_goes (TurnedBack (WasAsked at)) asked c cell o mid h k = k (WasAsked at) h.0 h.1
 back_goes (TurnedBack (Faulted fault at)) asked c cell o mid h k = k (Faulted fault at) h.0 h.1
 
-goes_back_tells : (asked : Bool) (old new : Machine) (o : Outcome) (cell : Cell) (c : ℕ) (heading : Heading) → old.state.job ≡ cell_at cell c heading → GoesBack asked old o new → TellsWhy heading asked c o
-goes_back_tells asked old new o cell c heading e (is_back s) = back_ends heading asked c cell o new.state.job (machine_tells old new cell c heading step_limit asked (sliced.Ended o) e s)
+goes_back_tells : (asked : Bool) (old new : Machine) (o : Outcome) (cell : Cell) (c : ℕ) (heading : Heading) → old.state.job ≡ cell_at cell c heading →
+    GoesBack asked old o new → TellsWhy heading asked c o
+goes_back_tells asked old new o cell c heading e (is_back s) =
+    back_ends heading asked c cell o new.state.job (machine_tells old new cell c heading step_limit asked (sliced.Ended o) e s)
 goes_back_tells asked old new o cell c heading e (not_yet_back {mid = mid} s f) =
     back_goes heading asked c cell o mid.state.job (machine_tells old mid cell c heading step_limit asked sliced.Backing e s)
     (λ why d h. goes_back_tells asked mid new o cell d (TurnedBack why) h f)
@@ -202,21 +213,25 @@ FirstTells sliced.Going cell c new = new ≡ cell_at cell c GoesOn
 FirstTells sliced.Backing cell c new = (d : ℕ) × (f : Fault) × (j : ℕ) × (new ≡ cell_at cell d (TurnedBack (Faulted f j)))
 FirstTells (sliced.Ended o) cell c new = WasStopped o → ⊥
 
-fault_tells : (s : Past) (cell : Cell) (f : Fault) (j c n : ℕ) (t : Sliced) (new : State) → Backs s (Posted cell) (Faulted f j) c t new → FirstTells t cell n new.job
+fault_tells : (s : Past) (cell : Cell) (f : Fault) (j c n : ℕ) (t : Sliced) (new : State) → Backs s (Posted cell) (Faulted f j) c t new →
+    FirstTells t cell n new.job
 fault_tells s cell f j zero n t new h = subst (λ t. FirstTells t cell n new.job) (sym h.0) (λ w. w)
 fault_tells s cell f j (suc c) n t new h = subst (λ t. FirstTells t cell n new.job) (sym h.0) (suc c, f, j, ap (λ x. x.job) h.1)
 
-comes_tell : (s : Past) (cell : Cell) (c : ℕ) (ran : Progress) (w : World) (t : Sliced) (new : State) → Comes s (Posted cell) c ran w t new → FirstTells t cell c new.job
+comes_tell : (s : Past) (cell : Cell) (c : ℕ) (ran : Progress) (w : World) (t : Sliced) (new : State) → Comes s (Posted cell) c ran w t new →
+    FirstTells t cell c new.job
 comes_tell s cell c Went w t new h = subst (λ t. FirstTells t cell c new.job) (sym h.0) (ap (λ x. x.job) h.1)
 comes_tell s cell c (Ended n) w t new h = subst (λ t. FirstTells t cell c new.job) (sym h.0) (λ w. w)
 comes_tell s cell c (Stopped j f) w t new h = fault_tells s cell f j j c t new h
 
-first_tells : (old new : Machine) (cell : Cell) (m : ℕ) (t : Sliced) → old.state.job ≡ cell_at cell 0 GoesOn → IsSliceOf old m false t new → FirstTells t cell (0 + m) new.state.job
+first_tells : (old new : Machine) (cell : Cell) (m : ℕ) (t : Sliced) → old.state.job ≡ cell_at cell 0 GoesOn → IsSliceOf old m false t new →
+    FirstTells t cell (0 + m) new.state.job
 first_tells old new cell m t e s =
     let at : SlicesIn old.state.past (Posted cell) 0 GoesOn m false t new.state = cell_slices old new cell 0 GoesOn m false t e s in
     comes_tell old.state.past cell (0 + m) at.0 at.1 t new.state at.3
 
-cell_tells : (steps : ℕ) (old new : Machine) (o : Outcome) (cell : Cell) → old.state.job ≡ cell_at cell 0 GoesOn → CellFinishes steps old o new → WasStopped o → o ≡ outcome.Interrupted steps
+cell_tells : (steps : ℕ) (old new : Machine) (o : Outcome) (cell : Cell) → old.state.job ≡ cell_at cell 0 GoesOn → CellFinishes steps old o new → WasStopped o →
+    o ≡ outcome.Interrupted steps
 cell_tells steps old new o cell e (in_time s) w = absurd (first_tells old new cell steps (sliced.Ended o) e s w)
 cell_tells steps old new o cell e (interrupted {mid = mid} s f) w =
     let all : 0 + steps ≡ steps = omega arith in
@@ -237,51 +252,64 @@ cell_begins s text false new h =
     (λ h. cc)
     h
 
-takes_cell : (closing : Bool) (s : Past) (text : List ℕ) (silent store : Bool) (new : State) → TakesUnless closing s (RunCell text silent store) begun.Going new → (cell : Cell) × (new.job ≡ cell_at cell 0 GoesOn)
+takes_cell : (closing : Bool) (s : Past) (text : List ℕ) (silent store : Bool) (new : State) →
+    TakesUnless closing s (RunCell text silent store) begun.Going new → (cell : Cell) × (new.job ≡ cell_at cell 0 GoesOn)
 takes_cell true s text silent store new h = cc
 takes_cell false s text silent store new h = cell_begins s text _ new h
 
-begun_cell : (old new : Machine) (text : List ℕ) (silent store : Bool) → old.state.job ≡ Idle → IsNext old (RunCell text silent store) → IsBegin old begun.Going new → (cell : Cell) × (new.state.job ≡ cell_at cell 0 GoesOn)
+begun_cell : (old new : Machine) (text : List ℕ) (silent store : Bool) → old.state.job ≡ Idle → IsNext old (RunCell text silent store) →
+    IsBegin old begun.Going new → (cell : Cell) × (new.state.job ≡ cell_at cell 0 GoesOn)
 begun_cell old new text silent store idle next h =
-    let at : BeginsAt old Idle (RunCell text silent store ∷ next.0) begun.Going h.0 = subst (λ q. BeginsAt old Idle q begun.Going h.0) next.1 (subst (λ job. BeginsAt old job old.queue begun.Going h.0) idle h.1) in
+    let at : BeginsAt old Idle (RunCell text silent store ∷ next.0) begun.Going h.0 =
+    subst (λ q. BeginsAt old Idle q begun.Going h.0) next.1 (subst (λ job. BeginsAt old job old.queue begun.Going h.0) idle h.1) in
     let state : new.state ≡ at.0 = ap (λ m. m.state) h.2 ∙ ap (λ m. m.state) at.2 in
     let begins = takes_cell old.closing old.state.past text silent store at.0 at.1 in
     (begins.0, ap (λ s. s.job) state ∙ begins.1)
 
 -- a cell that was interrupted has left all as it was
-interrupted_leaves : (s : Past) (text : List ℕ) (full : Bool) (steps : ℕ) (new : State) → CellEnds s text full (outcome.Interrupted steps) new → new ≡ record { past = s; job = Idle }
+interrupted_leaves : (s : Past) (text : List ℕ) (full : Bool) (steps : ℕ) (new : State) → CellEnds s text full (outcome.Interrupted steps) new →
+    new ≡ record { past = s; job = Idle }
 interrupted_leaves s text true steps new h = cc
 interrupted_leaves s text false steps new h = ⊎_elim (λ h. cc) (λ h. h.0) h
 
 -- no event asks, so nothing stops
-unstopped : OnlyAskedSlicesStop → (old posted new : Machine) (r : Request) (n : ℕ) (o : Outcome) (events : List Event) (answers : List Told) → IsLegal old.state.past → old.state.job ≡ Idle → old.queue ≡ []
+unstopped : OnlyAskedSlicesStop → (old posted new : Machine) (r : Request) (n : ℕ) (o : Outcome) (events : List Event) (answers : List Told) →
+    IsLegal old.state.past → old.state.job ≡ Idle → old.queue ≡ []
     → IsPost old lane r (Ok n) posted → Run posted (event.Begin ∷ events) answers new → EndsAs answers o → (HasAsked events → ⊥) → WasStopped o → ⊥
 unstopped only old posted new r n o events answers legal idle alone p run ends none w =
     let state = posted_state old posted r n p in
-    none (only posted new r events answers o (subst (λ s. IsLegal s.past) (sym state) legal) (ap (λ s. s.job) state ∙ idle) (posted_next old posted r n alone p) run ends w)
+    none (only posted new r events answers o (subst (λ s. IsLegal s.past) (sym state) legal) (ap (λ s. s.job) state ∙ idle) (posted_next old posted r n alone p)
+    run ends w)
 
-move_unstopped : OnlyAskedSlicesStop → (old posted inside new : Machine) (r : Request) (n : ℕ) (o : Outcome) → IsLegal old.state.past → old.state.job ≡ Idle → old.queue ≡ []
+move_unstopped : OnlyAskedSlicesStop → (old posted inside new : Machine) (r : Request) (n : ℕ) (o : Outcome) → IsLegal old.state.past → old.state.job ≡ Idle →
+    old.queue ≡ []
     → IsPost old lane r (Ok n) posted → IsBegin posted begun.Going inside → Finishes inside o new → WasStopped o → ⊥
 move_unstopped only old posted inside new r n o legal idle alone p b f w =
     let rest = move_ends inside new o f in
     unstopped only old posted new r n o rest.0 (told.Begin begun.Going ∷ rest.1) legal idle alone p (inside, b, rest.2) rest.3 rest.4 w
 
-later_stops : OnlyAskedSlicesStop → (steps : ℕ) (old posted inside new : Machine) (r : Request) (n : ℕ) (o : Outcome) → IsLegal old.state.past → old.state.job ≡ Idle → old.queue ≡ []
-    → IsPost old lane r (Ok n) posted → IsBegin posted begun.Going inside → FinishesAs steps r inside o new → WasStopped o → (is_cell r ≡ true) × (o ≡ outcome.Interrupted steps)
+later_stops : OnlyAskedSlicesStop → (steps : ℕ) (old posted inside new : Machine) (r : Request) (n : ℕ) (o : Outcome) → IsLegal old.state.past →
+    old.state.job ≡ Idle → old.queue ≡ []
+    → IsPost old lane r (Ok n) posted → IsBegin posted begun.Going inside → FinishesAs steps r inside o new → WasStopped o → (is_cell r ≡ true) ×
+    (o ≡ outcome.Interrupted steps)
 later_stops only steps old posted inside new (RunCell text silent store) n o legal idle alone p b f w =
     let state = posted_state old posted (RunCell text silent store) n p in
     let begins = begun_cell posted inside text silent store (ap (λ s. s.job) state ∙ idle) (posted_next old posted (RunCell text silent store) n alone p) b in
     (refl, cell_tells steps inside new o begins.0 begins.1 f w)
-later_stops only steps old posted inside new (Undo k) n o legal idle alone p b f w = absurd (move_unstopped only old posted inside new (Undo k) n o legal idle alone p b f w)
-later_stops only steps old posted inside new (Redo k) n o legal idle alone p b f w = absurd (move_unstopped only old posted inside new (Redo k) n o legal idle alone p b f w)
-later_stops only steps old posted inside new (Goto k) n o legal idle alone p b f w = absurd (move_unstopped only old posted inside new (Goto k) n o legal idle alone p b f w)
+later_stops only steps old posted inside new (Undo k) n o legal idle alone p b f w =
+    absurd (move_unstopped only old posted inside new (Undo k) n o legal idle alone p b f w)
+later_stops only steps old posted inside new (Redo k) n o legal idle alone p b f w =
+    absurd (move_unstopped only old posted inside new (Redo k) n o legal idle alone p b f w)
+later_stops only steps old posted inside new (Goto k) n o legal idle alone p b f w =
+    absurd (move_unstopped only old posted inside new (Goto k) n o legal idle alone p b f w)
 
 -- what a served request came to
 abbrev CameStopped : ℕ → Request → Came → Type 0
 CameStopped steps r (NotPosted f) = Unit {0}
 CameStopped steps r (Finished o) = WasStopped o → (is_cell r ≡ true) × (o ≡ outcome.Interrupted steps)
 
-stops : OnlyAskedSlicesStop → (steps : ℕ) (old new : Machine) (r : Request) (c : Came) → IsLegal old.state.past → old.state.job ≡ Idle → old.queue ≡ [] → Serves steps old r c new → CameStopped steps r c
+stops : OnlyAskedSlicesStop → (steps : ℕ) (old new : Machine) (r : Request) (c : Came) → IsLegal old.state.past → old.state.job ≡ Idle → old.queue ≡ [] →
+    Serves steps old r c new → CameStopped steps r c
 stops only steps old new r c legal idle alone (not_posted p) = tt
 stops only steps old new r c legal idle alone (at_once {posted = posted} {n = n} {o = o} p b) = λ w.
     absurd (unstopped only old posted new r n o [] (told.Begin (begun.Ended o) ∷ []) legal idle alone p (new, b, refl) (refl, refl) none_asked w)
@@ -289,7 +317,8 @@ stops only steps old new r c legal idle alone (later {posted = posted} {inside =
     later_stops only steps old posted inside new r n o legal idle alone p b f w
 
 -- an interrupted cell leaves the state
-leaves : (old new : Machine) (r : Request) (o : Outcome) (steps : ℕ) → old.state.job ≡ Idle → is_cell r ≡ true → o ≡ outcome.Interrupted steps → JobEnds old.state.past r o new.state → new.state ≡ old.state
+leaves : (old new : Machine) (r : Request) (o : Outcome) (steps : ℕ) → old.state.job ≡ Idle → is_cell r ≡ true → o ≡ outcome.Interrupted steps →
+    JobEnds old.state.past r o new.state → new.state ≡ old.state
 leaves old new (RunCell text silent store) o steps idle cell told ends =
     interrupted_leaves old.state.past text _ steps new.state (subst (λ x. JobEnds old.state.past (RunCell text silent store) x new.state) told ends)
     ∙ sym (ap (λ (j : Job). record { past = old.state.past; job = j }) idle)

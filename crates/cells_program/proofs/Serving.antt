@@ -37,7 +37,8 @@ abbrev pub IsAlone : Machine → Request → Type 0
 IsAlone m r = m.queue ≡ r ∷ []
 
 -- a post that is taken does
-pub posted_alone : (old new : Machine) (r : Request) (n : ℕ) → old.state.job ≡ Idle → old.queue ≡ [] → IsPost old lane r (Ok n) new → (new.state.job ≡ Idle) × IsAlone new r
+pub posted_alone : (old new : Machine) (r : Request) (n : ℕ) → old.state.job ≡ Idle → old.queue ≡ [] → IsPost old lane r (Ok n) new → (new.state.job ≡ Idle) ×
+    IsAlone new r
 posted_alone old new r n idle alone h = (ap (λ m. m.state.job) h.2 ∙ idle, ap (λ m. m.queue) h.2 ∙ ap (λ q. q ++ r ∷ []) alone)
 
 -- a post that is refused changes nothing
@@ -45,16 +46,20 @@ pub refused_unchanged : (old new : Machine) (r : Request) (f : PostFault) → Is
 refused_unchanged old new r f h = h.1
 
 -- the begin of a job that stands alone in the queue
-pub begun_alone : (old new : Machine) (r : Request) (told : Begun) → old.state.job ≡ Idle → IsAlone old r → IsBegin old told new → Took told new.state.job × (new.queue ≡ [])
+pub begun_alone : (old new : Machine) (r : Request) (told : Begun) → old.state.job ≡ Idle → IsAlone old r → IsBegin old told new → Took told new.state.job ×
+    (new.queue ≡ [])
 begun_alone old new r told idle alone h =
-    let at : BeginsAt old Idle (r ∷ []) told h.0 = subst (λ q. BeginsAt old Idle q told h.0) alone (subst (λ job. BeginsAt old job old.queue told h.0) idle h.1) in
+    let at : BeginsAt old Idle (r ∷ []) told h.0 =
+    subst (λ q. BeginsAt old Idle q told h.0) alone (subst (λ job. BeginsAt old job old.queue told h.0) idle h.1) in
     let state : new.state ≡ at.0 = ap (λ m. m.state) h.2 ∙ ap (λ m. m.state) at.2 in
     (subst (λ s. Took told s.job) (sym state) (taken_took old.closing old.state.past r told at.0 at.1), ap (λ m. m.queue) h.2 ∙ ap (λ m. m.queue) at.2)
 
 -- a cell that stands alone in the queue, and goes
-pub begun_cell : (old new : Machine) (r : Request) → is_cell r ≡ true → old.state.job ≡ Idle → IsAlone old r → IsBegin old begun.Going new → IsInCell new.state.job
+pub begun_cell : (old new : Machine) (r : Request) → is_cell r ≡ true → old.state.job ≡ Idle → IsAlone old r → IsBegin old begun.Going new →
+    IsInCell new.state.job
 begun_cell old new r e idle alone h =
-    let at : BeginsAt old Idle (r ∷ []) begun.Going h.0 = subst (λ q. BeginsAt old Idle q begun.Going h.0) alone (subst (λ job. BeginsAt old job old.queue begun.Going h.0) idle h.1) in
+    let at : BeginsAt old Idle (r ∷ []) begun.Going h.0 =
+    subst (λ q. BeginsAt old Idle q begun.Going h.0) alone (subst (λ job. BeginsAt old job old.queue begun.Going h.0) idle h.1) in
     let state : new.state ≡ at.0 = ap (λ m. m.state) h.2 ∙ ap (λ m. m.state) at.2 in
     subst (λ s. IsInCell s.job) (sym state) (taken_in old.closing old.state.past r at.0 e at.1)
 

@@ -1,5 +1,6 @@
 -- The names of a world are written one after the other.
-use Rattle.std.proofs.Common.{add-one, ◌≡◌, ℕ, zero, suc, ◌+◌, ◌≤◌, List, [], ◌∷◌, ◌++◌, Option, Some, length, take, drop, refl, sym, ap, subst, ◌∙◌, append_assoc, append-nil, slice_get}
+use Rattle.std.proofs.Common.{add-one, ◌≡◌, ℕ, zero, suc, ◌+◌, ◌≤◌, List, [], ◌∷◌, ◌++◌, Option, Some, length, take, drop, refl, sym, ap, subst, ◌∙◌}
+use Rattle.std.proofs.Common.{append_assoc, append-nil, slice_get}
 use Rattle.std.proofs.lemmas.List.{take-append-drop, take_all}
 use Rattle.std.specs.Option.{unwrap_or}
 use Rattle.std.specs.Io.KnownBytes.{Appends}
@@ -24,21 +25,26 @@ length_listed Bare = refl
 length_listed (Slot x v r) = length_more (listed r) (x, v) ∙ ap suc (length_listed r)
 
 -- the lines of one more name
-pub lines_next : (es : List (Name × Val)) (i : ℕ) (e : Name × Val) → slice_get es i ≡ Some e → value_lines (take (suc i) es) ≡ value_lines (take i es) ++ ended_line (value_text e)
+pub lines_next : (es : List (Name × Val)) (i : ℕ) (e : Name × Val) → slice_get es i ≡ Some e →
+    value_lines (take (suc i) es) ≡ value_lines (take i es) ++ ended_line (value_text e)
 lines_next [] i e h = absurd (cc h)
 lines_next (d ∷ es) zero e h = ap (λ x. ended_line (value_text x) ++ []) (Some_inj h) ∙ append-nil (ended_line (value_text e))
-lines_next (d ∷ es) (suc i) e h = ap (λ t. ended_line (value_text d) ++ t) (lines_next es i e h) ∙ sym (append_assoc (ended_line (value_text d)) (value_lines (take i es)) (ended_line (value_text e)))
+lines_next (d ∷ es) (suc i) e h = ap (λ t. ended_line (value_text d) ++ t) (lines_next es i e h)
+    ∙ sym (append_assoc (ended_line (value_text d)) (value_lines (take i es)) (ended_line (value_text e)))
 
 pub lines_split : (xs ys : List (Name × Val)) → value_lines (xs ++ ys) ≡ value_lines xs ++ value_lines ys
 lines_split [] ys = refl
-lines_split (x ∷ xs) ys = ap (λ t. ended_line (value_text x) ++ t) (lines_split xs ys) ∙ sym (append_assoc (ended_line (value_text x)) (value_lines xs) (value_lines ys))
+lines_split (x ∷ xs) ys = ap (λ t. ended_line (value_text x) ++ t) (lines_split xs ys)
+    ∙ sym (append_assoc (ended_line (value_text x)) (value_lines xs) (value_lines ys))
 
 -- the text of the first i names
 abbrev pub first_text : ℕ → List (Name × Val) → ℕ → List ℕ
 first_text position es i = ended_line (position_line position) ++ value_lines (take i es)
 
-pub first_next : (position : ℕ) (es : List (Name × Val)) (i : ℕ) (e : Name × Val) → slice_get es i ≡ Some e → first_text position es (suc i) ≡ first_text position es i ++ ended_line (value_text e)
-first_next position es i e h = ap (λ t. ended_line (position_line position) ++ t) (lines_next es i e h) ∙ sym (append_assoc (ended_line (position_line position)) (value_lines (take i es)) (ended_line (value_text e)))
+pub first_next : (position : ℕ) (es : List (Name × Val)) (i : ℕ) (e : Name × Val) → slice_get es i ≡ Some e →
+    first_text position es (suc i) ≡ first_text position es i ++ ended_line (value_text e)
+first_next position es i e h = ap (λ t. ended_line (position_line position) ++ t) (lines_next es i e h)
+    ∙ sym (append_assoc (ended_line (position_line position)) (value_lines (take i es)) (ended_line (value_text e)))
 
 pub first_rest : (position : ℕ) (es : List (Name × Val)) (i : ℕ) → show_text position es ≡ first_text position es i ++ value_lines (drop i es)
 first_rest position es i =
@@ -46,11 +52,13 @@ first_rest position es i =
     ∙ ap (λ t. ended_line (position_line position) ++ t) (lines_split (take i es) (drop i es))
     ∙ sym (append_assoc (ended_line (position_line position)) (value_lines (take i es)) (value_lines (drop i es)))
 
-pub entry_then : (a b c : Option (List ℕ)) (position : ℕ) (es : List (Name × Val)) (i : ℕ) (e : Name × Val) → slice_get es i ≡ Some e → Appends a b (first_text position es i) → Appends b c (ended_line (value_text e)) → Appends a c (first_text position es (i + 1))
+pub entry_then : (a b c : Option (List ℕ)) (position : ℕ) (es : List (Name × Val)) (i : ℕ) (e : Name × Val) → slice_get es i ≡ Some e →
+    Appends a b (first_text position es i) → Appends b c (ended_line (value_text e)) → Appends a c (first_text position es (i + 1))
 entry_then a b c position es i e h p q =
     subst (Appends a c) (sym (first_next position es i e h) ∙ ap (first_text position es) (sym (add-one i))) (appends_join a b c _ _ p q)
 
-pub entry_failed : (a b c : Option (List ℕ)) (position : ℕ) (es : List (Name × Val)) (i : ℕ) (e : Name × Val) → slice_get es i ≡ Some e → Appends a b (first_text position es i) → SentSome b c (ended_line (value_text e)) → SentSome a c (show_text position es)
+pub entry_failed : (a b c : Option (List ℕ)) (position : ℕ) (es : List (Name × Val)) (i : ℕ) (e : Name × Val) → slice_get es i ≡ Some e →
+    Appends a b (first_text position es i) → SentSome b c (ended_line (value_text e)) → SentSome a c (show_text position es)
 entry_failed a b c position es i e h p q =
     subst (SentSome a c) (sym (first_rest position es (suc i)))
     (sent_first a c (first_text position es (suc i)) (value_lines (drop (suc i) es))

@@ -30,24 +30,34 @@ not_true true h = sym h
 not_true false h = refl
 
 -- there was no memory for the text
-pub lost_ok : (steps : ℕ) → {E : Type 0} (a b : Option (List ℕ)) (old : Machine) (fault : PostFault) (G : Gathered) (res : Result (Unit {0}) E) → IsRefusal old fault → OnOk res (Appends a b (ended_line (post_fault_line fault)))
-    → OnOk res ((text : List ℕ) → IsGathered G text → (came : Came) × Serves steps old (RunCell text false true) came old × Appends a b (ended_line (came_line came)))
+pub lost_ok : (steps : ℕ) → {E : Type 0} (a b : Option (List ℕ)) (old : Machine) (fault : PostFault) (G : Gathered) (res : Result (Unit {0}) E) →
+    IsRefusal old fault → OnOk res (Appends a b (ended_line (post_fault_line fault)))
+    → OnOk res ((text : List ℕ) → IsGathered G text → (came : Came) × Serves steps old (RunCell text false true) came old ×
+    Appends a b (ended_line (came_line came)))
 lost_ok steps a b old fault G (Ok x) r p = λ text h. (NotPosted fault, not_posted {f = fault} (r, refl), p)
 lost_ok steps a b old fault G (Err f) r p = tt
 
 -- there was no memory for the text
-pub lost_err : (steps : ℕ) → {E : Type 0} (a b : Option (List ℕ)) (old : Machine) (fault : PostFault) (G : Gathered) (res : Result (Unit {0}) E) → IsRefusal old fault → OnErr res (SentSome a b (ended_line (post_fault_line fault)))
-    → OnErr res ((text : List ℕ) → IsGathered G text → (came : Came) × Serves steps old (RunCell text false true) came old × SentSome a b (ended_line (came_line came)))
+pub lost_err : (steps : ℕ) → {E : Type 0} (a b : Option (List ℕ)) (old : Machine) (fault : PostFault) (G : Gathered) (res : Result (Unit {0}) E) →
+    IsRefusal old fault → OnErr res (SentSome a b (ended_line (post_fault_line fault)))
+    → OnErr res ((text : List ℕ) → IsGathered G text → (came : Came) × Serves steps old (RunCell text false true) came old ×
+    SentSome a b (ended_line (came_line came)))
 lost_err steps a b old fault G (Ok x) r p = tt
 lost_err steps a b old fault G (Err f) r p = λ text h. (NotPosted fault, not_posted {f = fault} (r, refl), p)
 
 rest_err_gathered : (steps : ℕ) (a b : Option (List ℕ)) (old new : Machine) (G : Gathered) (text : List ℕ) → G.has_text ≡ true → IsGathered G text
     → (came : Came) × Serves steps old (RunCell text false true) came new × SentSome a b (ended_line (came_line came))
     → (out : List ℕ) × RunsRest steps old text out new × SentSome a b out
-rest_err_gathered steps a b old new G text e h (came, s, p) = (ended_line (came_line came), subst (λ k. RestAt steps k old text (ended_line (came_line came)) new) (sym (not_true (is_blank text) (sym h.0 ∙ e))) (came, s, refl), p)
+rest_err_gathered steps a b old new G text e h (came, s, p) = (
+  ended_line (came_line came),
+  subst (λ k. RestAt steps k old text (ended_line (came_line came)) new) (sym (not_true (is_blank text) (sym h.0 ∙ e)))
+      (came, s, refl),
+  p,
+)
 
 pub rest_err : (steps : ℕ) → {E : Type 0} (a b : Option (List ℕ)) (old new : Machine) (G : Gathered) (res : Result (Unit {0}) E) → G.has_text ≡ true
-    → OnErr res ((text : List ℕ) → IsGathered G text → (came : Came) × Serves steps old (RunCell text false true) came new × SentSome a b (ended_line (came_line came)))
+    → OnErr res ((text : List ℕ) → IsGathered G text → (came : Came) × Serves steps old (RunCell text false true) came new ×
+    SentSome a b (ended_line (came_line came)))
     → OnErr res ((text : List ℕ) → IsGathered G text → (out : List ℕ) × RunsRest steps old text out new × SentSome a b out)
 rest_err steps a b old new G (Ok x) e p = tt
 rest_err steps a b old new G (Err f) e p = λ text h. rest_err_gathered steps a b old new G text e h (p text h)
@@ -76,7 +86,8 @@ any_does steps Show old other = (world_text old.state.past, old, (refl, refl))
 any_does steps command.List old other = (ended_line (post_fault_line Memory), old, (inr refl, refl))
 any_does steps Unknown old other = (bad_command_line, old, (refl, refl))
 
-after_rest : (steps : ℕ) (command : Command) (old : Machine) (text : List ℕ) → (command ≡ Run → ⊥) → (out : List ℕ) × (new : Machine) × DoesAfterRest steps command old text out new
+after_rest : (steps : ℕ) (command : Command) (old : Machine) (text : List ℕ) → (command ≡ Run → ⊥) → (out : List ℕ) × (new : Machine) ×
+    DoesAfterRest steps command old text out new
 after_rest steps command old text other =
     let r = any_rest steps old text in
     let d = any_does steps command r.1 other in
@@ -104,7 +115,8 @@ any_lines steps old text (line ∷ more) =
 
 -- ---- a line
 
-other_serves : (steps : ℕ) (command : Command) (old new : Machine) (text out : List ℕ) → (command ≡ Run → ⊥) → DoesAfterRest steps command old text out new → CommandServes steps command old text out new
+other_serves : (steps : ℕ) (command : Command) (old new : Machine) (text out : List ℕ) → (command ≡ Run → ⊥) → DoesAfterRest steps command old text out new →
+    CommandServes steps command old text out new
 other_serves steps Run old new text out other h = absurd (other refl)
 other_serves steps (Undo k) old new text out other h = h
 other_serves steps (Redo k) old new text out other h = h
@@ -113,24 +125,32 @@ other_serves steps Show old new text out other h = h
 other_serves steps command.List old new text out other h = h
 other_serves steps Unknown old new text out other h = h
 
-run_serves : (steps : ℕ) (command : Command) (old new : Machine) (text : List ℕ) (came : Came) → command ≡ Run → Serves steps old (RunCell text false true) came new → CommandServes steps command old text (ended_line (came_line came)) new
+run_serves : (steps : ℕ) (command : Command) (old new : Machine) (text : List ℕ) (came : Came) → command ≡ Run →
+    Serves steps old (RunCell text false true) came new → CommandServes steps command old text (ended_line (came_line came)) new
 run_serves steps command old new text came run s = subst (λ k. CommandServes steps k old text (ended_line (came_line came)) new) (sym run) (came, s, refl)
 
 -- `%%`
-pub ran_ok : (steps : ℕ) → {E : Type 0} (a b : Option (List ℕ)) (command : Command) (old new : Machine) (G : Gathered) (res : Result (Unit {0}) E) → command ≡ Run
-    → OnOk res ((text : List ℕ) → IsGathered G text → (came : Came) × Serves steps old (RunCell text false true) came new × Appends a b (ended_line (came_line came)))
+pub ran_ok : (steps : ℕ) → {E : Type 0} (a b : Option (List ℕ)) (command : Command) (old new : Machine) (G : Gathered) (res : Result (Unit {0}) E) →
+    command ≡ Run
+    → OnOk res ((text : List ℕ) → IsGathered G text → (came : Came) × Serves steps old (RunCell text false true) came new ×
+    Appends a b (ended_line (came_line came)))
     → OnOk res ((text : List ℕ) → IsGathered G text → (out : List ℕ) × CommandServes steps command old text out new × Appends a b out)
-ran_ok steps a b command old new G (Ok x) run p = λ text h. let s = p text h in (ended_line (came_line s.0), run_serves steps command old new text s.0 run s.1, s.2)
+ran_ok steps a b command old new G (Ok x) run p = λ text h. let s =
+    p text h in (ended_line (came_line s.0), run_serves steps command old new text s.0 run s.1, s.2)
 ran_ok steps a b command old new G (Err f) run p = tt
 
-pub ran_err : (steps : ℕ) → {E : Type 0} (a b : Option (List ℕ)) (command : Command) (old new : Machine) (G : Gathered) (res : Result (Unit {0}) E) → command ≡ Run
-    → OnErr res ((text : List ℕ) → IsGathered G text → (came : Came) × Serves steps old (RunCell text false true) came new × SentSome a b (ended_line (came_line came)))
+pub ran_err : (steps : ℕ) → {E : Type 0} (a b : Option (List ℕ)) (command : Command) (old new : Machine) (G : Gathered) (res : Result (Unit {0}) E) →
+    command ≡ Run
+    → OnErr res ((text : List ℕ) → IsGathered G text → (came : Came) × Serves steps old (RunCell text false true) came new ×
+    SentSome a b (ended_line (came_line came)))
     → OnErr res ((text : List ℕ) → IsGathered G text → (out : List ℕ) × (new : Machine) × CommandServes steps command old text out new × SentSome a b out)
 ran_err steps a b command old new G (Ok x) run p = tt
-ran_err steps a b command old new G (Err f) run p = λ text h. let s = p text h in (ended_line (came_line s.0), new, run_serves steps command old new text s.0 run s.1, s.2)
+ran_err steps a b command old new G (Err f) run p = λ text h. let s =
+    p text h in (ended_line (came_line s.0), new, run_serves steps command old new text s.0 run s.1, s.2)
 
 -- another command
-pub obeyed_ok : (steps : ℕ) → {E : Type 0} (a b c : Option (List ℕ)) (command : Command) (old mid new : Machine) (G : Gathered) (res : Result (Unit {0}) E) → (command ≡ Run → ⊥)
+pub obeyed_ok : (steps : ℕ) → {E : Type 0} (a b c : Option (List ℕ)) (command : Command) (old mid new : Machine) (G : Gathered) (res : Result (Unit {0}) E) →
+    (command ≡ Run → ⊥)
     → ((text : List ℕ) → IsGathered G text → (out : List ℕ) × RunsRest steps old text out mid × Appends a b out)
     → OnOk res ((out : List ℕ) × Does steps command mid out new × Appends b c out)
     → OnOk res ((text : List ℕ) → IsGathered G text → (out : List ℕ) × CommandServes steps command old text out new × Appends a c out)
@@ -139,7 +159,8 @@ obeyed_ok steps a b c command old mid new G (Ok x) other p (second, d, q) = λ t
     (s.0 ++ second, other_serves steps command old new text (s.0 ++ second) other (mid, s.0, second, s.1, d, refl), appends_join a b c s.0 second s.2 q)
 obeyed_ok steps a b c command old mid new G (Err f) other p q = tt
 
-pub obeyed_err : (steps : ℕ) → {E : Type 0} (a b c : Option (List ℕ)) (command : Command) (old mid new : Machine) (G : Gathered) (res : Result (Unit {0}) E) → (command ≡ Run → ⊥)
+pub obeyed_err : (steps : ℕ) → {E : Type 0} (a b c : Option (List ℕ)) (command : Command) (old mid new : Machine) (G : Gathered) (res : Result (Unit {0}) E) →
+    (command ≡ Run → ⊥)
     → ((text : List ℕ) → IsGathered G text → (out : List ℕ) × RunsRest steps old text out mid × Appends a b out)
     → OnErr res ((out : List ℕ) × Does steps command mid out new × SentSome b c out)
     → OnErr res ((text : List ℕ) → IsGathered G text → (out : List ℕ) × (new : Machine) × CommandServes steps command old text out new × SentSome a c out)
@@ -149,7 +170,8 @@ obeyed_err steps a b c command old mid new G (Err f) other p (second, d, q) = λ
     (s.0 ++ second, new, other_serves steps command old new text (s.0 ++ second) other (mid, s.0, second, s.1, d, refl), sent_then a b c s.0 second s.2 q)
 
 -- the gathered text that another command runs could not be told
-pub rest_failed : (steps : ℕ) → {E : Type 0} (a b : Option (List ℕ)) (command : Command) (old mid : Machine) (G : Gathered) (res : Result (Unit {0}) E) → (command ≡ Run → ⊥)
+pub rest_failed : (steps : ℕ) → {E : Type 0} (a b : Option (List ℕ)) (command : Command) (old mid : Machine) (G : Gathered) (res : Result (Unit {0}) E) →
+    (command ≡ Run → ⊥)
     → ((text : List ℕ) → IsGathered G text → (out : List ℕ) × RunsRest steps old text out mid × SentSome a b out)
     → OnErr res ((text : List ℕ) → IsGathered G text → (out : List ℕ) × (new : Machine) × CommandServes steps command old text out new × SentSome a b out)
 rest_failed steps a b command old mid G (Ok x) other p = tt
@@ -158,17 +180,21 @@ rest_failed steps a b command old mid G (Err f) other p = λ text h.
     let d = any_does steps command mid other in
     (s.0 ++ d.0, d.1, other_serves steps command old d.1 text (s.0 ++ d.0) other (mid, s.0, d.0, s.1, d.2, refl), sent_first a b s.0 d.0 s.2)
 
-as_command : (steps : ℕ) (command : Command) (old new : Machine) (text line out : List ℕ) → is_command_line line ≡ true → command ≡ command_of (trimmed line) → CommandServes steps command old text out new → LineServes steps old text line out new
-as_command steps command old new text line out e r h = subst (λ b. LineAt steps b old text line out new) (sym e) (subst (λ k. CommandServes steps k old text out new) r h)
+as_command : (steps : ℕ) (command : Command) (old new : Machine) (text line out : List ℕ) → is_command_line line ≡ true → command ≡ command_of (trimmed line) →
+    CommandServes steps command old text out new → LineServes steps old text line out new
+as_command steps command old new text line out e r h =
+    subst (λ b. LineAt steps b old text line out new) (sym e) (subst (λ k. CommandServes steps k old text out new) r h)
 
 -- a line that is a command
-pub command_ok : (steps : ℕ) → {E : Type 0} (a b : Option (List ℕ)) (command : Command) (old new : Machine) (G : Gathered) (line : List ℕ) (res : Result (Unit {0}) E) → is_command_line line ≡ true → command ≡ command_of (trimmed line)
+pub command_ok : (steps : ℕ) → {E : Type 0} (a b : Option (List ℕ)) (command : Command) (old new : Machine) (G : Gathered) (line : List ℕ)
+    (res : Result (Unit {0}) E) → is_command_line line ≡ true → command ≡ command_of (trimmed line)
     → OnOk res ((text : List ℕ) → IsGathered G text → (out : List ℕ) × CommandServes steps command old text out new × Appends a b out)
     → OnOk res ((text : List ℕ) → IsGathered G text → (out : List ℕ) × LineServes steps old text line out new × Appends a b out)
 command_ok steps a b command old new G line (Ok x) e r p = λ text h. let s = p text h in (s.0, as_command steps command old new text line s.0 e r s.1, s.2)
 command_ok steps a b command old new G line (Err f) e r p = tt
 
-pub command_err : (steps : ℕ) → {E : Type 0} (a b : Option (List ℕ)) (command : Command) (old : Machine) (G : Gathered) (line : List ℕ) (res : Result (Unit {0}) E) → is_command_line line ≡ true → command ≡ command_of (trimmed line)
+pub command_err : (steps : ℕ) → {E : Type 0} (a b : Option (List ℕ)) (command : Command) (old : Machine) (G : Gathered) (line : List ℕ)
+    (res : Result (Unit {0}) E) → is_command_line line ≡ true → command ≡ command_of (trimmed line)
     → OnErr res ((text : List ℕ) → IsGathered G text → (out : List ℕ) × (new : Machine) × CommandServes steps command old text out new × SentSome a b out)
     → OnErr res ((text : List ℕ) → IsGathered G text → (out : List ℕ) × (new : Machine) × LineServes steps old text line out new × SentSome a b out)
 command_err steps a b command old G line (Ok x) e r p = tt
@@ -179,11 +205,14 @@ pub gathered_line : (steps : ℕ) (a : Option (List ℕ)) (old : Machine) (G : G
     → (text : List ℕ) → IsGathered G text → (out : List ℕ) × LineServes steps old text line out old × Appends a a out
 gathered_line steps a old G line e text h = ([], subst (λ b. LineAt steps b old text line [] old) (sym e) (refl, refl), appends_none a)
 
-pub gathers_none : (G H : Gathered) (line : List ℕ) → is_command_line line ≡ true → IsGathered H [] → (text : List ℕ) → IsGathered G text → IsGathered H (text_after text line)
+pub gathers_none : (G H : Gathered) (line : List ℕ) → is_command_line line ≡ true → IsGathered H [] → (text : List ℕ) → IsGathered G text →
+    IsGathered H (text_after text line)
 gathers_none G H line e h text g = subst (λ b. IsGathered H (if b then [] else text ++ (line ++ 10 ∷ []))) (sym e) h
 
-pub gathers_line : (G H : Gathered) (line : List ℕ) → is_command_line line ≡ false → H.has_text ≡ (G.has_text || not (is_blank line)) → (H.lost ≡ false → G.lost ≡ false)
-    → (H.lost ≡ false → string_bytes H.text ≡ string_bytes G.text ++ (line ++ 10 ∷ [])) → (text : List ℕ) → IsGathered G text → IsGathered H (text_after text line)
+pub gathers_line : (G H : Gathered) (line : List ℕ) → is_command_line line ≡ false → H.has_text ≡ (G.has_text || not (is_blank line)) →
+    (H.lost ≡ false → G.lost ≡ false)
+    → (H.lost ≡ false → string_bytes H.text ≡ string_bytes G.text ++ (line ++ 10 ∷ [])) → (text : List ℕ) → IsGathered G text →
+    IsGathered H (text_after text line)
 gathers_line G H line e some kept more text g =
     subst (λ b. IsGathered H (if b then [] else text ++ (line ++ 10 ∷ []))) (sym e)
     (some ∙ ap (λ b. b || not (is_blank line)) g.0 ∙ sym (blank_more text line), λ l. more l ∙ ap (λ t. t ++ (line ++ 10 ∷ [])) (g.1 (kept l)))
@@ -200,10 +229,12 @@ Served steps start input now G left a b =
     (text : List ℕ) × (out : List ℕ) × IsGathered G text × Appends a b out
     × ((second : List ℕ) (new : Machine) → LinesServe steps now text left second new → ActionsServe steps (script input) start (out ++ second) new)
 
-pub served_none : (steps : ℕ) (start : Machine) (input : List ℕ) (G : Gathered) (a : Option (List ℕ)) → IsGathered G [] → Served steps start input start G (lines input) a a
+pub served_none : (steps : ℕ) (start : Machine) (input : List ℕ) (G : Gathered) (a : Option (List ℕ)) → IsGathered G [] →
+    Served steps start input start G (lines input) a a
 served_none steps start input G a h = ([], [], h, appends_none a, λ second new s. script_serves steps input start new second s)
 
-pub served_line : (steps : ℕ) (start : Machine) (input : List ℕ) (now next : Machine) (G H : Gathered) (line : List ℕ) (left more : List (List ℕ)) (a b c : Option (List ℕ)) → left ≡ line ∷ more
+pub served_line : (steps : ℕ) (start : Machine) (input : List ℕ) (now next : Machine) (G H : Gathered) (line : List ℕ) (left more : List (List ℕ))
+    (a b c : Option (List ℕ)) → left ≡ line ∷ more
     → Served steps start input now G left a b
     → ((text : List ℕ) → IsGathered G text → IsGathered H (text_after text line))
     → ((text : List ℕ) → IsGathered G text → (out : List ℕ) × LineServes steps now text line out next × Appends b c out)
@@ -218,7 +249,8 @@ served_line steps start input now next G H line left more a b c e (text, out, h,
           (k (l.0 ++ second) new (subst (λ ls. LinesServe steps now text ls (l.0 ++ second) new) (sym e) (next, l.0, second, l.1, m, refl))),
     )
 
-pub line_failed : (steps : ℕ) → {E : Type 0} (start : Machine) (input : List ℕ) (now : Machine) (G : Gathered) (line : List ℕ) (left more : List (List ℕ)) (a b c : Option (List ℕ)) (res : Result (Unit {0}) E) → left ≡ line ∷ more
+pub line_failed : (steps : ℕ) → {E : Type 0} (start : Machine) (input : List ℕ) (now : Machine) (G : Gathered) (line : List ℕ) (left more : List (List ℕ))
+    (a b c : Option (List ℕ)) (res : Result (Unit {0}) E) → left ≡ line ∷ more
     → Served steps start input now G left a b
     → ((text : List ℕ) → IsGathered G text → (out : List ℕ) × (new : Machine) × LineServes steps now text line out new × SentSome b c out)
     → OnErr res ((out : List ℕ) × (new : Machine) × ActionsServe steps (script input) start out new × SentSome a c out)
@@ -248,7 +280,8 @@ served_some steps start input now new G left a b c d h s kept =
     let w = served_all steps start input now new G left a b c d h s kept in
     (w.0, w.1, w.2, all_some a d w.0 w.3)
 
-pub end_failed : (steps : ℕ) → {E : Type 0} (start : Machine) (input : List ℕ) (now : Machine) (G : Gathered) (left : List (List ℕ)) (a b c : Option (List ℕ)) (res : Result (Unit {0}) E)
+pub end_failed : (steps : ℕ) → {E : Type 0} (start : Machine) (input : List ℕ) (now : Machine) (G : Gathered) (left : List (List ℕ)) (a b c : Option (List ℕ))
+    (res : Result (Unit {0}) E)
     → Served steps start input now G left a b
     → ((text : List ℕ) → IsGathered G text → (out : List ℕ) × (new : Machine) × LinesServe steps now text left out new × SentSome b c out)
     → OnErr res ((out : List ℕ) × (new : Machine) × ActionsServe steps (script input) start out new × SentSome a c out)
@@ -260,23 +293,28 @@ end_failed steps start input now G left a b c (Err f) (text, out, h, p, k) s =
 -- ---- the end of the input
 
 -- nothing is behind the last LF
-pub empty_ok : (steps : ℕ) → {E : Type 0} (old new : Machine) (G : Gathered) (left : List (List ℕ)) (a b : Option (List ℕ)) (res : Result (Unit {0}) E) → left ≡ []
+pub empty_ok : (steps : ℕ) → {E : Type 0} (old new : Machine) (G : Gathered) (left : List (List ℕ)) (a b : Option (List ℕ)) (res : Result (Unit {0}) E) →
+    left ≡ []
     → OnOk res ((text : List ℕ) → IsGathered G text → (out : List ℕ) × RunsRest steps old text out new × Appends a b out)
     → OnOk res ((text : List ℕ) → IsGathered G text → (out : List ℕ) × LinesServe steps old text left out new × Appends a b out)
 empty_ok steps old new G left a b (Ok x) e s = λ text h. let r = s text h in (r.0, subst (λ ls. LinesServe steps old text ls r.0 new) (sym e) r.1, r.2)
 empty_ok steps old new G left a b (Err f) e s = tt
 
-pub empty_err : (steps : ℕ) → {E : Type 0} (old new : Machine) (G : Gathered) (left : List (List ℕ)) (a b : Option (List ℕ)) (res : Result (Unit {0}) E) → left ≡ []
+pub empty_err : (steps : ℕ) → {E : Type 0} (old new : Machine) (G : Gathered) (left : List (List ℕ)) (a b : Option (List ℕ)) (res : Result (Unit {0}) E) →
+    left ≡ []
     → OnErr res ((text : List ℕ) → IsGathered G text → (out : List ℕ) × RunsRest steps old text out new × SentSome a b out)
     → OnErr res ((text : List ℕ) → IsGathered G text → (out : List ℕ) × (new : Machine) × LinesServe steps old text left out new × SentSome a b out)
 empty_err steps old new G left a b (Ok x) e s = tt
 empty_err steps old new G left a b (Err f) e s = λ text h. let r = s text h in (r.0, new, subst (λ ls. LinesServe steps old text ls r.0 new) (sym e) r.1, r.2)
 
 -- a line is behind it
-last_serves : (steps : ℕ) (old mid new : Machine) (text line first second : List ℕ) (left : List (List ℕ)) → left ≡ line ∷ [] → LineServes steps old text line first mid → RunsRest steps mid (text_after text line) second new → LinesServe steps old text left (first ++ second) new
-last_serves steps old mid new text line first second left e l r = subst (λ ls. LinesServe steps old text ls (first ++ second) new) (sym e) (mid, first, second, l, r, refl)
+last_serves : (steps : ℕ) (old mid new : Machine) (text line first second : List ℕ) (left : List (List ℕ)) → left ≡ line ∷ [] →
+    LineServes steps old text line first mid → RunsRest steps mid (text_after text line) second new → LinesServe steps old text left (first ++ second) new
+last_serves steps old mid new text line first second left e l r =
+    subst (λ ls. LinesServe steps old text ls (first ++ second) new) (sym e) (mid, first, second, l, r, refl)
 
-pub last_ok : (steps : ℕ) → {E : Type 0} (old mid new : Machine) (G H : Gathered) (line : List ℕ) (left : List (List ℕ)) (a b c : Option (List ℕ)) (res : Result (Unit {0}) E) → left ≡ line ∷ []
+pub last_ok : (steps : ℕ) → {E : Type 0} (old mid new : Machine) (G H : Gathered) (line : List ℕ) (left : List (List ℕ)) (a b c : Option (List ℕ))
+    (res : Result (Unit {0}) E) → left ≡ line ∷ []
     → ((text : List ℕ) → IsGathered G text → IsGathered H (text_after text line))
     → ((text : List ℕ) → IsGathered G text → (out : List ℕ) × LineServes steps old text line out mid × Appends a b out)
     → OnOk res ((text : List ℕ) → IsGathered H text → (out : List ℕ) × RunsRest steps mid text out new × Appends b c out)
@@ -287,7 +325,8 @@ last_ok steps old mid new G H line left a b c (Ok x) e g s t = λ text h.
     (l.0 ++ r.0, last_serves steps old mid new text line l.0 r.0 left e l.1 r.1, appends_join a b c l.0 r.0 l.2 r.2)
 last_ok steps old mid new G H line left a b c (Err f) e g s t = tt
 
-pub last_err : (steps : ℕ) → {E : Type 0} (old mid new : Machine) (G H : Gathered) (line : List ℕ) (left : List (List ℕ)) (a b c : Option (List ℕ)) (res : Result (Unit {0}) E) → left ≡ line ∷ []
+pub last_err : (steps : ℕ) → {E : Type 0} (old mid new : Machine) (G H : Gathered) (line : List ℕ) (left : List (List ℕ)) (a b c : Option (List ℕ))
+    (res : Result (Unit {0}) E) → left ≡ line ∷ []
     → ((text : List ℕ) → IsGathered G text → IsGathered H (text_after text line))
     → ((text : List ℕ) → IsGathered G text → (out : List ℕ) × LineServes steps old text line out mid × Appends a b out)
     → OnErr res ((text : List ℕ) → IsGathered H text → (out : List ℕ) × RunsRest steps mid text out new × SentSome b c out)
@@ -298,7 +337,8 @@ last_err steps old mid new G H line left a b c (Err f) e g s t = λ text h.
     let r = t (text_after text line) (g text h) in
     (l.0 ++ r.0, new, last_serves steps old mid new text line l.0 r.0 left e l.1 r.1, sent_then a b c l.0 r.0 l.2 r.2)
 
-pub last_failed : (steps : ℕ) → {E : Type 0} (old : Machine) (G : Gathered) (line : List ℕ) (left : List (List ℕ)) (a b : Option (List ℕ)) (res : Result (Unit {0}) E) → left ≡ line ∷ []
+pub last_failed : (steps : ℕ) → {E : Type 0} (old : Machine) (G : Gathered) (line : List ℕ) (left : List (List ℕ)) (a b : Option (List ℕ))
+    (res : Result (Unit {0}) E) → left ≡ line ∷ []
     → ((text : List ℕ) → IsGathered G text → (out : List ℕ) × (new : Machine) × LineServes steps old text line out new × SentSome a b out)
     → OnErr res ((text : List ℕ) → IsGathered G text → (out : List ℕ) × (new : Machine) × LinesServe steps old text left out new × SentSome a b out)
 last_failed steps old G line left a b (Ok x) e s = tt
@@ -310,17 +350,21 @@ last_failed steps old G line left a b (Err f) e s = λ text h.
 -- ---- a command
 
 -- one that makes a request
-pub does_err : (steps : ℕ) → {E : Type 0} (a b : Option (List ℕ)) (old new : Machine) (command : Command) (r : Request) (res : Result (Unit {0}) E) → ((out : List ℕ) → Answers steps old r out new → Does steps command old out new)
-    → OnErr res ((came : Came) × Serves steps old r came new × SentSome a b (ended_line (came_line came))) → OnErr res ((out : List ℕ) × Does steps command old out new × SentSome a b out)
+pub does_err : (steps : ℕ) → {E : Type 0} (a b : Option (List ℕ)) (old new : Machine) (command : Command) (r : Request) (res : Result (Unit {0}) E) →
+    ((out : List ℕ) → Answers steps old r out new → Does steps command old out new)
+    → OnErr res ((came : Came) × Serves steps old r came new × SentSome a b (ended_line (came_line came))) →
+    OnErr res ((out : List ℕ) × Does steps command old out new × SentSome a b out)
 does_err steps a b old new command r (Ok x) d p = tt
 does_err steps a b old new command r (Err f) d (came, s, p) = (ended_line (came_line came), d (ended_line (came_line came)) (came, s, refl), p)
 
 -- one that writes the same always
-pub does_same_err : (steps : ℕ) → {E : Type 0} (a b : Option (List ℕ)) (old new : Machine) (command : Command) (xs : List ℕ) (res : Result (Unit {0}) E) → Does steps command old xs new
+pub does_same_err : (steps : ℕ) → {E : Type 0} (a b : Option (List ℕ)) (old new : Machine) (command : Command) (xs : List ℕ) (res : Result (Unit {0}) E) →
+    Does steps command old xs new
     → OnErr res (SentSome a b xs) → OnErr res ((out : List ℕ) × Does steps command old out new × SentSome a b out)
 does_same_err steps a b old new command xs (Ok x) d p = tt
 does_same_err steps a b old new command xs (Err f) d p = (xs, d, p)
 
-pub unknown_does : (steps : ℕ) (command : Command) (old : Machine) → (command ≡ Run) ⊎ (command ≡ Unknown) → (command ≡ Run → ⊥) → Does steps command old bad_command_line old
+pub unknown_does : (steps : ℕ) (command : Command) (old : Machine) → (command ≡ Run) ⊎ (command ≡ Unknown) → (command ≡ Run → ⊥) →
+    Does steps command old bad_command_line old
 unknown_does steps command old (inl e) other = absurd (other e)
 unknown_does steps command old (inr e) other = subst (λ k. Does steps k old bad_command_line old) (sym e) (refl, refl)

@@ -43,16 +43,19 @@ sent_then a b c xs ys p (part, rest, e, q) =
     (xs ++ part, rest, ap (λ l. xs ++ l) e ∙ sym (append_assoc xs part rest), appends_join a b c xs part p q)
 
 -- the same by the answer of the second write
-pub some_then : {E : Type 0} (a b c : Option (List ℕ)) (xs ys zs : List ℕ) (r : Result (Unit {0}) E) → zs ≡ xs ++ ys → Appends a b xs → OnErr r (SentSome b c ys) → OnErr r (SentSome a c zs)
+pub some_then : {E : Type 0} (a b c : Option (List ℕ)) (xs ys zs : List ℕ) (r : Result (Unit {0}) E) → zs ≡ xs ++ ys → Appends a b xs →
+    OnErr r (SentSome b c ys) → OnErr r (SentSome a c zs)
 some_then a b c xs ys zs (Ok x) e p q = tt
 some_then a b c xs ys zs (Err f) e p q = subst (SentSome a c) (sym e) (sent_then a b c xs ys p q)
 
-pub all_then : {E : Type 0} (a b c : Option (List ℕ)) (xs ys zs : List ℕ) (r : Result (Unit {0}) E) → zs ≡ xs ++ ys → Appends a b xs → OnOk r (Appends b c ys) → OnOk r (Appends a c zs)
+pub all_then : {E : Type 0} (a b c : Option (List ℕ)) (xs ys zs : List ℕ) (r : Result (Unit {0}) E) → zs ≡ xs ++ ys → Appends a b xs → OnOk r (Appends b c ys) →
+    OnOk r (Appends a c zs)
 all_then a b c xs ys zs (Ok x) e p q = subst (Appends a c) (sym e) (appends_join a b c xs ys p q)
 all_then a b c xs ys zs (Err f) e p q = tt
 
 -- the same of a first write that failed
-pub some_first : {E : Type 0} (a b : Option (List ℕ)) (xs ys zs : List ℕ) (r : Result (Unit {0}) E) → zs ≡ xs ++ ys → SentSome a b xs → OnErr r (SentSome a b zs)
+pub some_first : {E : Type 0} (a b : Option (List ℕ)) (xs ys zs : List ℕ) (r : Result (Unit {0}) E) → zs ≡ xs ++ ys → SentSome a b xs →
+    OnErr r (SentSome a b zs)
 some_first a b xs ys zs (Ok x) e p = tt
 some_first a b xs ys zs (Err f) e p = subst (SentSome a b) (sym e) (sent_first a b xs ys p)
 

@@ -1,5 +1,6 @@
 -- What is told once, and what is settled.
-use Rattle.std.proofs.Common.{◌≡◌, ℕ, ◌-◌, ◌<◌, ◌≤◌, List, [], Option, None, Some, IfSome, IfNone, length, get_or, slice_get, slice_set, refl, ap, ◌∙◌, sym, subst, arith}
+use Rattle.std.proofs.Common.{◌≡◌, ℕ, ◌-◌, ◌<◌, ◌≤◌, List, [], Option, None, Some, IfSome, IfNone, length, get_or, slice_get, slice_set, refl, ap, ◌∙◌, sym}
+use Rattle.std.proofs.Common.{subst, arith}
 use Rattle.std.proofs.lemmas.List.{set-get_or}
 use Rattle.std.proofs.lemmas.Option.{slice_get-get_or, get_or_from_slice_get, slice_get_within}
 use Rattle.kernel_core.specs.Minutes.{Entry}
@@ -16,7 +17,9 @@ pub record IsLeft (kept left : PendingResult) : Type 0 where
   pub ended : left.ended ≡ kept.ended
   pub wishes : left.wishes ≡ kept.wishes
 
-pub told : (es : List PendingResult) (i n : ℕ) (x left : PendingResult) (r : Option Done) → i < length es → i ≡ n - 1 → IsLeft (get_or es i x) left → IfSome r (λ d. d.shown ≡ (get_or es i x).shown) → IfSome r (λ d. d.values ≡ (get_or es i x).values) → IfSome r (λ d. left.shown ≡ None) → IfSome r (λ d. left.values.items ≡ []) → IfSome r (λ d. IsTold es n d (slice_set es i left))
+pub told : (es : List PendingResult) (i n : ℕ) (x left : PendingResult) (r : Option Done) → i < length es → i ≡ n - 1 → IsLeft (get_or es i x) left →
+    IfSome r (λ d. d.shown ≡ (get_or es i x).shown) → IfSome r (λ d. d.values ≡ (get_or es i x).values) → IfSome r (λ d. left.shown ≡ None) →
+    IfSome r (λ d. left.values.items ≡ []) → IfSome r (λ d. IsTold es n d (slice_set es i left))
 told es i n x left None low same rest shown values none empty = tt
 told es i n x left (Some d) low same rest shown values none empty = record {
   kept = get_or es i x;
@@ -33,17 +36,20 @@ told es i n x left (Some d) low same rest shown values none empty = record {
 }
 
 -- where nothing is told all are as they were
-pub untold : (es : List PendingResult) (i : ℕ) (x left : PendingResult) (r : Option Done) → IfNone r (left ≡ get_or es i x) → IfNone r (slice_set es i left ≡ es)
+pub untold : (es : List PendingResult) (i : ℕ) (x left : PendingResult) (r : Option Done) → IfNone r (left ≡ get_or es i x) →
+    IfNone r (slice_set es i left ≡ es)
 untold es i x left None same = ap (λ (e : PendingResult). slice_set es i e) same ∙ set-get_or es i x
 untold es i x left (Some d) same = tt
 
 -- an end of this number stands last, so there is one settled entry
-last : (entries : List Entry) (old new : List PendingResult) (end : LastEnd) → IsLastEnd entries end → Settles old end.index end.place new → SettlesLast entries old new
+last : (entries : List Entry) (old new : List PendingResult) (end : LastEnd) → IsLastEnd entries end → Settles old end.index end.place new →
+    SettlesLast entries old new
 last entries old new end is s =
     subst (λ o. SettlesEntry o old (length entries - 1) new) (sym is.last) (subst (λ (p : ℕ). Settles old end.index p new) is.place s)
 
 -- the one with the end's index is settled
-pub settled : (entries : List Entry) (old : List PendingResult) (end : LastEnd) (x left : PendingResult) → IsLastEnd entries end → end.index < length old → IsSettled (get_or old end.index x) end.place left → SettlesLast entries old (slice_set old end.index left)
+pub settled : (entries : List Entry) (old : List PendingResult) (end : LastEnd) (x left : PendingResult) → IsLastEnd entries end → end.index < length old →
+    IsSettled (get_or old end.index x) end.place left → SettlesLast entries old (slice_set old end.index left)
 settled entries old end x left is low s =
     last entries old (slice_set old end.index left) end is
     record {

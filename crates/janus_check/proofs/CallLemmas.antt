@@ -27,7 +27,8 @@ or_assoc false b c = refl
 
 among_last : (x : tree.Name) (before : List Name) (y : Name) → is_among x (before ++ y ∷ []) ≡ (is_among x before || same_name x (text_of y))
 among_last x [] y = or_false (same_name x (text_of y))
-among_last x (z ∷ before) y = ap (λ b. same_name x (text_of z) || b) (among_last x before y) ∙ or_assoc (same_name x (text_of z)) (is_among x before) (same_name x (text_of y))
+among_last x (z ∷ before) y = ap (λ b. same_name x (text_of z) || b) (among_last x before y)
+    ∙ or_assoc (same_name x (text_of z)) (is_among x before) (same_name x (text_of y))
 
 neither : (a b : Bool) → (a || b) ≡ false → (a ≡ false) × (b ≡ false)
 neither true b h = cc
@@ -45,7 +46,8 @@ record Strips (g r : Shape) (before : List Name) : Type 0 where
 strips_none : (g : Shape) → Strips g g []
 strips_none g = record { others = λ x h. refl; gone = λ x h. cc }
 
-gone_by : (g r : Shape) (before : List Name) (y : Name) → Strips g r before → (x : tree.Name) (b : Bool) → same_name x (text_of y) ≡ b → (is_among x before || b) ≡ true → kind_at x (without (text_of y) r) ≡ None
+gone_by : (g r : Shape) (before : List Name) (y : Name) → Strips g r before → (x : tree.Name) (b : Bool) → same_name x (text_of y) ≡ b →
+    (is_among x before || b) ≡ true → kind_at x (without (text_of y) r) ≡ None
 gone_by g r before y s x true e h = ap (λ z. kind_at z (without (text_of y) r)) (same_name_true x (text_of y) e) ∙ without_same (text_of y) r
 gone_by g r before y s x false e h = without_other x (text_of y) r e ∙ s.gone x (either (is_among x before) h)
 
@@ -60,16 +62,19 @@ strip_one g r before y s = record {
 
 -- ---- arguments
 
-arguments_formed : (g r : Shape) (before : List Name) → Strips g r before → (cs : List tree.Kind) (ys : List Name) → length cs ≡ length ys → twice_faults before ys ≡ [] → kinds_faults g cs ys ≡ [] → AreArguments cs (map text_of ys) r
+arguments_formed : (g r : Shape) (before : List Name) → Strips g r before → (cs : List tree.Kind) (ys : List Name) → length cs ≡ length ys →
+    twice_faults before ys ≡ [] → kinds_faults g cs ys ≡ [] → AreArguments cs (map text_of ys) r
 arguments_formed g r before s [] [] n t k = tt
 arguments_formed g r before s [] (y ∷ ys) n t k = absurd (omega (arith, n))
 arguments_formed g r before s (c ∷ cs) [] n t k = absurd (omega (arith, n))
 arguments_formed g r before s (c ∷ cs) (named y at ∷ ys) n t k = (
   s.others y (no_fault (is_among y before) _ (left_nil _ _ t)) ∙ use_formed g c (named y at) (left_nil _ _ k),
-  arguments_formed g (without y r) (before ++ named y at ∷ []) (strip_one g r before (named y at) s) cs ys (omega (arith, n)) (right_nil (same_faults before (named y at)) _ t) (right_nil (use_faults g c (named y at)) _ k),
+  arguments_formed g (without y r) (before ++ named y at ∷ []) (strip_one g r before (named y at) s) cs ys (omega (arith, n))
+      (right_nil (same_faults before (named y at)) _ t) (right_nil (use_faults g c (named y at)) _ k),
 )
 
-new_by : (g r : Shape) (before : List Name) → Strips g r before → (y : tree.Name) (c : tree.Kind) → kind_at y r ≡ Some c → (b : Bool) → is_among y before ≡ b → b ≡ false
+new_by : (g r : Shape) (before : List Name) → Strips g r before → (y : tree.Name) (c : tree.Kind) → kind_at y r ≡ Some c → (b : Bool) → is_among y before ≡ b →
+    b ≡ false
 new_by g r before s y c h true e = let bad : None ≡ Some c = sym (s.gone y e) ∙ h in cc
 new_by g r before s y c h false e = refl
 
@@ -79,7 +84,8 @@ record Fit (g : Shape) (before : List Name) (cs : List tree.Kind) (ys : List Nam
   once : twice_faults before ys ≡ []
   kinds : kinds_faults g cs ys ≡ []
 
-arguments_fit : (g r : Shape) (before : List Name) → Strips g r before → (cs : List tree.Kind) (ys : List Name) → AreArguments cs (map text_of ys) r → Fit g before cs ys
+arguments_fit : (g r : Shape) (before : List Name) → Strips g r before → (cs : List tree.Kind) (ys : List Name) → AreArguments cs (map text_of ys) r →
+    Fit g before cs ys
 arguments_fit g r before s [] [] h = record { as_many = refl; once = refl; kinds = refl }
 arguments_fit g r before s [] (y ∷ ys) h = absurd h
 arguments_fit g r before s (c ∷ cs) [] h = absurd h
@@ -103,20 +109,24 @@ same_count n m h = grind (arith, nat_tests)
 pub count_same : (n m : ℕ) → n ≡ m → (n == m) ≡ true
 count_same n m h = grind (arith, nat_tests)
 
-counted_by : (g : Shape) (cs : List tree.Kind) (at : Span) (ys : List Name) (b : Bool) → counted_faults b g cs at ys ≡ [] → (b ≡ true) × (kinds_faults g cs ys ≡ [])
+counted_by : (g : Shape) (cs : List tree.Kind) (at : Span) (ys : List Name) (b : Bool) → counted_faults b g cs at ys ≡ [] → (b ≡ true) ×
+    (kinds_faults g cs ys ≡ [])
 counted_by g cs at ys true h = (refl, h)
 counted_by g cs at ys false h = cc
 
-found_formed : (g : Shape) (at : Span) (ys : List Name) (o : Option (List tree.Kind)) → twice_faults [] ys ≡ [] → found_faults g o at ys ≡ [] → (cs : List tree.Kind) × (o ≡ Some cs) × AreArguments cs (map text_of ys) g
+found_formed : (g : Shape) (at : Span) (ys : List Name) (o : Option (List tree.Kind)) → twice_faults [] ys ≡ [] → found_faults g o at ys ≡ [] →
+    (cs : List tree.Kind) × (o ≡ Some cs) × AreArguments cs (map text_of ys) g
 found_formed g at ys None t h = cc
 found_formed g at ys (Some cs) t h =
     let w = counted_by g cs at ys (length cs == length ys) h in
     (cs, refl, arguments_formed g g [] (strips_none g) cs ys (same_count (length cs) (length ys) w.0) t w.1)
 
-pub call_formed : (hs : Heads) (g : Shape) (f : Name) (ys : List Name) → call_faults hs g f ys ≡ [] → (cs : List tree.Kind) × (head_at (text_of f) hs ≡ Some cs) × AreArguments cs (map text_of ys) g
+pub call_formed : (hs : Heads) (g : Shape) (f : Name) (ys : List Name) → call_faults hs g f ys ≡ [] → (cs : List tree.Kind) ×
+    (head_at (text_of f) hs ≡ Some cs) × AreArguments cs (map text_of ys) g
 call_formed hs g (named f at) ys h = found_formed g at ys (head_at f hs) (left_nil _ _ h) (right_nil (twice_faults [] ys) _ h)
 
-pub call_no_faults : (hs : Heads) (g : Shape) (f : Name) (ys : List Name) → ((cs : List tree.Kind) × (head_at (text_of f) hs ≡ Some cs) × AreArguments cs (map text_of ys) g) → call_faults hs g f ys ≡ []
+pub call_no_faults : (hs : Heads) (g : Shape) (f : Name) (ys : List Name) →
+    ((cs : List tree.Kind) × (head_at (text_of f) hs ≡ Some cs) × AreArguments cs (map text_of ys) g) → call_faults hs g f ys ≡ []
 call_no_faults hs g (named f at) ys w =
     let fit = arguments_fit g g [] (strips_none g) w.0 ys w.2 in
     both_nil _ _ fit.once

@@ -11,7 +11,8 @@ use Rattle.janus_syntax.specs.Tree.{named, Declaration, Int, Array, StackOf}
 use Rattle.janus_syntax.specs.View.{plain_declaration}
 use Rattle.janus_syntax.specs.declared.token.Span.{Span}
 use Rattle.janus_check.specs.Names.{is_in}
-use Rattle.janus_check.specs.Check.{fault_if, is_full, has_all_stacks, extended, name_faults, is_array_length, declaration_faults, declarations_faults, after_declarations}
+use Rattle.janus_check.specs.Check.{fault_if, is_full, has_all_stacks, extended, name_faults, is_array_length, declaration_faults, declarations_faults}
+use Rattle.janus_check.specs.Check.{after_declarations}
 use Rattle.janus_check.proofs.NoFaults.{left_nil, right_nil, both_nil, no_fault, fault_if_false, not_false, none_out}
 
 abbrev pub declared : List Declaration → List world.Declaration
@@ -73,9 +74,13 @@ declares g (Array (named x at) n place ∷ ds) h =
     let out = no_fault (is_in x g) _ (left_nil _ _ here) in
     let space = no_fault (is_full g) _ (right_nil (fault_if (is_in x g) _) _ here) in
     let next = added g x tree.AnArray out space in
-    let d = declares ((x, tree.AnArray) ∷ g) ds (subst (λ n. declarations_faults n ds ≡ []) next (right_nil (declaration_faults g (Array (named x at) n place)) _ h)) in
+    let d = declares ((x, tree.AnArray) ∷ g) ds
+    (subst (λ n. declarations_faults n ds ≡ []) next (right_nil (declaration_faults g (Array (named x at) n place)) _ h)) in
     record {
-      new = (record { name = none_out (kind_at x g) out; room = room_for (length g) space; extent = within_length n (not_false (is_array_length n) long) }, d.new);
+      new = (
+        record { name = none_out (kind_at x g) out; room = room_for (length g) space; extent = within_length n (not_false (is_array_length n) long) },
+        d.new,
+      );
       names = ap (λ n. after_declarations n ds) next ∙ d.names;
     }
 declares g (StackOf (named x at) ∷ ds) h =
@@ -85,7 +90,8 @@ declares g (StackOf (named x at) ∷ ds) h =
     let out = no_fault (is_in x g) _ (left_nil _ _ here) in
     let space = no_fault (is_full g) _ (right_nil (fault_if (is_in x g) _) _ here) in
     let next = added g x tree.AStack out space in
-    let d = declares ((x, tree.AStack) ∷ g) ds (subst (λ n. declarations_faults n ds ≡ []) next (right_nil (declaration_faults g (StackOf (named x at))) _ h)) in
+    let d = declares ((x, tree.AStack) ∷ g) ds
+    (subst (λ n. declarations_faults n ds ≡ []) next (right_nil (declaration_faults g (StackOf (named x at))) _ h)) in
     record {
       new = (record { name = none_out (kind_at x g) out; room = room_for (length g) space; extent = stack_room_for (stack_count g) few }, d.new);
       names = ap (λ n. after_declarations n ds) next ∙ d.names;
@@ -94,7 +100,8 @@ declares g (StackOf (named x at) ∷ ds) h =
 name_no_faults : (g : Shape) (x : tree.Name) (at : Span) → is_in x g ≡ false → is_full g ≡ false → name_faults g x at ≡ []
 name_no_faults g x at out space = both_nil _ _ (fault_if_false (is_in x g) _ out) (fault_if_false (is_full g) _ space)
 
-pub declares_no_faults : (g : Shape) (ds : List Declaration) → AreNew g (declared ds) → (declarations_faults g ds ≡ []) × (after_declarations g ds ≡ with_declared g (declared ds))
+pub declares_no_faults : (g : Shape) (ds : List Declaration) → AreNew g (declared ds) → (declarations_faults g ds ≡ []) ×
+    (after_declarations g ds ≡ with_declared g (declared ds))
 declares_no_faults g [] h = (refl, refl)
 declares_no_faults g (Int (named x at) ∷ ds) h =
     let rest = declares_no_faults ((x, tree.ANumber) ∷ g) ds h.1 in

@@ -1,9 +1,11 @@
 -- The first fault of a list, found from the front.
-use Rattle.std.proofs.Common.{◌≡◌, ℕ, Bool, true, false, List, [], ◌∷◌, ◌++◌, Option, Some, None, refl, ap, ◌∙◌, sym, subst, All, Contains, if◌then◌else◌, arith, ◌⊎◌, inl, inr, ⊎_elim}
+use Rattle.std.proofs.Common.{◌≡◌, ℕ, Bool, true, false, List, [], ◌∷◌, ◌++◌, Option, Some, None, refl, ap, ◌∙◌, sym, subst, All, Contains, if◌then◌else◌}
+use Rattle.std.proofs.Common.{arith, ◌⊎◌, inl, inr, ⊎_elim}
 use Rattle.std.proofs.lemmas.List.Elements.{All-cons, Contains-append_right}
 use Rattle.std.specs.Prelude.{◌==◌}
 use Rattle.janus_check.specs.declared.fault.CheckFault.{CheckFault}
-use Rattle.janus_check.specs.declared.fault.CheckFault.TheVariants.{Declared, Unknown, WrongKind, SelfUse, SameArgument, Arity, Shadow, ChangedParameters, TooMany, ArrayLength, Memory}
+use Rattle.janus_check.specs.declared.fault.CheckFault.TheVariants.{Declared, Unknown, WrongKind, SelfUse, SameArgument, Arity, Shadow, ChangedParameters}
+use Rattle.janus_check.specs.declared.fault.CheckFault.TheVariants.{TooMany, ArrayLength, Memory}
 use Rattle.janus_syntax.specs.declared.token.Span.{Span}
 use Rattle.janus_check.proofs.Orders.{earlier-self, earlier-other, earlier-through, same-first, same-second, same-third}
 use Rattle.janus_check.specs.Fault.{number_of, start_of, end_of, comes_before, IsFirst, sooner_of, first_from}
@@ -17,7 +19,8 @@ pub two_parts : (f n r : Option CheckFault) (xs ys : List CheckFault) → n ≡ 
 two_parts f n r xs ys p q = q ∙ ap (λ o. first_from o ys) p ∙ sym (first_from-append f xs ys)
 
 -- what is found in four parts, one after the other
-pub four_parts : (f n m k r : Option CheckFault) (a s t b : List CheckFault) → n ≡ first_from f a → m ≡ first_from n s → k ≡ first_from m t → r ≡ first_from k b → r ≡ first_from f (a ++ s ++ t ++ b)
+pub four_parts : (f n m k r : Option CheckFault) (a s t b : List CheckFault) → n ≡ first_from f a → m ≡ first_from n s → k ≡ first_from m t →
+    r ≡ first_from k b → r ≡ first_from f (a ++ s ++ t ++ b)
 four_parts f n m k r a s t b p q u w = two_parts f k r (a ++ s ++ t) b (two_parts f m k (a ++ s) t (two_parts f n m a s p q) u) w
 
 -- once there is a fault, there is one
@@ -65,7 +68,8 @@ keeps : (f : CheckFault) (fs : List CheckFault) (r : CheckFault) → first_from 
 keeps f [] r h = let e : r ≡ f = cc in record { one = inl e; before_first = subst (λ r. comes_before f r ≡ false) (sym e) (self f); before_all = tt }
 keeps f (g ∷ fs) r h = by (λ s. keeps s fs r) (comes_before g f) refl h
   where
-    by : ((s : CheckFault) → first_from (Some s) fs ≡ Some r → Keeps s fs r) → (b : Bool) → comes_before g f ≡ b → first_from (Some (if b then g else f)) fs ≡ Some r → Keeps f (g ∷ fs) r
+    by : ((s : CheckFault) → first_from (Some s) fs ≡ Some r → Keeps s fs r) → (b : Bool) → comes_before g f ≡ b →
+        first_from (Some (if b then g else f)) fs ≡ Some r → Keeps f (g ∷ fs) r
     by ih true e h =
         let k = ih g h in
         record {
@@ -108,7 +112,9 @@ place_of (ArrayLength at) = at
 
 -- the fault of a number at a place
 abbrev told : ℕ → Span → CheckFault
-told n at = if n == 35 then Memory else if n == 40 then Declared at else if n == 41 then Unknown at else if n == 42 then WrongKind at else if n == 43 then SelfUse at else if n == 44 then SameArgument at else if n == 45 then Arity at else if n == 46 then Shadow at else if n == 47 then ChangedParameters at else if n == 48 then TooMany at else ArrayLength at
+told n at = if n == 35 then Memory else if n == 40 then Declared at else if n == 41 then Unknown at else if n == 42 then WrongKind at else if n == 43 then
+    SelfUse at else if n == 44 then SameArgument at else if n == 45 then Arity at else if n == 46 then Shadow at else if n == 47 then ChangedParameters at else
+    if n == 48 then TooMany at else ArrayLength at
 
 told_is : (f : CheckFault) → f ≡ told (number_of f) (place_of f)
 told_is Memory = refl
@@ -141,7 +147,8 @@ same_fault f h p q =
     let start : start_of f ≡ start_of h = same-first (start_of f) (number_of f) (end_of f) (start_of h) (number_of h) (end_of h) p q in
     let number : number_of f ≡ number_of h = same-second (start_of f) (number_of f) (end_of f) (start_of h) (number_of h) (end_of h) p q in
     let end : end_of f ≡ end_of h = same-third (start_of f) (number_of f) (end_of f) (start_of h) (number_of h) (end_of h) p q in
-    let place : place_of f ≡ place_of h = place_is f ∙ ap (λ a. record { start = a; end = end_of f }) start ∙ ap (λ a. record { start = start_of h; end = a }) end ∙ sym (place_is h) in
+    let place : place_of f ≡ place_of h = place_is f ∙ ap (λ a. record { start = a; end = end_of f }) start
+    ∙ ap (λ a. record { start = start_of h; end = a }) end ∙ sym (place_is h) in
     told_is f ∙ ap (λ n. told n (place_of f)) number ∙ ap (told (number_of h)) place ∙ sym (told_is h)
 
 pub one_first : (fs : List CheckFault) (f h : CheckFault) → IsFirst f fs → IsFirst h fs → f ≡ h

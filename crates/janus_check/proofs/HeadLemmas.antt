@@ -1,5 +1,6 @@
 -- The heads of procedures have no faults exactly where they are well formed.
-use Rattle.std.proofs.Common.{◌≡◌, ℕ, ◌≤◌, Bool, true, false, not, is_some, List, [], ◌∷◌, ◌++◌, map, Option, Some, None, refl, ap, ◌∙◌, sym, subst, arith, if◌then◌else◌}
+use Rattle.std.proofs.Common.{◌≡◌, ℕ, ◌≤◌, Bool, true, false, not, is_some, List, [], ◌∷◌, ◌++◌, map, Option, Some, None, refl, ap, ◌∙◌, sym, subst, arith}
+use Rattle.std.proofs.Common.{if◌then◌else◌}
 use Rattle.std.specs.Prelude.{nat_lt, ◌&&◌}
 use Rattle.std.proofs.lemmas.Bool.Decides.{nat_tests}
 use lib.Pointwise.{pointwise}
@@ -42,14 +43,16 @@ pub all_apart : {A : Type 0} (es : List (tree.Name × A)) → AreApart [] es
 all_apart [] = tt
 all_apart (e ∷ es) = (refl, all_apart es)
 
-pub apart_less : {A : Type 0} (own : List (tree.Name × A)) (h : tree.Name × A) (es : List (tree.Name × A)) → AreApart (h ∷ own) es → (at_name h.0 es ≡ None) × AreApart own es
+pub apart_less : {A : Type 0} (own : List (tree.Name × A)) (h : tree.Name × A) (es : List (tree.Name × A)) → AreApart (h ∷ own) es → (at_name h.0 es ≡ None) ×
+    AreApart own es
 apart_less own h [] a = (refl, tt)
 apart_less own h (e ∷ es) a =
     let here = newest_none (same_name e.0 h.0) h.1 (at_name e.0 own) a.0 in
     let rest = apart_less own h es a.1 in
     (ap (λ b. pick_newest b e.1 (at_name h.0 es)) (different_way e.0 h.0 here.0) ∙ rest.0, (here.1, rest.1))
 
-pub apart_more : {A : Type 0} (own : List (tree.Name × A)) (h : tree.Name × A) (es : List (tree.Name × A)) → at_name h.0 es ≡ None → AreApart own es → AreApart (h ∷ own) es
+pub apart_more : {A : Type 0} (own : List (tree.Name × A)) (h : tree.Name × A) (es : List (tree.Name × A)) → at_name h.0 es ≡ None → AreApart own es →
+    AreApart (h ∷ own) es
 apart_more own h [] n a = tt
 apart_more own h (e ∷ es) n a =
     let here = newest_none (same_name h.0 e.0) e.1 (at_name h.0 es) n in
@@ -74,7 +77,8 @@ same_kinds_self [] = refl
 same_kinds_self (c ∷ cs) = ap (λ b. b && same_kinds cs cs) (same_kind_self c) ∙ same_kinds_self cs
 
 -- two lists of kinds compared one by one
-pub compared : (equal : Kind → Kind → Bool) → ((k l : Kind) → equal k l ≡ same_kind (meant_kind k) (meant_kind l)) → (ks ls : List Kind) → pointwise equal ks ls ≡ same_kinds (meant_kinds ks) (meant_kinds ls)
+pub compared : (equal : Kind → Kind → Bool) → ((k l : Kind) → equal k l ≡ same_kind (meant_kind k) (meant_kind l)) → (ks ls : List Kind) →
+    pointwise equal ks ls ≡ same_kinds (meant_kinds ks) (meant_kinds ls)
 compared equal same [] [] = refl
 compared equal same [] (l ∷ ls) = refl
 compared equal same (k ∷ ks) [] = refl
@@ -120,26 +124,38 @@ defines hs own (procedure_of (named f at) xs b ∷ ps) h =
     let front = left_nil (fault_if (is_some (head_at f own)) _ ++ fault_if (is_changed cs (head_at f hs)) _) _ here in
     let fresh = none_out (head_at f own) (no_fault (is_some (head_at f own)) _ (left_nil _ _ front)) in
     let kept = no_fault (is_changed cs (head_at f hs)) _ (right_nil (fault_if (is_some (head_at f own)) _) _ front) in
-    let room = no_fault (are_too_many (with_head own f cs ++ hs)) _ (right_nil (fault_if (is_some (head_at f own)) _ ++ fault_if (is_changed cs (head_at f hs)) _) _ here) in
+    let room = no_fault (are_too_many (with_head own f cs ++ hs))
+    _ (right_nil (fault_if (is_some (head_at f own)) _ ++ fault_if (is_changed cs (head_at f hs)) _) _ here) in
     let next = head_added own f cs fresh in
     let d = defines hs ((f, cs) ∷ own) ps (subst (λ n. heads_faults hs n ps ≡ []) next (right_nil (head_faults hs own (procedure_of (named f at) xs b)) _ h)) in
     let apart = apart_less own (f, cs) (heads_of (plain ps)) d.apart in
     record {
       apart = (fresh, apart.1);
       distinct = (apart.0, d.distinct);
-      definable = (record { unchanged = λ ds e. unchanged_is cs (head_at f hs) kept ds (sym (at_second f own hs fresh) ∙ e); room = few (different (((f, cs) ∷ own) ++ hs)) (ap (λ n. are_too_many (n ++ hs)) (sym next) ∙ room) }, d.definable);
+      definable = (
+        record {
+          unchanged = λ ds e. unchanged_is cs (head_at f hs) kept ds (sym (at_second f own hs fresh) ∙ e);
+          room = few (different (((f, cs) ∷ own) ++ hs))
+              (ap (λ n. are_too_many (n ++ hs)) (sym next) ∙ room);
+        },
+        d.definable,
+      );
       same = ap (λ n. after_heads n ps ++ hs) next ∙ d.same;
     }
 
-pub defines_no_faults : (hs own : Heads) (ps : List Procedure) → AreApart own (heads_of (plain ps)) → AreDistinct (heads_of (plain ps)) → AreDefinable (own ++ hs) (plain ps) → (heads_faults hs own ps ≡ []) × (after_heads own ps ++ hs ≡ with_heads (own ++ hs) (plain ps))
+pub defines_no_faults : (hs own : Heads) (ps : List Procedure) → AreApart own (heads_of (plain ps)) → AreDistinct (heads_of (plain ps)) →
+    AreDefinable (own ++ hs) (plain ps) → (heads_faults hs own ps ≡ []) × (after_heads own ps ++ hs ≡ with_heads (own ++ hs) (plain ps))
 defines_no_faults hs own [] a d h = (refl, refl)
 defines_no_faults hs own (procedure_of (named f at) xs b ∷ ps) a d h =
     let cs = kinds_of xs in
     let next = head_added own f cs a.0 in
     let rest = defines_no_faults hs ((f, cs) ∷ own) ps (apart_more own (f, cs) (heads_of (plain ps)) d.0 a.1) d.1 h.1 in
     let kept = is_unchanged cs (head_at f hs) (λ ds e. h.0.unchanged ds (at_second f own hs a.0 ∙ e)) in
-    let room : are_too_many (with_head own f cs ++ hs) ≡ false = ap (λ n. are_too_many (n ++ hs)) next ∙ not_many (different (((f, cs) ∷ own) ++ hs)) h.0.room in
-    let here = both_nil (fault_if (is_some (head_at f own)) _ ++ fault_if (is_changed cs (head_at f hs)) _) _ (both_nil _ _ (fault_if_false (is_some (head_at f own)) _ (ap is_some a.0)) (fault_if_false (is_changed cs (head_at f hs)) _ kept)) (fault_if_false (are_too_many (with_head own f cs ++ hs)) _ room) in
+    let room : are_too_many (with_head own f cs ++ hs) ≡ false = ap (λ n. are_too_many (n ++ hs)) next
+    ∙ not_many (different (((f, cs) ∷ own) ++ hs)) h.0.room in
+    let here = both_nil (fault_if (is_some (head_at f own)) _ ++ fault_if (is_changed cs (head_at f hs)) _)
+    _ (both_nil _ _ (fault_if_false (is_some (head_at f own)) _ (ap is_some a.0)) (fault_if_false (is_changed cs (head_at f hs)) _ kept))
+    (fault_if_false (are_too_many (with_head own f cs ++ hs)) _ room) in
     (both_nil _ _ here (ap (λ n. heads_faults hs n ps) next ∙ rest.0), ap (λ n. after_heads n ps ++ hs) next ∙ rest.1)
 
 -- ---- calls see each of the procedures by its own head

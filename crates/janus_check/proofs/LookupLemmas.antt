@@ -1,5 +1,6 @@
 -- A look-up among names that were new when they were added finds what they stand for.
-use Rattle.std.proofs.Common.{◌≡◌, ℕ, Bool, true, false, List, [], ◌∷◌, ◌++◌, map, Option, Some, None, is_some, refl, ap, ◌∙◌, sym, subst, string_bytes, cond, nat_eq}
+use Rattle.std.proofs.Common.{◌≡◌, ℕ, Bool, true, false, List, [], ◌∷◌, ◌++◌, map, Option, Some, None, is_some, refl, ap, ◌∙◌, sym, subst, string_bytes, cond}
+use Rattle.std.proofs.Common.{nat_eq}
 use Rattle.std.specs.Prelude.{◌&&◌, MatchOption}
 use Rattle.std.specs.Str.{bytes_eq}
 use Rattle.std.specs.Map.{lookup}
@@ -64,17 +65,21 @@ module _ {Y W V A : Type 0} (w : W → V) (m : V → A) where
   absent_later x g [] h new = refl
   absent_later x g (e ∷ es) h new = by (λ still. absent_later x ((string_bytes e.0, m (w e.1)) ∷ g) es still new.1) (same_name x (string_bytes e.0)) refl
     where
-      by : ((at_name x ((string_bytes e.0, m (w e.1)) ∷ g) ≡ None → ⊥) → found x es ≡ None) → (b : Bool) → same_name x (string_bytes e.0) ≡ b → found x (e ∷ es) ≡ None
+      by : ((at_name x ((string_bytes e.0, m (w e.1)) ∷ g) ≡ None → ⊥) → found x es ≡ None) → (b : Bool) → same_name x (string_bytes e.0) ≡ b →
+          found x (e ∷ es) ≡ None
       by later true s = absurd (h (subst (λ y. at_name y g ≡ None) (sym (same_name_true x (string_bytes e.0) s)) new.0))
       by later false s =
           let still : at_name x ((string_bytes e.0, m (w e.1)) ∷ g) ≡ None → ⊥ = λ a. h (sym (ap (λ b. pick_newest b (m (w e.1)) (at_name x g)) s) ∙ a) in
           ap (λ b. cond b (Some e.1) (found x es)) (sym (same_as_bytes x (string_bytes e.0)) ∙ s) ∙ later still
 
-  found_above : (x : List ℕ) (g : List (tree.Name × A)) (es : List (String Y × W)) → AreAdded m g (map seen es) → at_name x (above m g (map seen es)) ≡ first_found (λ v. m (w v)) (found x es) (at_name x g)
+  found_above : (x : List ℕ) (g : List (tree.Name × A)) (es : List (String Y × W)) → AreAdded m g (map seen es) →
+      at_name x (above m g (map seen es)) ≡ first_found (λ v. m (w v)) (found x es) (at_name x g)
   found_above x g [] new = refl
   found_above x g (e ∷ es) new = by (found_above x ((string_bytes e.0, m (w e.1)) ∷ g) es new.1) (same_name x (string_bytes e.0)) refl
     where
-      by : at_name x (above m ((string_bytes e.0, m (w e.1)) ∷ g) (map seen es)) ≡ first_found (λ v. m (w v)) (found x es) (at_name x ((string_bytes e.0, m (w e.1)) ∷ g)) → (b : Bool) → same_name x (string_bytes e.0) ≡ b → at_name x (above m g (map seen (e ∷ es))) ≡ first_found (λ v. m (w v)) (found x (e ∷ es)) (at_name x g)
+      by : at_name x (above m ((string_bytes e.0, m (w e.1)) ∷ g) (map seen es)) ≡ first_found (λ v. m (w v)) (found x es)
+          (at_name x ((string_bytes e.0, m (w e.1)) ∷ g)) → (b : Bool) → same_name x (string_bytes e.0) ≡ b →
+          at_name x (above m g (map seen (e ∷ es))) ≡ first_found (λ v. m (w v)) (found x (e ∷ es)) (at_name x g)
       by inner true s =
           let here : at_name x ((string_bytes e.0, m (w e.1)) ∷ g) ≡ Some (m (w e.1)) = ap (λ b. pick_newest b (m (w e.1)) (at_name x g)) s in
           let none = absent_later x ((string_bytes e.0, m (w e.1)) ∷ g) es (λ a. not_none (m (w e.1)) (sym here ∙ a)) new.1 in
@@ -85,19 +90,23 @@ module _ {Y W V A : Type 0} (w : W → V) (m : V → A) where
           ∙ sym (ap (λ b. first_found (λ v. m (w v)) (cond b (Some e.1) (found x es)) (at_name x g)) (sym (same_as_bytes x (string_bytes e.0)) ∙ s))
 
   -- what a look-up by name finds
-  pub looked_up : (x : List ℕ) (es : List (String Y × W)) → AreAdded m [] (map seen es) → meant (λ v. m (w v)) (found x es) ≡ at_name x (above m [] (map seen es))
+  pub looked_up : (x : List ℕ) (es : List (String Y × W)) → AreAdded m [] (map seen es) →
+      meant (λ v. m (w v)) (found x es) ≡ at_name x (above m [] (map seen es))
   looked_up x es new = sym (found_is (λ v. m (w v)) (found x es)) ∙ sym (found_above x [] es new)
 
   -- where a new name goes in the map
-  inserted_last : {S : Type 0} (t : IndexMap (String Y) W S) (x : String Y) (v : W) → AreAdded m [] (map seen t.entries) → at_name (string_bytes x) (above m [] (map seen t.entries)) ≡ None → insert_entry string_eq t.entries x v ≡ t.entries ++ (x, v) ∷ []
+  inserted_last : {S : Type 0} (t : IndexMap (String Y) W S) (x : String Y) (v : W) → AreAdded m [] (map seen t.entries) →
+      at_name (string_bytes x) (above m [] (map seen t.entries)) ≡ None → insert_entry string_eq t.entries x v ≡ t.entries ++ (x, v) ∷ []
   inserted_last t x v new absent =
       insert_entry-new string_eq t x v (none_meant (λ v. m (w v)) (found (string_bytes x) t.entries) (looked_up (string_bytes x) t.entries new ∙ absent))
 
   -- what contracts see of the entries with a new one
-  pub seen_last : {S : Type 0} (t : IndexMap (String Y) W S) (more : List (String Y × W)) (x : String Y) (v : W) → AreAdded m [] (map seen t.entries) → at_name (string_bytes x) (above m [] (map seen t.entries)) ≡ None →
+  pub seen_last : {S : Type 0} (t : IndexMap (String Y) W S) (more : List (String Y × W)) (x : String Y) (v : W) → AreAdded m [] (map seen t.entries) →
+      at_name (string_bytes x) (above m [] (map seen t.entries)) ≡ None →
       more ≡ insert_entry string_eq t.entries x v → map seen more ≡ map seen t.entries ++ (string_bytes x, w v) ∷ []
   seen_last t more x v new absent e = ap (map seen) (e ∙ inserted_last t x v new absent) ∙ map-append seen t.entries ((x, v) ∷ [])
 
-pub added_more : {V A : Type 0} (m : V → A) (g : List (tree.Name × A)) (xs : List (List ℕ × V)) (x : List ℕ) (v : V) → AreAdded m g xs → at_name x (above m g xs) ≡ None → AreAdded m g (xs ++ (x, v) ∷ [])
+pub added_more : {V A : Type 0} (m : V → A) (g : List (tree.Name × A)) (xs : List (List ℕ × V)) (x : List ℕ) (v : V) → AreAdded m g xs →
+    at_name x (above m g xs) ≡ None → AreAdded m g (xs ++ (x, v) ∷ [])
 added_more m g [] x v new h = (h, tt)
 added_more m g (e ∷ es) x v new h = (new.0, added_more m ((e.0, m e.1) ∷ g) es x v new.1 h)

@@ -1,5 +1,6 @@
 -- Parameters have no faults exactly where they are well formed.
-use Rattle.std.proofs.Common.{◌≡◌, ℕ, ◌+◌, ◌<◌, ◌≤◌, Bool, true, false, is_some, List, [], ◌∷◌, ◌++◌, length, map, Option, Some, None, refl, ap, ◌∙◌, sym, subst, arith}
+use Rattle.std.proofs.Common.{◌≡◌, ℕ, ◌+◌, ◌<◌, ◌≤◌, Bool, true, false, is_some, List, [], ◌∷◌, ◌++◌, length, map, Option, Some, None, refl, ap, ◌∙◌, sym}
+use Rattle.std.proofs.Common.{subst, arith}
 use Rattle.std.specs.Prelude.{nat_le}
 use Rattle.std.proofs.lemmas.Bool.Decides.{nat_tests}
 use Rattle.std.proofs.lemmas.List.{take_all, map-append, length-map, length-append}
@@ -36,13 +37,15 @@ room_for n h = grind (arith, nat_tests)
 no_limit : (n : ℕ) → n < parameter_limit → nat_le parameter_limit n ≡ false
 no_limit n h = grind (arith, nat_tests)
 
-parameter_new : (before : List Parameter) (x : Name) → parameter_faults before x ≡ [] → (kind_at (text_of x) (body_sight before) ≡ None) × (length before < parameter_limit)
+parameter_new : (before : List Parameter) (x : Name) → parameter_faults before x ≡ [] → (kind_at (text_of x) (body_sight before) ≡ None) ×
+    (length before < parameter_limit)
 parameter_new before (named x at) h = (
   none_out (kind_at x (body_sight before)) (no_fault (is_in x (body_sight before)) _ (left_nil _ _ h)),
   room_for (length before) (no_fault (has_all_parameters before) _ (right_nil (fault_if (is_in x (body_sight before)) _) _ h)),
 )
 
-parameter_no_faults : (before : List Parameter) (x : Name) → kind_at (text_of x) (body_sight before) ≡ None → length before < parameter_limit → parameter_faults before x ≡ []
+parameter_no_faults : (before : List Parameter) (x : Name) → kind_at (text_of x) (body_sight before) ≡ None → length before < parameter_limit →
+    parameter_faults before x ≡ []
 parameter_no_faults before (named x at) h n =
     both_nil _ _ (fault_if_false (is_in x (body_sight before)) _ (ap is_some h)) (fault_if_false (has_all_parameters before) _ (no_limit (length before) n))
 

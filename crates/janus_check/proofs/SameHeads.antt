@@ -2,7 +2,8 @@
 use Rattle.std.proofs.Common.{◌≡◌, ◌≤◌, suc, ℕ, Bool, true, false, List, [], ◌∷◌, ◌++◌, Option, Some, None, is_some, refl, ap, ◌∙◌, sym, subst}
 use Rattle.std.specs.Prelude.{nat_lt}
 use Rattle.janus_meaning.specs.Limit.{procedure_limit}
-use Rattle.janus_meaning.specs.Syntax.{Name, Stm, Blk, Skip, Set, SetAt, Push, Pop, Swap, If, From, LocalInt, LocalStack, Call, Uncall, Nil, Cons, Proc, Kind, ANumber, AStack}
+use Rattle.janus_meaning.specs.Syntax.{Name, Stm, Blk, Skip, Set, SetAt, Push, Pop, Swap, If, From, LocalInt, LocalStack, Call, Uncall, Nil, Cons, Proc, Kind}
+use Rattle.janus_meaning.specs.Syntax.{ANumber, AStack}
 use Rattle.janus_meaning.specs.Store.{same_name}
 use Rattle.janus_meaning.specs.Shape.{at_name, pick_newest, left_out, without, count_new, different, Shape, Heads, head_at, head_of}
 use Rattle.janus_meaning.specs.Formed.{IsStm, IsBlk, AreProcs}
@@ -13,7 +14,9 @@ use Rattle.janus_meaning.proofs.Scopes.{without_same, without_other}
 use Rattle.janus_syntax.specs.Tree as tree
 use Rattle.janus_syntax.specs.View.{text_of}
 use Rattle.janus_check.specs.declared.fault.CheckFault.TheVariants.{Declared, ChangedParameters, TooMany}
-use Rattle.janus_check.specs.Check.{fault_if, declarations_faults, after_declarations, kinds_of, with_head, after_head, after_heads, is_changed, head_faults, heads_faults, body_sight, parameters_faults, exp_faults, end_faults, shadow_faults, twice_faults, found_faults, call_faults, stm_faults, block_faults, bodies_faults, cell_faults}
+use Rattle.janus_check.specs.Check.{fault_if, declarations_faults, after_declarations, kinds_of, with_head, after_head, after_heads, is_changed, head_faults}
+use Rattle.janus_check.specs.Check.{heads_faults, body_sight, parameters_faults, exp_faults, end_faults, shadow_faults, twice_faults, found_faults, call_faults}
+use Rattle.janus_check.specs.Check.{stm_faults, block_faults, bodies_faults, cell_faults}
 use Rattle.janus_check.proofs.HeadLemmas.{different_way}
 use Rattle.janus_check.proofs.ScopeLemmas.{at_name-append, else_found}
 
@@ -31,7 +34,8 @@ more_new : {A : Type 0} (o : Option A) (n : ℕ) → count_new o (suc n) ≡ suc
 more_new (Some a) n = refl
 more_new None n = refl
 
-absent_by : {A : Type 0} (x : Name) (e : Name × A) (g : List (Name × A)) (b : Bool) → same_name x e.0 ≡ b → (at_name x g ≡ None → without x g ≡ g) → pick_newest b e.1 (at_name x g) ≡ None → left_out b e (without x g) ≡ e ∷ g
+absent_by : {A : Type 0} (x : Name) (e : Name × A) (g : List (Name × A)) (b : Bool) → same_name x e.0 ≡ b → (at_name x g ≡ None → without x g ≡ g) →
+    pick_newest b e.1 (at_name x g) ≡ None → left_out b e (without x g) ≡ e ∷ g
 absent_by x e g true s ih h = cc
 absent_by x e g false s ih h = ap (λ g. e ∷ g) (ih h)
 
@@ -39,11 +43,14 @@ without_absent : {A : Type 0} (x : Name) (g : List (Name × A)) → at_name x g 
 without_absent x [] h = refl
 without_absent x (e ∷ g) h = absent_by x e g (same_name x e.0) refl (without_absent x g) h
 
-front_by : {A : Type 0} (x : Name) (g : List (Name × A)) (o : Option A) → at_name x g ≡ o → ((a : A) → at_name x g ≡ Some a → different g ≡ suc (different (without x g))) → count_new o (different g) ≡ suc (different (without x g))
+front_by : {A : Type 0} (x : Name) (g : List (Name × A)) (o : Option A) → at_name x g ≡ o →
+    ((a : A) → at_name x g ≡ Some a → different g ≡ suc (different (without x g))) → count_new o (different g) ≡ suc (different (without x g))
 front_by x g (Some a) h ih = ih a h
 front_by x g None h ih = ap (λ g. suc (different g)) (sym (without_absent x g h))
 
-removed_by : {A : Type 0} (x : Name) (e : Name × A) (g : List (Name × A)) (b : Bool) → same_name x e.0 ≡ b → ((a : A) → at_name x g ≡ Some a → different g ≡ suc (different (without x g))) → (a : A) → pick_newest b e.1 (at_name x g) ≡ Some a → different (e ∷ g) ≡ suc (different (left_out b e (without x g)))
+removed_by : {A : Type 0} (x : Name) (e : Name × A) (g : List (Name × A)) (b : Bool) → same_name x e.0 ≡ b →
+    ((a : A) → at_name x g ≡ Some a → different g ≡ suc (different (without x g))) → (a : A) → pick_newest b e.1 (at_name x g) ≡ Some a →
+    different (e ∷ g) ≡ suc (different (left_out b e (without x g)))
 removed_by x e g true s ih a h = ap (λ y. count_new (at_name y g) (different g)) (sym (same_name_true x e.0 s)) ∙ front_by x g (at_name x g) refl ih
 removed_by x e g false s ih a h =
     ap (count_new (at_name e.0 g)) (ih a h) ∙ more_new (at_name e.0 g) (different (without x g))
@@ -85,7 +92,8 @@ different_same [] [] s = refl
 different_same [] (e ∷ h) s = let bad : false ≡ true = s e.0 ∙ ap is_some (here e h) in cc
 different_same (e ∷ g) h s = by (different_same g) (at_name e.0 g) refl
   where
-    by : ((h : List (Name × _)) → HaveSameNames g h → different g ≡ different h) → (o : Option _) → at_name e.0 g ≡ o → count_new (at_name e.0 g) (different g) ≡ different h
+    by : ((h : List (Name × _)) → HaveSameNames g h → different g ≡ different h) → (o : Option _) → at_name e.0 g ≡ o →
+        count_new (at_name e.0 g) (different g) ≡ different h
     by ih (Some a) k = ap (λ o. count_new o (different g)) k ∙ ih h (again e g h a k s)
     by ih None k =
         let there = seen (at_name e.0 h) (sym (ap is_some (here e g)) ∙ s e.0) in
@@ -108,10 +116,12 @@ else_nothing None = refl
 pub one_behind : (hs js : Heads) (h : Name × List Kind) → AreSameHeads hs js → head_at h.0 hs ≡ None → AreSameHeads (h ∷ hs) (js ++ h ∷ [])
 one_behind hs js h e absent f = by (same_name f h.0) refl ∙ sym (at_name-append f js (h ∷ []))
   where
-    by : (b : Bool) → same_name f h.0 ≡ b → pick_newest (same_name f h.0) h.1 (head_at f hs) ≡ else_found (head_at f js) (pick_newest (same_name f h.0) h.1 None)
+    by : (b : Bool) → same_name f h.0 ≡ b → pick_newest (same_name f h.0) h.1 (head_at f hs) ≡ else_found (head_at f js)
+        (pick_newest (same_name f h.0) h.1 None)
     by true s =
         let none = sym (e f) ∙ ap (λ f. head_at f hs) (same_name_true f h.0 s) ∙ absent in
-        ap (λ b. pick_newest b h.1 (head_at f hs)) s ∙ sym (ap (λ o. else_found o (pick_newest (same_name f h.0) h.1 None)) none ∙ ap (λ b. pick_newest b h.1 None) s)
+        ap (λ b. pick_newest b h.1 (head_at f hs)) s
+        ∙ sym (ap (λ o. else_found o (pick_newest (same_name f h.0) h.1 None)) none ∙ ap (λ b. pick_newest b h.1 None) s)
     by false s =
         ap (λ b. pick_newest b h.1 (head_at f hs)) s ∙ e f ∙ sym (ap (λ b. else_found (head_at f js) (pick_newest b h.1 None)) s ∙ else_nothing (head_at f js))
 
@@ -148,7 +158,10 @@ mutual
 
 pub procs_same : (hs js : Heads) (ps : List Proc) → AreSameHeads hs js → AreProcs hs ps → AreProcs js ps
 procs_same hs js [] e h = h
-procs_same hs js (p ∷ ps) e h = (record { head = sym (e p.name) ∙ h.0.head; distinct = h.0.distinct; few = h.0.few; body = block_same hs js p.params p.body e h.0.body }, procs_same hs js ps e h.1)
+procs_same hs js (p ∷ ps) e h = (
+  record { head = sym (e p.name) ∙ h.0.head; distinct = h.0.distinct; few = h.0.few; body = block_same hs js p.params p.body e h.0.body },
+  procs_same hs js ps e h.1,
+)
 
 definable_same : (hs js : Heads) (ps : List Proc) → AreSameHeads hs js → AreDefinable hs ps → AreDefinable js ps
 definable_same hs js [] e h = h
@@ -205,7 +218,8 @@ head_faults_same : (hs js own : Heads) (p : tree.Procedure) → AreSameHeads hs 
 head_faults_same hs js own (tree.procedure_of (tree.named f at) xs b) e =
     let all = with_head own f (kinds_of xs) in
     let many = different_same (all ++ hs) (all ++ js) (λ x. ap is_some (behind_same all hs js e x)) in
-    (λ i. fault_if (is_some (head_at f own)) (Declared at) ++ fault_if (is_changed (kinds_of xs) (e f i)) (ChangedParameters at) ++ fault_if (nat_lt procedure_limit (many i)) (TooMany at))
+    (λ i. fault_if (is_some (head_at f own)) (Declared at) ++ fault_if (is_changed (kinds_of xs) (e f i)) (ChangedParameters at) ++ fault_if
+    (nat_lt procedure_limit (many i)) (TooMany at))
 
 heads_faults_same : (hs js own : Heads) (ps : List tree.Procedure) → AreSameHeads hs js → heads_faults hs own ps ≡ heads_faults js own ps
 heads_faults_same hs js own [] e = refl
@@ -213,11 +227,13 @@ heads_faults_same hs js own (p ∷ ps) e = (λ i. head_faults_same hs js own p e
 
 bodies_faults_same : (hs js : Heads) (ps : List tree.Procedure) → AreSameHeads hs js → bodies_faults hs ps ≡ bodies_faults js ps
 bodies_faults_same hs js [] e = refl
-bodies_faults_same hs js (tree.procedure_of f xs b ∷ ps) e = (λ i. parameters_faults [] xs ++ block_faults_same hs js (body_sight xs) b e i ++ bodies_faults_same hs js ps e i)
+bodies_faults_same hs js (tree.procedure_of f xs b ∷ ps) e =
+    (λ i. parameters_faults [] xs ++ block_faults_same hs js (body_sight xs) b e i ++ bodies_faults_same hs js ps e i)
 
 -- the faults of a cell over heads of which the same are found
 pub faults_same : (g : Shape) (hs js : Heads) (c : tree.Cell) → AreSameHeads hs js → cell_faults g hs c ≡ cell_faults g js c
 faults_same g hs js (tree.cell_of ds b ps) e =
     let own = after_heads [] ps in
     let more = behind_same own hs js e in
-    (λ i. declarations_faults g ds ++ heads_faults_same hs js [] ps e i ++ block_faults_same (own ++ hs) (own ++ js) (after_declarations g ds) b more i ++ bodies_faults_same (own ++ hs) (own ++ js) ps more i)
+    (λ i. declarations_faults g ds ++ heads_faults_same hs js [] ps e i ++ block_faults_same (own ++ hs) (own ++ js) (after_declarations g ds)
+    b more i ++ bodies_faults_same (own ++ hs) (own ++ js) ps more i)

@@ -24,10 +24,12 @@ over_apart x g (e ∷ es) =
     ∙ ap (λ c. else_kind c (kind_at x g)) (sym (over_apart x ((e.0, meant_kind e.1) ∷ []) es))
 
 -- a name has the kind that it has among the newer ones, or else the one among the older ones
-pub kind_own : (x : List ℕ) (g : Shape) (es : List (List ℕ × Kind)) (k : Kind) → kind_found (Some k) ≡ kind_at x (shape_in es) → kind_found (Some k) ≡ kind_at x (over g es)
+pub kind_own : (x : List ℕ) (g : Shape) (es : List (List ℕ × Kind)) (k : Kind) → kind_found (Some k) ≡ kind_at x (shape_in es) →
+    kind_found (Some k) ≡ kind_at x (over g es)
 kind_own x g es k h = ap (λ a. else_kind a (kind_at x g)) h ∙ sym (over_apart x g es)
 
-pub kind_older : (x : List ℕ) (g : Shape) (es : List (List ℕ × Kind)) (o : Option Kind) → kind_found None ≡ kind_at x (shape_in es) → kind_found o ≡ kind_at x g → kind_found o ≡ kind_at x (over g es)
+pub kind_older : (x : List ℕ) (g : Shape) (es : List (List ℕ × Kind)) (o : Option Kind) → kind_found None ≡ kind_at x (shape_in es) →
+    kind_found o ≡ kind_at x g → kind_found o ≡ kind_at x (over g es)
 kind_older x g es o h w = w ∙ ap (λ a. else_kind a (kind_at x g)) h ∙ sym (over_apart x g es)
 
 -- a name is known where a kind was found
@@ -75,7 +77,8 @@ different_within [] = omega arith
 different_within (e ∷ g) = count_bound (at_name e.0 g) (different g) (length g) (different_within g)
 
 -- where none was there when it was added, they are as many
-different_above : {V A : Type 0} (m : V → A) (g : List (tree.Name × A)) (es : List (List ℕ × V)) → AreAdded m g es → different (above m g es) ≡ different g + length es
+different_above : {V A : Type 0} (m : V → A) (g : List (tree.Name × A)) (es : List (List ℕ × V)) → AreAdded m g es →
+    different (above m g es) ≡ different g + length es
 different_above m g [] new = omega arith
 different_above m g (e ∷ es) new =
     let ih = different_above m ((e.0, m e.1) ∷ g) es new.1 in
@@ -129,5 +132,6 @@ pub stacks_within : (g : Shape) → stack_count g ≤ length g
 stacks_within [] = omega arith
 stacks_within (e ∷ g) = stack_bound e.1 (stack_count g) (length g) (stacks_within g)
 
-pub stacks-append : (es : List (List ℕ × Kind)) (x : List ℕ) (k : Kind) → stack_count (shape_in (es ++ (x, k) ∷ [])) ≡ count_stack (meant_kind k) (stack_count (shape_in es))
+pub stacks-append : (es : List (List ℕ × Kind)) (x : List ℕ) (k : Kind) → stack_count (shape_in (es ++ (x, k) ∷ [])) ≡ count_stack (meant_kind k)
+    (stack_count (shape_in es))
 stacks-append es x k = ap stack_count (over-append [] es ((x, k) ∷ []))

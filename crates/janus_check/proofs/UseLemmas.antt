@@ -12,7 +12,8 @@ use Rattle.janus_syntax.specs.declared.token.Span.{Span}
 use Rattle.janus_check.specs.declared.fault.CheckFault.{CheckFault}
 use Rattle.janus_check.specs.declared.fault.CheckFault.TheVariants.{SelfUse}
 use Rattle.janus_check.specs.Names.{is_in}
-use Rattle.janus_check.specs.Check.{fault_if, same_kind, is_other, faults_of, use_faults, exp_faults, side_use_faults, side_faults, end_use_faults, shadow_faults}
+use Rattle.janus_check.specs.Check.{fault_if, same_kind, is_other, faults_of, use_faults, exp_faults, side_use_faults, side_faults, end_use_faults}
+use Rattle.janus_check.specs.Check.{shadow_faults}
 use Rattle.janus_check.proofs.NoFaults.{left_nil, right_nil, both_nil, no_fault, fault_if_false, not_false, none_out}
 
 -- ---- kinds and uses of names
@@ -40,11 +41,13 @@ kind_in None k u h = cc
 -- a use without faults is of a name in sight, of its kind
 pub use_formed : (g : Shape) (k : tree.Kind) (y : Name) → use_faults g k y ≡ [] → kind_at (text_of y) g ≡ Some k
 use_formed g k (named y at) h =
-    kind_in (kind_at y g) k (not_false (is_in y g) (no_fault (not (is_in y g)) _ (left_nil _ _ h))) (no_fault (is_other k (kind_at y g)) _ (right_nil (fault_if (not (is_in y g)) _) _ h))
+    kind_in (kind_at y g) k (not_false (is_in y g) (no_fault (not (is_in y g)) _ (left_nil _ _ h)))
+    (no_fault (is_other k (kind_at y g)) _ (right_nil (fault_if (not (is_in y g)) _) _ h))
 
 pub use_no_faults : (g : Shape) (k : tree.Kind) (y : Name) → kind_at (text_of y) g ≡ Some k → use_faults g k y ≡ []
 use_no_faults g k (named y at) h =
-    both_nil _ _ (fault_if_false (not (is_in y g)) _ (ap (λ c. not (is_some c)) h)) (fault_if_false (is_other k (kind_at y g)) _ (ap (is_other k) h ∙ ap not (same_kind_self k)))
+    both_nil _ _ (fault_if_false (not (is_in y g)) _ (ap (λ c. not (is_some c)) h))
+    (fault_if_false (is_other k (kind_at y g)) _ (ap (is_other k) h ∙ ap not (same_kind_self k)))
 
 -- ---- expressions
 
@@ -90,7 +93,8 @@ apart_formed : (g : Shape) (x : tree.Name) (k : tree.Kind) (y : Name) → side_u
 apart_formed g x k (named y at) h =
     without_other y x g (no_fault (same_name y x) _ (right_nil (use_faults g k (named y at)) _ h)) ∙ use_formed g k (named y at) (left_nil _ _ h)
 
-apart_by : (g : Shape) (x : tree.Name) (k : tree.Kind) (y : tree.Name) (at : Span) (b : Bool) → same_name y x ≡ b → kind_at y (without x g) ≡ Some k → side_use_faults g x k (named y at) ≡ []
+apart_by : (g : Shape) (x : tree.Name) (k : tree.Kind) (y : tree.Name) (at : Span) (b : Bool) → same_name y x ≡ b → kind_at y (without x g) ≡ Some k →
+    side_use_faults g x k (named y at) ≡ []
 apart_by g x k y at true s h =
     let bad : None ≡ Some k = sym (without_same x g) ∙ ap (λ z. kind_at z (without x g)) (sym (same_name_true y x s)) ∙ h in
     cc
@@ -109,14 +113,16 @@ pub side_no_faults : (g : Shape) (x : tree.Name) (e : Exp) → IsExp (without x 
 side_no_faults g x = names_no_faults (side_use_faults g x) (without x g) (side_uses g x)
 
 -- at an end of a local, whose name is out of sight
-end_formed_by : (g : Shape) (k : tree.Kind) (y : Name) (at : Span) (b : Bool) → (if b then SelfUse at ∷ [] else use_faults g k y) ≡ [] → kind_at (text_of y) g ≡ Some k
+end_formed_by : (g : Shape) (k : tree.Kind) (y : Name) (at : Span) (b : Bool) → (if b then SelfUse at ∷ [] else use_faults g k y) ≡ [] →
+    kind_at (text_of y) g ≡ Some k
 end_formed_by g k y at true h = cc
 end_formed_by g k y at false h = use_formed g k y h
 
 end_use_formed : (g : Shape) (x : tree.Name) (k : tree.Kind) (y : Name) → end_use_faults g x k y ≡ [] → kind_at (text_of y) g ≡ Some k
 end_use_formed g x k (named y at) h = end_formed_by g k (named y at) at (same_name y x) h
 
-end_by : (g : Shape) (x : tree.Name) (k : tree.Kind) (y : tree.Name) (at : Span) (b : Bool) → same_name y x ≡ b → kind_at x g ≡ None → kind_at y g ≡ Some k → end_use_faults g x k (named y at) ≡ []
+end_by : (g : Shape) (x : tree.Name) (k : tree.Kind) (y : tree.Name) (at : Span) (b : Bool) → same_name y x ≡ b → kind_at x g ≡ None → kind_at y g ≡ Some k →
+    end_use_faults g x k (named y at) ≡ []
 end_by g x k y at true s out h =
     let bad : None ≡ Some k = sym out ∙ ap (λ z. kind_at z g) (sym (same_name_true y x s)) ∙ h in
     cc

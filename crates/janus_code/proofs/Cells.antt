@@ -9,7 +9,8 @@ use Rattle.janus_syntax.specs.declared.tree.Name as code_name
 use Rattle.janus_syntax.specs.declared.tree.Exp as code_exp
 use Rattle.janus_syntax.specs.declared.tree.Stm as code_stm
 use Rattle.janus_syntax.proofs.Views.{view_if, view_loop, view_local_int, view_local_stack}
-use Rattle.janus_syntax.specs.Tree.{named, name_view, Stm, Skip, Assign, AssignElement, Push, Pop, Swap, If, Loop, LocalInt, LocalStack, Call, Uncall, Block, Empty, More, cell_of, exp_view, stm_view, block_view}
+use Rattle.janus_syntax.specs.Tree.{named, name_view, Stm, Skip, Assign, AssignElement, Push, Pop, Swap, If, Loop, LocalInt, LocalStack, Call, Uncall, Block}
+use Rattle.janus_syntax.specs.Tree.{Empty, More, cell_of, exp_view, stm_view, block_view}
 use Rattle.janus_code.specs.Cells.{opposite_of, inverse_stm, turned, InverseCellTwice}
 
 -- ---- twice is the identity
@@ -56,7 +57,8 @@ block_end [] r = refl
 block_end (x ∷ xs) r = ap (More (stm_view x)) (block_end xs r)
 
 -- the inverse of one more statement behind those that are inverted
-pub one_more : (b xs ys : List code_stm.Stm) (i : ℕ) (r d : code_stm.Stm) → 0 < i → i ≤ length b → block_view xs ≡ turned (block_view (drop i b)) Empty → stm_view r ≡ inverse_stm (stm_view (get_or b (i - 1) d)) → ys ≡ xs ++ r ∷ [] → block_view ys ≡ turned (block_view (drop (i - 1) b)) Empty
+pub one_more : (b xs ys : List code_stm.Stm) (i : ℕ) (r d : code_stm.Stm) → 0 < i → i ≤ length b → block_view xs ≡ turned (block_view (drop i b)) Empty →
+    stm_view r ≡ inverse_stm (stm_view (get_or b (i - 1) d)) → ys ≡ xs ++ r ∷ [] → block_view ys ≡ turned (block_view (drop (i - 1) b)) Empty
 one_more b xs ys i r d low le h e f =
     let lt : i - 1 < length b = omega arith in
     let up : suc (i - 1) ≡ i = omega arith in
@@ -103,24 +105,30 @@ inverse_block_is rs ss h = ap plain_block h ∙ turned_plain (block_view ss) Emp
 
 -- ---- statements with blocks, made from their vectors
 
-pub if_turned : (a b : code_exp.Exp) (v w x y : Vec code_stm.Stm Global) → block_view x.items ≡ turned (block_view v.items) Empty → block_view y.items ≡ turned (block_view w.items) Empty → If (exp_view b) (block_view x.items) (block_view y.items) (exp_view a) ≡ inverse_stm (stm_view (code_stm.If a v w b))
+pub if_turned : (a b : code_exp.Exp) (v w x y : Vec code_stm.Stm Global) → block_view x.items ≡ turned (block_view v.items) Empty →
+    block_view y.items ≡ turned (block_view w.items) Empty → If (exp_view b) (block_view x.items) (block_view y.items) (exp_view a) ≡ inverse_stm
+    (stm_view (code_stm.If a v w b))
 if_turned a b v w x y g h =
     ap (λ s. If (exp_view b) s (block_view y.items) (exp_view a)) g
     ∙ ap (λ s. If (exp_view b) (turned (block_view v.items) Empty) s (exp_view a)) h
     ∙ ap inverse_stm (sym (view_if a b v w))
 
-pub loop_turned : (a b : code_exp.Exp) (v w x y : Vec code_stm.Stm Global) → block_view x.items ≡ turned (block_view v.items) Empty → block_view y.items ≡ turned (block_view w.items) Empty → Loop (exp_view b) (block_view x.items) (block_view y.items) (exp_view a) ≡ inverse_stm (stm_view (code_stm.Loop a v w b))
+pub loop_turned : (a b : code_exp.Exp) (v w x y : Vec code_stm.Stm Global) → block_view x.items ≡ turned (block_view v.items) Empty →
+    block_view y.items ≡ turned (block_view w.items) Empty → Loop (exp_view b) (block_view x.items) (block_view y.items) (exp_view a) ≡ inverse_stm
+    (stm_view (code_stm.Loop a v w b))
 loop_turned a b v w x y g h =
     ap (λ s. Loop (exp_view b) s (block_view y.items) (exp_view a)) g
     ∙ ap (λ s. Loop (exp_view b) (turned (block_view v.items) Empty) s (exp_view a)) h
     ∙ ap inverse_stm (sym (view_loop a b v w))
 
-pub local_int_turned : (m n : code_name.Name) (a b : code_exp.Exp) (v w : Vec code_stm.Stm Global) → block_view w.items ≡ turned (block_view v.items) Empty → LocalInt (name_view m) (exp_view b) (block_view w.items) (name_view n) (exp_view a) ≡ inverse_stm (stm_view (code_stm.LocalInt m a v n b))
+pub local_int_turned : (m n : code_name.Name) (a b : code_exp.Exp) (v w : Vec code_stm.Stm Global) → block_view w.items ≡ turned (block_view v.items) Empty →
+    LocalInt (name_view m) (exp_view b) (block_view w.items) (name_view n) (exp_view a) ≡ inverse_stm (stm_view (code_stm.LocalInt m a v n b))
 local_int_turned m n a b v w g =
     ap (λ z. LocalInt (name_view m) (exp_view b) z (name_view n) (exp_view a)) g
     ∙ ap inverse_stm (sym (view_local_int m n a b v))
 
-pub local_stack_turned : (m n : code_name.Name) (v w : Vec code_stm.Stm Global) → block_view w.items ≡ turned (block_view v.items) Empty → LocalStack (name_view m) (block_view w.items) (name_view n) ≡ inverse_stm (stm_view (code_stm.LocalStack m v n))
+pub local_stack_turned : (m n : code_name.Name) (v w : Vec code_stm.Stm Global) → block_view w.items ≡ turned (block_view v.items) Empty →
+    LocalStack (name_view m) (block_view w.items) (name_view n) ≡ inverse_stm (stm_view (code_stm.LocalStack m v n))
 local_stack_turned m n v w g =
     ap (λ z. LocalStack (name_view m) z (name_view n)) g
     ∙ ap inverse_stm (sym (view_local_stack m n v))

@@ -16,7 +16,8 @@ closed_end Empty s = refl
 closed_end (More r b) s = ap (More (closed_stm r)) (closed_end b s)
 
 -- one more statement behind those that are closed
-pub one_more : (b xs ys : List code_stm.Stm) (i : ℕ) (r d : code_stm.Stm) → i < length b → block_view xs ≡ closed_block (block_view (take i b)) → stm_view r ≡ closed_stm (stm_view (get_or b i d)) → ys ≡ xs ++ r ∷ [] → block_view ys ≡ closed_block (block_view (take (i + 1) b))
+pub one_more : (b xs ys : List code_stm.Stm) (i : ℕ) (r d : code_stm.Stm) → i < length b → block_view xs ≡ closed_block (block_view (take i b)) →
+    stm_view r ≡ closed_stm (stm_view (get_or b i d)) → ys ≡ xs ++ r ∷ [] → block_view ys ≡ closed_block (block_view (take (i + 1) b))
 one_more b xs ys i r d lt h e f =
     ap block_view f ∙ block_end xs r ∙ ap (λ b. join b (stm_view r)) h
     ∙ ap (join (closed_block (block_view (take i b)))) e
@@ -26,24 +27,30 @@ one_more b xs ys i r d lt h e f =
 
 -- ---- statements with blocks, made from their vectors
 
-pub if_closed : (a b : code_exp.Exp) (v w x y : Vec code_stm.Stm Global) → block_view x.items ≡ closed_block (block_view v.items) → block_view y.items ≡ closed_block (block_view w.items) → If (exp_view a) (block_view x.items) (block_view y.items) (exp_view b) ≡ closed_stm (stm_view (code_stm.If a v w b))
+pub if_closed : (a b : code_exp.Exp) (v w x y : Vec code_stm.Stm Global) → block_view x.items ≡ closed_block (block_view v.items) →
+    block_view y.items ≡ closed_block (block_view w.items) → If (exp_view a) (block_view x.items) (block_view y.items) (exp_view b) ≡ closed_stm
+    (stm_view (code_stm.If a v w b))
 if_closed a b v w x y g h =
     ap (λ s. If (exp_view a) s (block_view y.items) (exp_view b)) g
     ∙ ap (λ s. If (exp_view a) (closed_block (block_view v.items)) s (exp_view b)) h
     ∙ ap closed_stm (sym (view_if a b v w))
 
-pub loop_closed : (a b : code_exp.Exp) (v w x y : Vec code_stm.Stm Global) → block_view x.items ≡ closed_block (block_view v.items) → block_view y.items ≡ closed_block (block_view w.items) → Loop (exp_view a) (block_view x.items) (block_view y.items) (exp_view b) ≡ closed_stm (stm_view (code_stm.Loop a v w b))
+pub loop_closed : (a b : code_exp.Exp) (v w x y : Vec code_stm.Stm Global) → block_view x.items ≡ closed_block (block_view v.items) →
+    block_view y.items ≡ closed_block (block_view w.items) → Loop (exp_view a) (block_view x.items) (block_view y.items) (exp_view b) ≡ closed_stm
+    (stm_view (code_stm.Loop a v w b))
 loop_closed a b v w x y g h =
     ap (λ s. Loop (exp_view a) s (block_view y.items) (exp_view b)) g
     ∙ ap (λ s. Loop (exp_view a) (closed_block (block_view v.items)) s (exp_view b)) h
     ∙ ap closed_stm (sym (view_loop a b v w))
 
-pub local_int_closed : (m n : code_name.Name) (a b : code_exp.Exp) (v w : Vec code_stm.Stm Global) → block_view w.items ≡ closed_block (block_view v.items) → LocalInt (name_view m) (exp_view a) (block_view w.items) (name_view m) (exp_view b) ≡ closed_stm (stm_view (code_stm.LocalInt m a v n b))
+pub local_int_closed : (m n : code_name.Name) (a b : code_exp.Exp) (v w : Vec code_stm.Stm Global) → block_view w.items ≡ closed_block (block_view v.items) →
+    LocalInt (name_view m) (exp_view a) (block_view w.items) (name_view m) (exp_view b) ≡ closed_stm (stm_view (code_stm.LocalInt m a v n b))
 local_int_closed m n a b v w g =
     ap (λ z. LocalInt (name_view m) (exp_view a) z (name_view m) (exp_view b)) g
     ∙ ap closed_stm (sym (view_local_int m n a b v))
 
-pub local_stack_closed : (m n : code_name.Name) (v w : Vec code_stm.Stm Global) → block_view w.items ≡ closed_block (block_view v.items) → LocalStack (name_view m) (block_view w.items) (name_view m) ≡ closed_stm (stm_view (code_stm.LocalStack m v n))
+pub local_stack_closed : (m n : code_name.Name) (v w : Vec code_stm.Stm Global) → block_view w.items ≡ closed_block (block_view v.items) →
+    LocalStack (name_view m) (block_view w.items) (name_view m) ≡ closed_stm (stm_view (code_stm.LocalStack m v n))
 local_stack_closed m n v w g =
     ap (λ z. LocalStack (name_view m) z (name_view m)) g
     ∙ ap closed_stm (sym (view_local_stack m n v))

@@ -10,7 +10,8 @@ pub numbers_more : (xs : List Name) (ys : List Symbol) (y : Symbol) → HaveThei
 numbers_more xs [] y h e = (e, tt)
 numbers_more xs (z ∷ ys) y h e = (h.0, numbers_more xs ys y h.1 e)
 
-pub parameters_more : (xs : List Name) (ys : List FlatParameter) (y : FlatParameter) → ParametersHaveNumbers xs ys → HasItsNumber xs y.name → ParametersHaveNumbers xs (ys ++ y ∷ [])
+pub parameters_more : (xs : List Name) (ys : List FlatParameter) (y : FlatParameter) → ParametersHaveNumbers xs ys → HasItsNumber xs y.name →
+    ParametersHaveNumbers xs (ys ++ y ∷ [])
 parameters_more xs [] y h e = (e, tt)
 parameters_more xs (z ∷ ys) y h e = (h.0, parameters_more xs ys y h.1 e)
 

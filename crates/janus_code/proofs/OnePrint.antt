@@ -8,10 +8,15 @@ use Rattle.janus_syntax.specs.declared.tree.Operator.{Operator}
 use Rattle.janus_syntax.specs.declared.tree.Operator.TheVariants as operator
 use Rattle.janus_syntax.specs.declared.tree.Update.{Update}
 use Rattle.janus_syntax.specs.declared.tree.Update.TheVariants as update
-use Rattle.janus_syntax.specs.Tree.{Name, named, Exp, Num, Var, Element, EmptyOf, TopOf, Neg, Bin, And, Or, Stm, Skip, Assign, AssignElement, Push, Pop, Swap, If, Loop, LocalInt, LocalStack, Call, Uncall, Block, Empty, More, Parameter, IntParameter, ArrayParameter, StackParameter, Procedure, procedure_of}
+use Rattle.janus_syntax.specs.Tree.{Name, named, Exp, Num, Var, Element, EmptyOf, TopOf, Neg, Bin, And, Or, Stm, Skip, Assign, AssignElement, Push, Pop, Swap}
+use Rattle.janus_syntax.specs.Tree.{If, Loop, LocalInt, LocalStack, Call, Uncall, Block, Empty, More, Parameter, IntParameter, ArrayParameter, StackParameter}
+use Rattle.janus_syntax.specs.Tree.{Procedure, procedure_of}
 use Rattle.janus_syntax.specs.View.{text_of, operator_of, update_of, plain_exp, plain_stm, plain_block, plain_parameter, plain_procedure}
 use Rattle.janus_syntax.specs.Operators.{weakest}
-use Rattle.janus_syntax.specs.Printing.{Piece, A_name, A_sign, A_keyword, A_minus, An_opening, with_pieces, no_text, operator_sign, sign_level, if_needed, infix_pieces, binding_pieces, more_names_pieces, names_pieces, call_pieces, exp_pieces, update_sign, whole_pieces, stm_pieces, block_pieces, parameter_pieces, more_parameters_pieces, parameters_pieces, procedure_pieces, printed_procedure}
+use Rattle.janus_syntax.specs.Printing.{Piece, A_name, A_sign, A_keyword, A_minus, An_opening, with_pieces, no_text, operator_sign, sign_level, if_needed}
+use Rattle.janus_syntax.specs.Printing.{infix_pieces, binding_pieces, more_names_pieces, names_pieces, call_pieces, exp_pieces, update_sign, whole_pieces}
+use Rattle.janus_syntax.specs.Printing.{stm_pieces, block_pieces, parameter_pieces, more_parameters_pieces, parameters_pieces, procedure_pieces}
+use Rattle.janus_syntax.specs.Printing.{printed_procedure}
 use Rattle.janus_code.specs.Closed.{closed_stm, closed_block, closed_procedure}
 use Rattle.janus_code.specs.ProcedureTrees.{name_tree, operator_tree, update_tree, exp_tree, stm_tree, block_tree, parameter_tree, procedure_tree}
 
@@ -42,7 +47,8 @@ same_update update.Xor = refl
 abbrev told_exp : Exp → ℕ → List Piece
 told_exp e = exp_pieces (exp_tree (plain_exp e))
 
-infix_same : (level : ℕ) (s : Sign) (f g h k : ℕ → List Piece) → ((n : ℕ) → f n ≡ g n) → ((n : ℕ) → h n ≡ k n) → infix_pieces level s f h ≡ infix_pieces level s g k
+infix_same : (level : ℕ) (s : Sign) (f g h k : ℕ → List Piece) → ((n : ℕ) → f n ≡ g n) → ((n : ℕ) → h n ≡ k n) →
+    infix_pieces level s f h ≡ infix_pieces level s g k
 infix_same level s f g h k e d =
     let weaker = nat_lt level (sign_level s) in
     ap (λ (ps : List Piece). if_needed weaker sign.Open ++ (ps ++ A_sign s ∷ (h (sign_level s - 1) ++ if_needed weaker sign.Close))) (e (sign_level s))
@@ -99,30 +105,40 @@ mutual
       ap (λ (o : Update). A_name x ∷ A_sign (update_sign o) ∷ whole_pieces e) (same_update u)
       ∙ ap (λ (ps : List Piece). A_name x ∷ A_sign (update_sign (update_tree (update_of u))) ∷ ps) (exp_same e weakest)
   stm_same (AssignElement (named x at) i u e) =
-      ap (λ (o : Update). A_name x ∷ A_sign sign.OpenIndex ∷ (whole_pieces i ++ A_sign sign.CloseIndex ∷ A_sign (update_sign o) ∷ whole_pieces e)) (same_update u)
-      ∙ ap (λ (ps : List Piece). A_name x ∷ A_sign sign.OpenIndex ∷ (ps ++ A_sign sign.CloseIndex ∷ A_sign (update_sign (update_tree (update_of u))) ∷ whole_pieces e)) (exp_same i weakest)
-      ∙ ap (λ (ps : List Piece). A_name x ∷ A_sign sign.OpenIndex ∷ (told_whole i ++ A_sign sign.CloseIndex ∷ A_sign (update_sign (update_tree (update_of u))) ∷ ps)) (exp_same e weakest)
+      ap (λ (o : Update). A_name x ∷ A_sign sign.OpenIndex ∷ (whole_pieces i ++ A_sign sign.CloseIndex ∷ A_sign (update_sign o) ∷ whole_pieces e))
+      (same_update u)
+      ∙ ap (λ (ps : List Piece). A_name x ∷ A_sign
+      sign.OpenIndex ∷ (ps ++ A_sign sign.CloseIndex ∷ A_sign (update_sign (update_tree (update_of u))) ∷ whole_pieces e)) (exp_same i weakest)
+      ∙ ap (λ (ps : List Piece). A_name x ∷ A_sign
+      sign.OpenIndex ∷ (told_whole i ++ A_sign sign.CloseIndex ∷ A_sign (update_sign (update_tree (update_of u))) ∷ ps)) (exp_same e weakest)
   stm_same (Push (named x at) (named y to)) = refl
   stm_same (Pop (named x at) (named y to)) = refl
   stm_same (Swap (named x at) (named y to)) = refl
   stm_same (If e s t f) =
-      four_same keyword.If keyword.Then keyword.Else keyword.Fi (whole_pieces e) (block_pieces (closed_block s)) (block_pieces (closed_block t)) (whole_pieces f) (told_whole e) (told_block s) (told_block t) (told_whole f)
+      four_same keyword.If keyword.Then keyword.Else keyword.Fi (whole_pieces e) (block_pieces (closed_block s)) (block_pieces (closed_block t))
+      (whole_pieces f) (told_whole e) (told_block s) (told_block t) (told_whole f)
       (exp_same e weakest) (block_same s) (block_same t) (exp_same f weakest)
   stm_same (Loop e s t f) =
-      four_same keyword.From keyword.Do keyword.Loop keyword.Until (whole_pieces e) (block_pieces (closed_block s)) (block_pieces (closed_block t)) (whole_pieces f) (told_whole e) (told_block s) (told_block t) (told_whole f)
+      four_same keyword.From keyword.Do keyword.Loop keyword.Until (whole_pieces e) (block_pieces (closed_block s)) (block_pieces (closed_block t))
+      (whole_pieces f) (told_whole e) (told_block s) (told_block t) (told_whole f)
       (exp_same e weakest) (block_same s) (block_same t) (exp_same f weakest)
   stm_same (LocalInt (named x at) e s y f) =
-      ap (λ (ps : List Piece). binding_pieces keyword.Local keyword.Int x ++ (ps ++ (block_pieces (closed_block s) ++ (binding_pieces keyword.Delocal keyword.Int x ++ whole_pieces f)))) (exp_same e weakest)
-      ∙ ap (λ (ps : List Piece). binding_pieces keyword.Local keyword.Int x ++ (told_whole e ++ (ps ++ (binding_pieces keyword.Delocal keyword.Int x ++ whole_pieces f)))) (block_same s)
-      ∙ ap (λ (ps : List Piece). binding_pieces keyword.Local keyword.Int x ++ (told_whole e ++ (told_block s ++ (binding_pieces keyword.Delocal keyword.Int x ++ ps)))) (exp_same f weakest)
+      ap (λ (ps : List Piece). binding_pieces keyword.Local keyword.Int
+      x ++ (ps ++ (block_pieces (closed_block s) ++ (binding_pieces keyword.Delocal keyword.Int x ++ whole_pieces f)))) (exp_same e weakest)
+      ∙ ap (λ (ps : List Piece). binding_pieces keyword.Local keyword.Int
+      x ++ (told_whole e ++ (ps ++ (binding_pieces keyword.Delocal keyword.Int x ++ whole_pieces f)))) (block_same s)
+      ∙ ap (λ (ps : List Piece). binding_pieces keyword.Local keyword.Int
+      x ++ (told_whole e ++ (told_block s ++ (binding_pieces keyword.Delocal keyword.Int x ++ ps)))) (exp_same f weakest)
   stm_same (LocalStack (named x at) s y) =
-      ap (λ (ps : List Piece). binding_pieces keyword.Local keyword.Stack x ++ A_keyword keyword.Nil ∷ (ps ++ (binding_pieces keyword.Delocal keyword.Stack x ++ A_keyword keyword.Nil ∷ []))) (block_same s)
+      ap (λ (ps : List Piece). binding_pieces keyword.Local keyword.Stack x ++ A_keyword
+      keyword.Nil ∷ (ps ++ (binding_pieces keyword.Delocal keyword.Stack x ++ A_keyword keyword.Nil ∷ []))) (block_same s)
   stm_same (Call (named f at) xs) = call_same keyword.Call f xs
   stm_same (Uncall (named f at) xs) = call_same keyword.Uncall f xs
 
   block_same : (b : Block) → block_pieces (closed_block b) ≡ told_block b
   block_same Empty = refl
-  block_same (More s b) = ap (λ (ps : List Piece). ps ++ block_pieces (closed_block b)) (stm_same s) ∙ ap (λ (ps : List Piece). stm_pieces (stm_tree (plain_stm s)) ++ ps) (block_same b)
+  block_same (More s b) = ap (λ (ps : List Piece). ps ++ block_pieces (closed_block b)) (stm_same s)
+      ∙ ap (λ (ps : List Piece). stm_pieces (stm_tree (plain_stm s)) ++ ps) (block_same b)
 
 -- ---- procedures
 
@@ -148,8 +164,10 @@ parameters_same (x ∷ xs) =
 
 procedure_same : (q : Procedure) → procedure_pieces (closed_procedure q) ≡ procedure_pieces (procedure_tree (plain_procedure q))
 procedure_same (procedure_of (named f at) xs b) =
-    ap (λ (ps : List Piece). A_keyword keyword.Procedure ∷ A_name f ∷ An_opening ∷ (ps ++ A_sign sign.Close ∷ block_pieces (closed_block b))) (parameters_same xs)
-    ∙ ap (λ (ps : List Piece). A_keyword keyword.Procedure ∷ A_name f ∷ An_opening ∷ (parameters_pieces (told_parameters xs) ++ A_sign sign.Close ∷ ps)) (block_same b)
+    ap (λ (ps : List Piece). A_keyword keyword.Procedure ∷ A_name f ∷ An_opening ∷ (ps ++ A_sign sign.Close ∷ block_pieces (closed_block b)))
+    (parameters_same xs)
+    ∙ ap (λ (ps : List Piece). A_keyword keyword.Procedure ∷ A_name f ∷ An_opening ∷ (parameters_pieces (told_parameters xs) ++ A_sign sign.Close ∷ ps))
+    (block_same b)
 
 -- a closed tree has the print of the tree of its procedure
 pub one_print : (q : Procedure) → printed_procedure (procedure_tree (plain_procedure q)) ≡ printed_procedure (closed_procedure q)

@@ -2,7 +2,8 @@
 use Rattle.std.proofs.Common.{◌≡◌, ℕ, zero, suc, ◌-◌, ◌≤◌, List, [], ◌∷◌, ◌++◌, length, get_or, refl, ap, ◌∙◌, arith, ⊎_elim, ◌⊎◌, inl, inr}
 use Rattle.std.specs.Prelude.{slice_get, Some}
 
-pub last_or_before : {T : Type 0} (ys : List T) (y r : T) (n : ℕ) → slice_get (ys ++ y ∷ []) n ≡ Some r → (slice_get ys n ≡ Some r) ⊎ ((n ≡ length ys) × (y ≡ r))
+pub last_or_before : {T : Type 0} (ys : List T) (y r : T) (n : ℕ) → slice_get (ys ++ y ∷ []) n ≡ Some r → (slice_get ys n ≡ Some r) ⊎
+    ((n ≡ length ys) × (y ≡ r))
 last_or_before [] y r zero e = inr (refl, cc)
 last_or_before [] y r (suc n) e = cc
 last_or_before (x ∷ ys) y r zero e = inl e

@@ -38,7 +38,8 @@ element_copy x b c k = record { tree = λ xs. ap (tree.At (symbol_name xs x)) (k
 pub negative_copy : (b c : Box FlatExp Global) → IsCopy b.value c.value → IsCopy (views.Negative b) (views.Negative c)
 negative_copy b c k = record { tree = λ xs. ap tree.Negate (k.tree xs); numbered = λ xs p. k.numbered xs p }
 
-pub binary_copy : (o : Operator) (a b c d : Box FlatExp Global) → IsCopy a.value c.value → IsCopy b.value d.value → IsCopy (views.Binary o a b) (views.Binary o c d)
+pub binary_copy : (o : Operator) (a b c d : Box FlatExp Global) → IsCopy a.value c.value → IsCopy b.value d.value →
+    IsCopy (views.Binary o a b) (views.Binary o c d)
 binary_copy o a b c d h k = record {
   tree = λ xs. ap (λ l. tree.Binary (operator_of o) l (exp_of xs d.value)) (h.tree xs) ∙ ap (tree.Binary (operator_of o) (exp_of xs a.value)) (k.tree xs);
   numbered = λ xs p. (h.numbered xs p.0, k.numbered xs p.1);

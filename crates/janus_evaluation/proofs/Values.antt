@@ -104,7 +104,8 @@ module _ (s : Store) where
   unfolding value
   binary_is o l r p h = ap (λ p. and_then p (λ a. and_then (value r s) (λ b. operate o a b))) h
 
-  pub binary_right : (o : Operator) (l r : Exp) (a : ℤ) (q : Res ℤ) → value l s ≡ Fine a → value r s ≡ q → value (Binary o l r) s ≡ and_then q (λ b. operate o a b)
+  pub binary_right : (o : Operator) (l r : Exp) (a : ℤ) (q : Res ℤ) → value l s ≡ Fine a → value r s ≡ q →
+      value (Binary o l r) s ≡ and_then q (λ b. operate o a b)
   binary_right o l r a q h k = binary_is o l r (Fine a) h ∙ ap (λ q. and_then q (λ b. operate o a b)) k
 
   pub and_is : (l r : Exp) (p : Res ℤ) → value l s ≡ p → value (And l r) s ≡ and_then p (λ a. both (nonzero a) (value r s))

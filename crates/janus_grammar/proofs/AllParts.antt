@@ -3,17 +3,22 @@ use Rattle.std.proofs.Common.{◌≡◌, List, ◌∷◌, Some, Bool, true, fals
 use Rattle.janus_syntax.specs.Tokens.{Token}
 use Rattle.janus_syntax.specs.Tree.{More}
 use Rattle.janus_syntax.specs.Operators.{weakest, operator_at}
-use Rattle.janus_syntax.specs.Forms.{Part, A_cell, Declarations, Bound, Procedures, A_procedure, Parameters, More_parameters, A_parameter, Brackets, Body, Statements, Else_part, Do_part, Loop_part, Local, Names, More_names, Swap_partner, Target_index, Whole, Level, Chain, Index, Tree, agrees, Form, done, part, Rule}
+use Rattle.janus_syntax.specs.Forms.{Part, A_cell, Declarations, Bound, Procedures, A_procedure, Parameters, More_parameters, A_parameter, Brackets, Body}
+use Rattle.janus_syntax.specs.Forms.{Statements, Else_part, Do_part, Loop_part, Local, Names, More_names, Swap_partner, Target_index, Whole, Level, Chain}
+use Rattle.janus_syntax.specs.Forms.{Index, Tree, agrees, Form, done, part, Rule}
 use Rattle.janus_syntax.specs.Table.{rule, operand, chains}
 use Rattle.janus_syntax.specs.Grammar
 use Rattle.janus_syntax.specs.Grammar.{Count, Demands, met, Spells}
 use Rattle.janus_syntax.proofs.Agreed.{is_agreed}
 use Rattle.janus_grammar.specs.Derivation.{AreDeclarations, IsParameter, AreParameters}
-use Rattle.janus_grammar.proofs.Table.{Derived, Means, left_out_derived, level_derived, whole_derived, chain_derived, statement_derived, row_derived, none_or_more, bound_derived, declaration_derived, partner_derived, target_derived, index_derived, else_derived, do_derived, loop_part_derived, local_derived, names_derived, more_names_derived}
+use Rattle.janus_grammar.proofs.Table.{Derived, Means, left_out_derived, level_derived, whole_derived, chain_derived, statement_derived, row_derived}
+use Rattle.janus_grammar.proofs.Table.{none_or_more, bound_derived, declaration_derived, partner_derived, target_derived, index_derived, else_derived}
+use Rattle.janus_grammar.proofs.Table.{do_derived, loop_part_derived, local_derived, names_derived, more_names_derived}
 use Rattle.janus_grammar.proofs.ProcedureTable.{procedures_derived, procedure_derived, parameter_derived, more_parameters_derived, brackets_derived}
 
 -- a part behind its first token
-rule_derived : (q : Part) (t : Token) (r : Rule q) (u : Tree q) (from rest : List Token) → rule q t ≡ Some r → Means r.form u from rest → Derived q u (t ∷ from) rest
+rule_derived : (q : Part) (t : Token) (r : Rule q) (u : Tree q) (from rest : List Token) → rule q t ≡ Some r → Means r.form u from rest →
+    Derived q u (t ∷ from) rest
 rule_derived A_cell t r u from rest is h = absurd cc
 rule_derived Declarations t r u from rest is h =
     let (d, m1, a, h1) = declaration_derived t (λ d. part Declarations (λ ds. done (d ∷ ds))) r u from rest is h in
@@ -63,9 +68,12 @@ demanded true x e h = h
 demanded false x e h = absurd cc
 
 -- where it is demanded that `delocal` agrees with its `local`
-pub means : {d : Demands} {p : Part} {f : Form p} {v : Tree p} {m m' : Count} {from rest : List Token} → d.agreement ≡ true → Spells d p f v m from m' rest → Means f v from rest
+pub means : {d : Demands} {p : Part} {f : Form p} {v : Tree p} {m m' : Count} {from rest : List Token} → d.agreement ≡ true → Spells d p f v m from m' rest →
+    Means f v from rest
 means a Grammar.nothing_more = (refl, refl)
-means {d} a (Grammar.token {c = c} {s = s} {t = t} {from = from} is ok more) = (t, s, from, refl, is_agreed c t s is (demanded d.agreement (agrees c s) a ok), means a more)
+means {d} a (Grammar.token {c = c} {s = s} {t = t} {from = from} is ok more) =
+    (t, s, from, refl, is_agreed c t s is (demanded d.agreement (agrees c s) a ok), means a more)
 means a (Grammar.end_of_construct more) = means a more
-means a (Grammar.a_part {q = q} {r = r} {u = u} {t = t} {from = from} {middle = middle} is ok inner more) = (u, middle, rule_derived q t r u from middle is (means a inner), means a more)
+means a (Grammar.a_part {q = q} {r = r} {u = u} {t = t} {from = from} {middle = middle} is ok inner more) =
+    (u, middle, rule_derived q t r u from middle is (means a inner), means a more)
 means a (Grammar.no_part {q = q} {u = u} {from = from} is more) = (u, from, left_out_derived q u from is, means a more)

@@ -7,7 +7,8 @@ use Rattle.janus_code.proofs.Pairs.{last_or_before}
 abbrev pub ArePairs : {S T : Type 0} → (S → T → Type 0) → List S → List T → Type 0
 ArePairs {S} {T} R xs ys = (n : ℕ) (x : S) (y : T) → slice_get xs n ≡ Some x → slice_get ys n ≡ Some y → R x y
 
-pub pairs_more : {S T : Type 0} (R : S → T → Type 0) (xs : List S) (ys : List T) (x : S) (y : T) → ArePairs R xs ys → slice_get xs (length ys) ≡ Some x → R x y → ArePairs R xs (ys ++ y ∷ [])
+pub pairs_more : {S T : Type 0} (R : S → T → Type 0) (xs : List S) (ys : List T) (x : S) (y : T) → ArePairs R xs ys → slice_get xs (length ys) ≡ Some x →
+    R x y → ArePairs R xs (ys ++ y ∷ [])
 pairs_more R xs ys x y h at here n s r e f =
     ⊎_elim
     (λ (g : slice_get ys n ≡ Some r). h n s r e g)

@@ -16,7 +16,8 @@ same_at xs x y same at = subst (HasItsNumber xs) (sym same) at
 all_same_at : (xs : List Name) (ys zs : List Symbol) → zs ≡ ys → HaveTheirNumbers xs ys → HaveTheirNumbers xs zs
 all_same_at xs ys zs same at = subst (HaveTheirNumbers xs) (sym same) at
 
-statement_turned : (members others : List ℕ) (xs : List Name) (s r : Statement) → IsInverse members others s r → StatementHasNumbers xs s → StatementHasNumbers xs r
+statement_turned : (members others : List ℕ) (xs : List Name) (s r : Statement) → IsInverse members others s r → StatementHasNumbers xs s →
+    StatementHasNumbers xs r
 statement_turned members others xs Skip Skip v p = tt
 statement_turned members others xs (Assign x u e) (Assign y w f) v p = (same_at xs x y v.0 p.0, v.2.numbered xs p.1)
 statement_turned members others xs (AssignElement x i u e) (AssignElement y j w f) v p = (same_at xs x y v.0 p.0, v.1.numbered xs p.1, v.3.numbered xs p.2)
@@ -31,7 +32,8 @@ statement_turned members others xs (Call f ys) (Uncall g zs) v p = (same_at xs f
 statement_turned members others xs (Uncall f ys) (Call g zs) v p = (same_at xs f g v.0 p.0, all_same_at xs ys.items zs.items v.1 p.1)
 statement_turned members others xs _ _ v p = absurd v
 
-pub all_turned : (members : List ℕ) (ss : List Statement) (body : Block) (others : List ℕ) (rs : List Statement) (back : Block) → AreInverse members ss body others rs back → (xs : List Name) → HaveNumbers xs ss → HaveNumbers xs rs
+pub all_turned : (members : List ℕ) (ss : List Statement) (body : Block) (others : List ℕ) (rs : List Statement) (back : Block) →
+    AreInverse members ss body others rs back → (xs : List Name) → HaveNumbers xs ss → HaveNumbers xs rs
 all_turned members ss body others rs back v xs p n r e =
     let lt : n < length ss = omega (arith, slice_get_within rs n r e, v.as_many) in
     let s = get_or ss n r in

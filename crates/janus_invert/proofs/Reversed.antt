@@ -22,7 +22,9 @@ use Rattle.janus_code.proofs.Trees.{tree_of}
 -- ---- blocks
 
 -- the first n members of the block c are the last n of b, the last one first
-row_turned : (t u : ℕ → tree.Stm) (members others : List ℕ) (b c : Block) → b.start ≤ b.end → IsBackward members others b c → ((i : ℕ) → b.start ≤ i → i < b.end → u (get_or members i 0) ≡ tree.inverse (t (get_or members i 0))) → (n k : ℕ) (done : tree.Blk) → n + k ≡ b.end - b.start → done ≡ ahead u others (c.start + k) n → tree.turn (ahead t members (b.start + n) k) done ≡ ahead u others c.start (n + k)
+row_turned : (t u : ℕ → tree.Stm) (members others : List ℕ) (b c : Block) → b.start ≤ b.end → IsBackward members others b c →
+    ((i : ℕ) → b.start ≤ i → i < b.end → u (get_or members i 0) ≡ tree.inverse (t (get_or members i 0))) → (n k : ℕ) (done : tree.Blk) →
+    n + k ≡ b.end - b.start → done ≡ ahead u others (c.start + k) n → tree.turn (ahead t members (b.start + n) k) done ≡ ahead u others c.start (n + k)
 row_turned t u members others b c o v inv n zero done e h =
     let z : c.start + 0 ≡ c.start = omega arith in
     let y : n ≡ n + 0 = omega arith in
@@ -42,13 +44,15 @@ row_turned t u members others b c o v inv n (suc k) done e h =
     ∙ row_turned t u members others b c o v inv (suc n) k (tree.Cons (tree.inverse (t (get_or members at 0))) done) (omega (arith, e)) more
     ∙ ap (ahead u others c.start) y
 
-block_turned : (t u : ℕ → tree.Stm) (members others : List ℕ) (m : ℕ) (b c : Block) → IsBelow members m b → IsBackward members others b c → ((j : ℕ) → j < m → u j ≡ tree.inverse (t j)) → block_at u others c ≡ tree.inverse_block (block_at t members b)
+block_turned : (t u : ℕ → tree.Stm) (members others : List ℕ) (m : ℕ) (b c : Block) → IsBelow members m b → IsBackward members others b c →
+    ((j : ℕ) → j < m → u j ≡ tree.inverse (t j)) → block_at u others c ≡ tree.inverse_block (block_at t members b)
 block_turned t u members others m b c below v inv =
     let o : b.start ≤ b.end = below.order in
     let z : b.start + 0 ≡ b.start = omega arith in
     let y : c.end - c.start ≡ 0 + (b.end - b.start) = omega (arith, v.as_many) in
     ap (ahead u others c.start) y
-    ∙ sym (row_turned t u members others b c o v (λ i low high. inv (get_or members i 0) (below.below i low high)) 0 (b.end - b.start) tree.Nil (omega arith) refl)
+    ∙ sym (row_turned t u members others b c o v (λ i low high. inv (get_or members i 0) (below.below i low high)) 0 (b.end - b.start) tree.Nil (omega arith)
+    refl)
     ∙ ap (λ i. tree.inverse_block (ahead t members i (b.end - b.start))) z
 
 -- ---- statements
@@ -71,9 +75,12 @@ module _ (xs : List Name) (t u : ℕ → tree.Stm) (members others : List ℕ) (
       ∙ ap (λ z. tree.SetAt (symbol_name xs x) z (update_of p) (exp_of xs f)) (h.1.tree xs)
       ∙ ap (λ q. tree.SetAt (symbol_name xs x) (exp_of xs i) q (exp_of xs f)) (opposite_sign o p h.2)
       ∙ ap (tree.SetAt (symbol_name xs x) (exp_of xs i) (opposite (update_of o))) (h.3.tree xs)
-  built_turned (Push x y) (Pop v w) b h = ap (λ z. tree.Pop z (symbol_name xs w)) (ap (symbol_name xs) h.0) ∙ ap (tree.Pop (symbol_name xs x)) (ap (symbol_name xs) h.1)
-  built_turned (Pop x y) (Push v w) b h = ap (λ z. tree.Push z (symbol_name xs w)) (ap (symbol_name xs) h.0) ∙ ap (tree.Push (symbol_name xs x)) (ap (symbol_name xs) h.1)
-  built_turned (Swap x y) (Swap v w) b h = ap (λ z. tree.Swap z (symbol_name xs w)) (ap (symbol_name xs) h.0) ∙ ap (tree.Swap (symbol_name xs x)) (ap (symbol_name xs) h.1)
+  built_turned (Push x y) (Pop v w) b h = ap (λ z. tree.Pop z (symbol_name xs w)) (ap (symbol_name xs) h.0)
+      ∙ ap (tree.Pop (symbol_name xs x)) (ap (symbol_name xs) h.1)
+  built_turned (Pop x y) (Push v w) b h = ap (λ z. tree.Push z (symbol_name xs w)) (ap (symbol_name xs) h.0)
+      ∙ ap (tree.Push (symbol_name xs x)) (ap (symbol_name xs) h.1)
+  built_turned (Swap x y) (Swap v w) b h = ap (λ z. tree.Swap z (symbol_name xs w)) (ap (symbol_name xs) h.0)
+      ∙ ap (tree.Swap (symbol_name xs x)) (ap (symbol_name xs) h.1)
   built_turned (If a p q c) (If d r s e) b h =
       ap (λ z. tree.If z (block_at u others r) (block_at u others s) (exp_of xs e)) (h.0.tree xs)
       ∙ ap (λ z. tree.If (exp_of xs c) z (block_at u others s) (exp_of xs e)) (block_turned t u members others m p r b.0 h.1 inv)
@@ -92,13 +99,16 @@ module _ (xs : List Name) (t u : ℕ → tree.Stm) (members others : List ℕ) (
   built_turned (LocalStack x p) (LocalStack y r) b h =
       ap (λ z. tree.LocalStack z (block_at u others r)) (ap (symbol_name xs) h.0)
       ∙ ap (tree.LocalStack (symbol_name xs x)) (block_turned t u members others m p r b h.1 inv)
-  built_turned (Call f ys) (Uncall g zs) b h = ap (λ z. tree.Uncall z (names_in xs zs.items)) (ap (symbol_name xs) h.0) ∙ ap (tree.Uncall (symbol_name xs f)) (ap (names_in xs) h.1)
-  built_turned (Uncall f ys) (Call g zs) b h = ap (λ z. tree.Call z (names_in xs zs.items)) (ap (symbol_name xs) h.0) ∙ ap (tree.Call (symbol_name xs f)) (ap (names_in xs) h.1)
+  built_turned (Call f ys) (Uncall g zs) b h = ap (λ z. tree.Uncall z (names_in xs zs.items)) (ap (symbol_name xs) h.0)
+      ∙ ap (tree.Uncall (symbol_name xs f)) (ap (names_in xs) h.1)
+  built_turned (Uncall f ys) (Call g zs) b h = ap (λ z. tree.Call z (names_in xs zs.items)) (ap (symbol_name xs) h.0)
+      ∙ ap (tree.Call (symbol_name xs f)) (ap (names_in xs) h.1)
   built_turned _ _ b h = absurd h
 
 -- ---- code
 
-module _ (xs : List Name) (members : List ℕ) (statements : List Statement) (body : Block) (others : List ℕ) (inverses : List Statement) (back : Block) (d : AreBelow members statements) (e : AreBelow others inverses) (v : AreInverse members statements body others inverses back) where
+module _ (xs : List Name) (members : List ℕ) (statements : List Statement) (body : Block) (others : List ℕ) (inverses : List Statement) (back : Block)
+    (d : AreBelow members statements) (e : AreBelow others inverses) (v : AreInverse members statements body others inverses back) where
   turned_up_to : (n : ℕ) → n ≤ length statements → (m : ℕ) → m < n → tree_at xs others inverses m ≡ tree.inverse (tree_at xs members statements m)
   turned_up_to zero h m lt = absurd (omega arith)
   turned_up_to (suc n) h m lt =
@@ -112,14 +122,16 @@ module _ (xs : List Name) (members : List ℕ) (statements : List Statement) (bo
       let r = get_or inverses m s in
       let there : slice_get inverses m ≡ Some r = slice_get-get_or inverses m s (omega (arith, v.as_many)) in
       tree_of xs others inverses m r e there
-      ∙ built_turned xs (tree_at xs members statements) (tree_at xs others inverses) members others m (λ j low. before j (omega arith)) s r (d m s p.2) (v.inverse m s r p.2 there)
+      ∙ built_turned xs (tree_at xs members statements) (tree_at xs others inverses) members others m (λ j low. before j (omega arith)) s r (d m s p.2)
+      (v.inverse m s r p.2 there)
       ∙ ap tree.inverse (sym (tree_of xs members statements m s d p.2)))
       (λ (p : (length statements ≤ m) × (slice_get statements m ≡ None)). let q : length statements ≤ m = p.0 in absurd (omega arith))
       (slice_get_cases statements m).1)
       (cases_lt m n)
 
   -- the whole block
-  pub body_turned : IsBelow members (length statements) body → block_at (tree_at xs others inverses) others back ≡ tree.inverse_block (block_at (tree_at xs members statements) members body)
+  pub body_turned : IsBelow members (length statements) body → block_at (tree_at xs others inverses) others back ≡ tree.inverse_block
+      (block_at (tree_at xs members statements) members body)
   body_turned b =
       block_turned (tree_at xs members statements) (tree_at xs others inverses) members others (length statements) body back b v.whole
       (λ j lt. turned_up_to (length statements) (omega arith) j lt)
@@ -178,8 +190,10 @@ inverse_longer members others more (AssignElement x i o e) (AssignElement y j p 
 inverse_longer members others more (Push x y) (Pop v w) l h = h
 inverse_longer members others more (Pop x y) (Push v w) l h = h
 inverse_longer members others more (Swap x y) (Swap v w) l h = h
-inverse_longer members others more (If a p q c) (If d r s e) l h = (h.0, backward_longer members others more p r l h.1, backward_longer members others more q s l h.2, h.3)
-inverse_longer members others more (Loop a p q c) (Loop d r s e) l h = (h.0, backward_longer members others more p r l h.1, backward_longer members others more q s l h.2, h.3)
+inverse_longer members others more (If a p q c) (If d r s e) l h =
+    (h.0, backward_longer members others more p r l h.1, backward_longer members others more q s l h.2, h.3)
+inverse_longer members others more (Loop a p q c) (Loop d r s e) l h =
+    (h.0, backward_longer members others more p r l h.1, backward_longer members others more q s l h.2, h.3)
 inverse_longer members others more (LocalInt x a p c) (LocalInt y d r e) l h = (h.0, h.1, backward_longer members others more p r l h.2, h.3)
 inverse_longer members others more (LocalStack x p) (LocalStack y r) l h = (h.0, backward_longer members others more p r l h.1)
 inverse_longer members others more (Call f xs) (Uncall g ys) l h = h
@@ -188,11 +202,17 @@ inverse_longer members others more _ _ l h = absurd h
 
 -- ---- what the loop over all statements has made, and the whole block behind it
 
-module _ (members : List ℕ) (statements : List Statement) (body : Block) (others more : List ℕ) (inverses : List Statement) (back : Block) (as_many : length inverses ≡ length statements) (pairs : (n : ℕ) (s r : Statement) → slice_get statements n ≡ Some s → slice_get inverses n ≡ Some r → IsInverse members others s r) (longer : IsLonger others more) (whole : IsBackward members more body back) where
+module _ (members : List ℕ) (statements : List Statement) (body : Block) (others more : List ℕ) (inverses : List Statement) (back : Block)
+    (as_many : length inverses ≡ length statements)
+    (pairs : (n : ℕ) (s r : Statement) → slice_get statements n ≡ Some s → slice_get inverses n ≡ Some r → IsInverse members others s r)
+    (longer : IsLonger others more) (whole : IsBackward members more body back) where
   pub are_inverse : AreInverse members statements body more inverses back
   are_inverse = record { as_many = as_many; inverse = λ n s r e f. inverse_longer members others more s r longer (pairs n s r e f); whole = whole }
 
-pub inverse_downward : (members : List ℕ) (statements : List Statement) (body : Block) (others more : List ℕ) (inverses : List Statement) (back : Block) → IsDownward members statements body → length inverses ≡ length statements → ((n : ℕ) (s r : Statement) → slice_get statements n ≡ Some s → slice_get inverses n ≡ Some r → IsInverse members others s r) → IsLonger others more → IsBackward members more body back → IsDownward more inverses back
+pub inverse_downward : (members : List ℕ) (statements : List Statement) (body : Block) (others more : List ℕ) (inverses : List Statement) (back : Block) →
+    IsDownward members statements body → length inverses ≡ length statements →
+    ((n : ℕ) (s r : Statement) → slice_get statements n ≡ Some s → slice_get inverses n ≡ Some r → IsInverse members others s r) → IsLonger others more →
+    IsBackward members more body back → IsDownward more inverses back
 inverse_downward members statements body others more inverses back d as_many pairs longer whole = record {
   each = λ n r e.
       let lt : n < length statements = omega (arith, slice_get_within inverses n r e, as_many) in

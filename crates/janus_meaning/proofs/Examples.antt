@@ -3,9 +3,11 @@ use Rattle.std.proofs.Common.{◌≡◌, ℕ, zero, suc, List, [], ◌∷◌, re
 use Rattle.std.specs.Prelude.{ℤ, pos, negsuc}
 use Rattle.std.specs.Int.{int_wrap}
 use Rattle.janus_meaning.specs.Outside.{outside, under}
-use Rattle.janus_meaning.specs.Fault.{Fault, Fine, Bad, FiAssertion, EntryAssertion, LoopAssertion, DelocalMismatch, PopNotZero, PopEmpty, TopEmpty, DivisionByZero, IndexRange, StackFull, TooDeep, TooManyStacks, Broken}
+use Rattle.janus_meaning.specs.Fault.{Fault, Fine, Bad, FiAssertion, EntryAssertion, LoopAssertion, DelocalMismatch, PopNotZero, PopEmpty, TopEmpty}
+use Rattle.janus_meaning.specs.Fault.{DivisionByZero, IndexRange, StackFull, TooDeep, TooManyStacks, Broken}
 use Rattle.janus_meaning.specs.Word.{Plus, Flip, Add', Sub', Div', Rem', And', Or', More', AtMost', AtLeast', Same', Differ', wrap, changed}
-use Rattle.janus_meaning.specs.Syntax.{Name, Exp, Number, Var, Top, Negate, Binary, And, Or, Stm, Blk, Nil, Cons, Skip, Set, SetAt, Push, Pop, Swap, If, From, LocalInt, LocalStack, Call, Proc, ANumber, AStack, inverse_block}
+use Rattle.janus_meaning.specs.Syntax.{Name, Exp, Number, Var, Top, Negate, Binary, And, Or, Stm, Blk, Nil, Cons, Skip, Set, SetAt, Push, Pop, Swap, If, From}
+use Rattle.janus_meaning.specs.Syntax.{LocalInt, LocalStack, Call, Proc, ANumber, AStack, inverse_block}
 use Rattle.janus_meaning.specs.Store.{Store, Bare, Slot, Num, Arr, Stk}
 use Rattle.janus_meaning.specs.Limit.{frame_limit, parts}
 use Rattle.janus_meaning.specs.Value.{value}
@@ -23,7 +25,8 @@ Ends ps b s n r = steps (outside ps frame_limit (stacks_in s) 0) n (BeforeBlock 
 
 -- after j steps the next one meets the fault
 abbrev pub Stops : List Proc → Blk → Store → ℕ → Fault → Type 0
-Stops ps b s j f = (p : Place) × (r : Store) × (steps (outside ps frame_limit (stacks_in s) 0) j (BeforeBlock b []) s ≡ To p r) × (step (outside ps frame_limit (stacks_in s) 0) p r ≡ Halt f)
+Stops ps b s j f = (p : Place) × (r : Store) × (steps (outside ps frame_limit (stacks_in s) 0) j (BeforeBlock b []) s ≡ To p r) ×
+    (step (outside ps frame_limit (stacks_in s) 0) p r ≡ Halt f)
 
 -- after j steps the store shown is r
 abbrev pub Shows : List Proc → Blk → Store → ℕ → Store → Type 0
@@ -88,7 +91,8 @@ unfolding value wrap changed int_wrap
 flips = refl
 
 -- x += (-2147483647 - 1) / -1 is the least number again
-least_divided : Ends [] (one (Set x Plus (Binary Div' (Binary Sub' (Negate (num 2147483647)) (num 1)) (Negate (num 1))))) (x_is (pos 0)) 3 (x_is (negsuc 2147483647))
+least_divided : Ends [] (one (Set x Plus (Binary Div' (Binary Sub' (Negate (num 2147483647)) (num 1)) (Negate (num 1))))) (x_is (pos 0)) 3
+    (x_is (negsuc 2147483647))
 unfolding value wrap changed int_wrap
 least_divided = refl
 
@@ -103,7 +107,8 @@ unfolding value wrap int_wrap
 truncates = (refl, refl)
 
 -- relations give 0 or 1
-relates : (value (Binary More' (num 2) (num 1)) Bare ≡ Fine (pos 1)) × (value (Binary AtMost' (num 2) (num 1)) Bare ≡ Fine (pos 0)) × (value (Binary AtLeast' (num 2) (num 2)) Bare ≡ Fine (pos 1)) × (value (Binary Differ' (num 2) (num 2)) Bare ≡ Fine (pos 0))
+relates : (value (Binary More' (num 2) (num 1)) Bare ≡ Fine (pos 1)) × (value (Binary AtMost' (num 2) (num 1)) Bare ≡ Fine (pos 0)) ×
+    (value (Binary AtLeast' (num 2) (num 2)) Bare ≡ Fine (pos 1)) × (value (Binary Differ' (num 2) (num 2)) Bare ≡ Fine (pos 0))
 unfolding value wrap int_wrap
 relates = (refl, refl, refl, refl)
 
@@ -149,12 +154,14 @@ before_the_start = (_, _, refl, refl)
 -- ---- if
 
 -- x += 3 if x = 3 then x += 1 else skip fi x = 3: the test after fi is false
-fi_fails : Stops [] (two (Set x Plus (num 3)) (If (Binary Same' (Var x) (num 3)) (one (Set x Plus (num 1))) (one Skip) (Binary Same' (Var x) (num 3)))) (x_is (pos 0)) 7 FiAssertion
+fi_fails : Stops [] (two (Set x Plus (num 3)) (If (Binary Same' (Var x) (num 3)) (one (Set x Plus (num 1))) (one Skip) (Binary Same' (Var x) (num 3))))
+    (x_is (pos 0)) 7 FiAssertion
 unfolding value wrap changed int_wrap
 fi_fails = (_, _, refl, refl)
 
 -- with fi x = 4 it ends
-fi_holds : Ends [] (two (Set x Plus (num 3)) (If (Binary Same' (Var x) (num 3)) (one (Set x Plus (num 1))) (one Skip) (Binary Same' (Var x) (num 4)))) (x_is (pos 0)) 9 (x_is (pos 4))
+fi_holds : Ends [] (two (Set x Plus (num 3)) (If (Binary Same' (Var x) (num 3)) (one (Set x Plus (num 1))) (one Skip) (Binary Same' (Var x) (num 4))))
+    (x_is (pos 0)) 9 (x_is (pos 4))
 unfolding value wrap changed int_wrap
 fi_holds = refl
 
@@ -240,11 +247,14 @@ abbrev through_a_local : Proc
 through_a_local = record { name = f; params = (x, ANumber) ∷ []; body = one (LocalStack y (two (Push x y) (Pop x y))) }
 
 -- what the caller's stack holds is in the pool while the call runs
-full_in_a_call : (p : Place) × (r : Store) × (steps (outside (through_a_local ∷ []) frame_limit 2 262143) 5 (BeforeBlock (one (Call f (x ∷ []))) []) (xs_is (pos 1) (pos 7 ∷ [])) ≡ To p r) × (step (outside (through_a_local ∷ []) frame_limit 2 262143) p r ≡ Halt StackFull)
+full_in_a_call : (p : Place) × (r : Store) ×
+    (steps (outside (through_a_local ∷ []) frame_limit 2 262143) 5 (BeforeBlock (one (Call f (x ∷ []))) []) (xs_is (pos 1) (pos 7 ∷ [])) ≡ To p r) ×
+    (step (outside (through_a_local ∷ []) frame_limit 2 262143) p r ≡ Halt StackFull)
 unfolding value_room stack_room
 full_in_a_call = (_, _, refl, refl)
 
-room_in_a_call : steps (outside (through_a_local ∷ []) frame_limit 2 262142) 13 (BeforeBlock (one (Call f (x ∷ []))) []) (xs_is (pos 1) (pos 7 ∷ [])) ≡ To (AfterBlock (one (Call f (x ∷ []))) []) (xs_is (pos 1) (pos 7 ∷ []))
+room_in_a_call : steps (outside (through_a_local ∷ []) frame_limit 2 262142) 13 (BeforeBlock (one (Call f (x ∷ []))) []) (xs_is (pos 1) (pos 7 ∷ [])) ≡ To
+    (AfterBlock (one (Call f (x ∷ []))) []) (xs_is (pos 1) (pos 7 ∷ []))
 unfolding value_room stack_room
 room_in_a_call = refl
 
@@ -253,11 +263,14 @@ abbrev onto_a_parameter : Proc
 onto_a_parameter = record { name = f; params = (x, ANumber) ∷ (y, AStack) ∷ []; body = one (Push x y) }
 
 -- a stack that is lent to a call counts there, and not with its caller too
-full_in_a_parameter : (p : Place) × (r : Store) × (steps (outside (onto_a_parameter ∷ []) frame_limit 2 262143) 3 (BeforeBlock (one (Call f (x ∷ y ∷ []))) []) (xs_is (pos 1) (pos 7 ∷ [])) ≡ To p r) × (step (outside (onto_a_parameter ∷ []) frame_limit 2 262143) p r ≡ Halt StackFull)
+full_in_a_parameter : (p : Place) × (r : Store) ×
+    (steps (outside (onto_a_parameter ∷ []) frame_limit 2 262143) 3 (BeforeBlock (one (Call f (x ∷ y ∷ []))) []) (xs_is (pos 1) (pos 7 ∷ [])) ≡ To p r) ×
+    (step (outside (onto_a_parameter ∷ []) frame_limit 2 262143) p r ≡ Halt StackFull)
 unfolding value_room
 full_in_a_parameter = (_, _, refl, refl)
 
-room_in_a_parameter : steps (outside (onto_a_parameter ∷ []) frame_limit 2 262142) 7 (BeforeBlock (one (Call f (x ∷ y ∷ []))) []) (xs_is (pos 1) (pos 7 ∷ [])) ≡ To (AfterBlock (one (Call f (x ∷ y ∷ []))) []) (xs_is (pos 0) (pos 1 ∷ pos 7 ∷ []))
+room_in_a_parameter : steps (outside (onto_a_parameter ∷ []) frame_limit 2 262142) 7 (BeforeBlock (one (Call f (x ∷ y ∷ []))) [])
+    (xs_is (pos 1) (pos 7 ∷ [])) ≡ To (AfterBlock (one (Call f (x ∷ y ∷ []))) []) (xs_is (pos 0) (pos 1 ∷ pos 7 ∷ []))
 unfolding value_room
 room_in_a_parameter = refl
 
@@ -304,17 +317,20 @@ unfolding value wrap changed int_wrap value_room stack_room
 stack_left = (_, _, refl, refl)
 
 -- where 64 stacks live there is no room for another, where 63 live there is
-too_many_stacks : (p : Place) × (r : Store) × (steps (outside [] frame_limit 64 0) 1 (BeforeBlock (one (LocalStack n (one Skip))) []) Bare ≡ To p r) × (step (outside [] frame_limit 64 0) p r ≡ Halt TooManyStacks)
+too_many_stacks : (p : Place) × (r : Store) × (steps (outside [] frame_limit 64 0) 1 (BeforeBlock (one (LocalStack n (one Skip))) []) Bare ≡ To p r) ×
+    (step (outside [] frame_limit 64 0) p r ≡ Halt TooManyStacks)
 unfolding value wrap changed int_wrap stack_room
 too_many_stacks = (_, _, refl, refl)
 
-last_stack : steps (outside [] frame_limit 63 0) 7 (BeforeBlock (one (LocalStack n (one Skip))) []) Bare ≡ To (AfterBlock (one (LocalStack n (one Skip))) []) Bare
+last_stack : steps (outside [] frame_limit 63 0) 7 (BeforeBlock (one (LocalStack n (one Skip))) []) Bare ≡ To (AfterBlock (one (LocalStack n (one Skip))) [])
+    Bare
 unfolding value wrap changed int_wrap stack_room
 last_stack = refl
 
 -- from n = 0 do x += n push(x, y) n += 1 until n = 64: 64 values, 12 steps a turn
 abbrev fills : Blk
-fills = one (From (Binary Same' (Var n) (num 0)) (Cons (Set x Plus (Var n)) (Cons (Push x y) (Cons (Set n Plus (num 1)) Nil))) (one Skip) (Binary Same' (Var n) (num 64)))
+fills = one (From (Binary Same' (Var n) (num 0)) (Cons (Set x Plus (Var n)) (Cons (Push x y) (Cons (Set n Plus (num 1)) Nil))) (one Skip)
+    (Binary Same' (Var n) (num 64)))
 
 abbrev down : ℕ → List ℤ
 down zero = []
@@ -351,7 +367,8 @@ no_procedure_breaks : Stops [] (one (Call f (x ∷ []))) (x_is (pos 0)) 1 Broken
 no_procedure_breaks = (_, _, refl, refl)
 
 -- call f(x, x): the second argument is lent already
-same_argument_breaks : Stops (record { name = f; params = (y, ANumber) ∷ (n, ANumber) ∷ []; body = one Skip } ∷ []) (one (Call f (x ∷ x ∷ []))) (x_is (pos 0)) 1 Broken
+same_argument_breaks : Stops (record { name = f; params = (y, ANumber) ∷ (n, ANumber) ∷ []; body = one Skip } ∷ []) (one (Call f (x ∷ x ∷ []))) (x_is (pos 0))
+    1 Broken
 same_argument_breaks = (_, _, refl, refl)
 
 -- call f(), with a parameter

@@ -1,5 +1,6 @@
 -- Where a name stands among keys.
-use Rattle.std.proofs.Common.{◌≡◌, ℕ, zero, suc, ◌<◌, Bool, true, false, List, [], ◌∷◌, ◌++◌, Option, Some, None, IfSome, map, length, slice_get, string_bytes, cond, take, refl, ap, ◌∙◌, sym, subst, arith, position, ⊎_elim, ◌⊎◌, inl, inr}
+use Rattle.std.proofs.Common.{◌≡◌, ℕ, zero, suc, ◌<◌, Bool, true, false, List, [], ◌∷◌, ◌++◌, Option, Some, None, IfSome, map, length, slice_get, string_bytes}
+use Rattle.std.proofs.Common.{cond, take, refl, ap, ◌∙◌, sym, subst, arith, position, ⊎_elim, ◌⊎◌, inl, inr}
 use Rattle.std.specs.Prelude.{◌||◌, if◌then◌else◌}
 use Rattle.std.specs.List.{list_any}
 use Rattle.std.specs.Str.{bytes_eq}
@@ -54,7 +55,8 @@ module _ {Y : Type 0} (x : Name) where
   if_numbered ks None e = tt
   if_numbered ks (Some i) e = numbered_there ks i (sym e)
 
-  none_by : (k : String Y) (ks : List (String Y)) (b : Bool) → is_it k ≡ b → lookup_key is_it (paired (k ∷ ks)) ≡ None → (lookup_key is_it (paired ks) ≡ None → IsUnmet (map string_bytes ks) x) → IsUnmet (map string_bytes (k ∷ ks)) x
+  none_by : (k : String Y) (ks : List (String Y)) (b : Bool) → is_it k ≡ b → lookup_key is_it (paired (k ∷ ks)) ≡ None →
+      (lookup_key is_it (paired ks) ≡ None → IsUnmet (map string_bytes ks) x) → IsUnmet (map string_bytes (k ∷ ks)) x
   none_by k ks true t h later i e = let bad : Some k ≡ None = sym (ap (λ b. cond b (Some k) (lookup_key is_it (paired ks))) t) ∙ h in cc
   none_by k ks false t h later zero e =
       let same : string_bytes k ≡ x = cc in
@@ -97,11 +99,13 @@ one_more xs y h new j k x e f =
 no_key : {Y : Type 0} (k : String Y) (ks : List (String Y)) → IsUnmet (map string_bytes ks) (string_bytes k) → list_any (string_eq k) ks ≡ false
 no_key k [] h = refl
 no_key k (j ∷ ks) h =
-    let apart : string_eq k j ≡ false = false_from_ne_true (string_eq k j) (λ e. h 0 (ap Some (sym ((bytes_eq-Decides (string_bytes k) (string_bytes j)).0 e)))) in
+    let apart : string_eq k j ≡ false =
+    false_from_ne_true (string_eq k j) (λ e. h 0 (ap Some (sym ((bytes_eq-Decides (string_bytes k) (string_bytes j)).0 e)))) in
     ap (λ b. b || list_any (string_eq k) ks) apart ∙ no_key k ks (λ i e. h (suc i) e)
 
 -- a key that wasn't there goes last
-pub inserted_last : {Y : Type 0} (ks more : List (String Y)) (k : String Y) → IsUnmet (map string_bytes ks) (string_bytes k) → more ≡ insert_key string_eq ks k → map string_bytes more ≡ map string_bytes ks ++ string_bytes k ∷ []
+pub inserted_last : {Y : Type 0} (ks more : List (String Y)) (k : String Y) → IsUnmet (map string_bytes ks) (string_bytes k) →
+    more ≡ insert_key string_eq ks k → map string_bytes more ≡ map string_bytes ks ++ string_bytes k ∷ []
 inserted_last ks more k h e = ap (map string_bytes) (e ∙ ap (λ b. if b then ks else ks ++ k ∷ []) (no_key k ks h)) ∙ map-append string_bytes ks (k ∷ [])
 
 -- ---- the newest names taken away

@@ -55,10 +55,13 @@ pub record IsMeasured (d : ℕ) (b : Block) (from : List Token) (m' : Count) (re
 
 -- of fewer than n tokens
 pub record BlocksMeasured (n : ℕ) : Type 0 where
-  pub body : (d used : ℕ) (t : Token) (r : Rule Body) (b : Block) (from : List Token) (m' : Count) (rest : List Token) → length from < n → IsGood t → AreGood from → rule Body t ≡ Some r → Runs r (count d used) b from m' rest → IsMeasured d b from m' rest
-  pub statements : (d used : ℕ) (t : Token) (r : Rule Statements) (b : Block) (from : List Token) (m' : Count) (rest : List Token) → length from < n → IsGood t → AreGood from → rule Statements t ≡ Some r → Runs r (count d used) b from m' rest → IsMeasured d b from m' rest
+  pub body : (d used : ℕ) (t : Token) (r : Rule Body) (b : Block) (from : List Token) (m' : Count) (rest : List Token) → length from < n → IsGood t →
+      AreGood from → rule Body t ≡ Some r → Runs r (count d used) b from m' rest → IsMeasured d b from m' rest
+  pub statements : (d used : ℕ) (t : Token) (r : Rule Statements) (b : Block) (from : List Token) (m' : Count) (rest : List Token) → length from < n →
+      IsGood t → AreGood from → rule Statements t ≡ Some r → Runs r (count d used) b from m' rest → IsMeasured d b from m' rest
 
-pub keyword_behind : {p : Part} (w : Keyword) (f : Form p) (v : Tree p) (c : Count) (from : List Token) (m' : Count) (rest : List Token) → AreGood from → Spells all p (keyword_then w f) v c from m' rest →
+pub keyword_behind : {p : Part} (w : Keyword) (f : Form p) (v : Tree p) (c : Count) (from : List Token) (m' : Count) (rest : List Token) → AreGood from →
+    Spells all p (keyword_then w f) v c from m' rest →
     (middle : List Token) × (length middle ≤ length from) × AreGood middle × Spells all p f v c middle m' rest
 keyword_behind w f v c from m' rest g s =
     let t = inside s in
@@ -68,7 +71,8 @@ keyword_behind w f v c from m' rest g s =
 no_body : (b : Block) → left_out Body ≡ Some b → ⊥
 no_body b h = cc
 
-pub body_read : (n : ℕ) → BlocksMeasured n → {p : Part} (d used : ℕ) (k : Block → Form p) (v : Tree p) (from : List Token) (m' : Count) (rest : List Token) → length from ≤ n → AreGood from →
+pub body_read : (n : ℕ) → BlocksMeasured n → {p : Part} (d used : ℕ) (k : Block → Form p) (v : Tree p) (from : List Token) (m' : Count) (rest : List Token) →
+    length from ≤ n → AreGood from →
     Spells all p (part Body k) v (count d used) from m' rest → IsBodyRead k d v from m' rest
 body_read n known {p} d used k v from m' rest h g s =
     elim (inside s) [
@@ -76,7 +80,8 @@ body_read n known {p} d used k v from m' rest h g s =
       | inl there ↦
           let less = shorter_behind from there.behind there.token there.whole in
           let good = good_behind from there.behind there.token there.whole g in
-          let is = known.body d used there.token there.rule_of there.tree there.behind there.between there.middle (omega (arith, less, h)) good.0 good.1 there.is (there.few, there.inner) in
+          let is = known.body d used there.token there.rule_of there.tree there.behind there.between there.middle (omega (arith, less, h))
+          good.0 good.1 there.is (there.few, there.inner) in
           let less' = is.shorter in
           record {
             tree = there.tree;
@@ -90,17 +95,28 @@ body_read n known {p} d used k v from m' rest h g s =
           }
     ]
 
-pub statements_read : (n : ℕ) → BlocksMeasured n → {p : Part} (d used : ℕ) (k : Block → Form p) (v : Tree p) (from : List Token) (m' : Count) (rest : List Token) → length from ≤ n → AreGood from →
+pub statements_read : (n : ℕ) → BlocksMeasured n → {p : Part} (d used : ℕ) (k : Block → Form p) (v : Tree p) (from : List Token) (m' : Count)
+    (rest : List Token) → length from ≤ n → AreGood from →
     Spells all p (part Statements k) v (count d used) from m' rest → IsBlock k d v from m' rest
 statements_read n known {p} d used k v from m' rest h g s =
     elim (inside s) [
       | inr left ↦
           let same : Empty ≡ left.tree = cc in
-          record { tree = Empty; total = used; middle = from; fits = tt; shorter = omega arith; good = g; onward = subst (λ b. Spells all p (k b) v (count d used) from m' rest) (sym same) left.onward }
+          record {
+            tree = Empty;
+            total = used;
+            middle = from;
+            fits = tt;
+            shorter = omega arith;
+            good = g;
+            onward = subst
+                (λ b. Spells all p (k b) v (count d used) from m' rest) (sym same) left.onward;
+          }
       | inl there ↦
           let less = shorter_behind from there.behind there.token there.whole in
           let good = good_behind from there.behind there.token there.whole g in
-          let is = known.statements d used there.token there.rule_of there.tree there.behind there.between there.middle (omega (arith, less, h)) good.0 good.1 there.is (there.few, there.inner) in
+          let is = known.statements d used there.token there.rule_of there.tree there.behind there.between there.middle (omega (arith, less, h))
+          good.0 good.1 there.is (there.few, there.inner) in
           let less' = is.shorter in
           record {
             tree = there.tree;
@@ -115,21 +131,24 @@ statements_read n known {p} d used k v from m' rest h g s =
 
 -- ---- the parts of `if` and loops that may be left out
 
-pub else_rule : (t : Token) (r : Rule Else_part) → rule Else_part t ≡ Some r → Some (record { opens = 0; counts = 0; is_whole = false; form = part Body done }) ≡ Some r
+pub else_rule : (t : Token) (r : Rule Else_part) → rule Else_part t ≡ Some r →
+    Some (record { opens = 0; counts = 0; is_whole = false; form = part Body done }) ≡ Some r
 else_rule (Keyword_of keyword.Else at) r e = e
 else_rule (Keyword_of _ at) r e = absurd cc
 else_rule (Name x at) r e = absurd cc
 else_rule (Number n at) r e = absurd cc
 else_rule (Sign_of s at) r e = absurd cc
 
-pub do_rule : (t : Token) (r : Rule Do_part) → rule Do_part t ≡ Some r → Some (record { opens = 0; counts = 0; is_whole = false; form = part Body done }) ≡ Some r
+pub do_rule : (t : Token) (r : Rule Do_part) → rule Do_part t ≡ Some r →
+    Some (record { opens = 0; counts = 0; is_whole = false; form = part Body done }) ≡ Some r
 do_rule (Keyword_of keyword.Do at) r e = e
 do_rule (Keyword_of _ at) r e = absurd cc
 do_rule (Name x at) r e = absurd cc
 do_rule (Number n at) r e = absurd cc
 do_rule (Sign_of s at) r e = absurd cc
 
-pub loop_rule : (t : Token) (r : Rule Loop_part) → rule Loop_part t ≡ Some r → Some (record { opens = 0; counts = 0; is_whole = false; form = part Body done }) ≡ Some r
+pub loop_rule : (t : Token) (r : Rule Loop_part) → rule Loop_part t ≡ Some r →
+    Some (record { opens = 0; counts = 0; is_whole = false; form = part Body done }) ≡ Some r
 loop_rule (Keyword_of keyword.Loop at) r e = e
 loop_rule (Keyword_of _ at) r e = absurd cc
 loop_rule (Name x at) r e = absurd cc
@@ -140,7 +159,8 @@ loop_rule (Sign_of s at) r e = absurd cc
 pub record IsOptional (q : Part) : Type 0 where
   pub from_block : Block → Tree q
   pub left : (u : Tree q) → left_out q ≡ Some u → u ≡ from_block skip_block
-  pub is_rule : (t : Token) (r : Rule q) → rule q t ≡ Some r → Some (record { opens = 0; counts = 0; is_whole = false; form = part Body (λ b. done (from_block b)) }) ≡ Some r
+  pub is_rule : (t : Token) (r : Rule q) → rule q t ≡ Some r →
+      Some (record { opens = 0; counts = 0; is_whole = false; form = part Body (λ b. done (from_block b)) }) ≡ Some r
 
 abbrev pub else_is : IsOptional Else_part
 else_is = record { from_block = λ b. b; left = λ u e. cc; is_rule = else_rule }
@@ -151,18 +171,31 @@ do_is = record { from_block = λ b. b; left = λ u e. cc; is_rule = do_rule }
 abbrev pub loop_is : IsOptional Loop_part
 loop_is = record { from_block = λ b. b; left = λ u e. cc; is_rule = loop_rule }
 
-pub optional_read : (n : ℕ) → BlocksMeasured n → {p : Part} (q : Part) (o : IsOptional q) (d used : ℕ) (k : Tree q → Form p) (v : Tree p) (from : List Token) (m' : Count) (rest : List Token) → length from ≤ n → AreGood from →
+pub optional_read : (n : ℕ) → BlocksMeasured n → {p : Part} (q : Part) (o : IsOptional q) (d used : ℕ) (k : Tree q → Form p) (v : Tree p) (from : List Token)
+    (m' : Count) (rest : List Token) → length from ≤ n → AreGood from →
     Spells all p (part q k) v (count d used) from m' rest → IsBodyRead (λ b. k (o.from_block b)) d v from m' rest
 optional_read n known {p} q o d used k v from m' rest h g s =
     elim (inside s) [
       | inr left ↦
-          record { tree = skip_block; total = used; middle = from; body = tt; fits = (tt, tt); shorter = omega arith; good = g; onward = subst (λ u. Spells all p (k u) v (count d used) from m' rest) (o.left left.tree left.is) left.onward }
+          record {
+            tree = skip_block;
+            total = used;
+            middle = from;
+            body = tt;
+            fits = (tt, tt);
+            shorter = omega arith;
+            good = g;
+            onward = subst
+                (λ u. Spells all p (k u) v (count d used) from m' rest) (o.left left.tree left.is) left.onward;
+          }
       | inl there ↦
           let less = shorter_behind from there.behind there.token there.whole in
           let good = good_behind from there.behind there.token there.whole g in
           let a : Rule q = record { opens = 0; counts = 0; is_whole = false; form = part Body (λ b. done (o.from_block b)) } in
-          let here = runs_as a there.rule_of (count d used) there.tree there.behind there.between there.middle (o.is_rule there.token there.rule_of there.is) (there.few, there.inner) in
-          let is = body_read n known d used (λ b. done (o.from_block b)) there.tree there.behind there.between there.middle (omega (arith, less, h)) good.1 (recount (d + 0) d (used + 0) used (omega arith) (omega arith) here.1) in
+          let here = runs_as a there.rule_of (count d used) there.tree there.behind there.between there.middle (o.is_rule there.token there.rule_of there.is)
+          (there.few, there.inner) in
+          let is = body_read n known d used (λ b. done (o.from_block b)) there.tree there.behind there.between there.middle (omega (arith, less, h)) good.1
+          (recount (d + 0) d (used + 0) used (omega arith) (omega arith) here.1) in
           let end = inside is.onward in
           let less' = is.shorter in
           let rests = ap length end.rests in
@@ -174,6 +207,7 @@ optional_read n known {p} q o d used k v from m' rest h g s =
             fits = is.fits;
             shorter = omega (arith, less, less', rests);
             good = subst AreGood (sym end.rests) is.good;
-            onward = subst (λ u. Spells all p (k u) v (count d is.total) there.middle m' rest) end.tree (subst (λ c. Spells all p (k there.tree) v c there.middle m' rest) end.counts there.onward);
+            onward = subst (λ u. Spells all p (k u) v (count d is.total) there.middle m' rest) end.tree
+                (subst (λ c. Spells all p (k there.tree) v c there.middle m' rest) end.counts there.onward);
           }
     ]

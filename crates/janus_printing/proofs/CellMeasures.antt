@@ -16,10 +16,13 @@ use Rattle.janus_printing.proofs.ProcedureMeasures.{procedures_read}
 pub cell_fits : (text : List ℕ) (c : Cell) → HasTree text c → FitsCell c
 cell_fits text c has =
     let m = has.is_tree.0 in
-    let ds = declarations_read (suc (length has.tokens)) {p = A_cell} 0 0 (λ ds. part Statements (λ b. part (Procedures (is_bare ds b) (cell_of ds b [])) done)) c has.tokens m [] (omega arith) (good_tokens has.are_tokens) has.is_tree.1 in
+    let ds = declarations_read (suc (length has.tokens)) {p = A_cell} 0 0 (λ ds. part Statements (λ b. part (Procedures (is_bare ds b) (cell_of ds b [])) done))
+    c has.tokens m [] (omega arith) (good_tokens has.are_tokens) has.is_tree.1 in
     let n = length ds.middle in
-    let b = statements_read n (blocks_measured n) {p = A_cell} 0 ds.total (λ b. part (Procedures (is_bare ds.tree b) (cell_of ds.tree b [])) done) c ds.middle m [] (omega arith) ds.good ds.onward in
-    let ps = procedures_read (suc (length b.middle)) A_cell (is_bare ds.tree b.tree) (cell_of ds.tree b.tree []) b.total done c b.middle m [] (omega arith) b.good (ds.fits, b.fits, tt) b.onward in
+    let b = statements_read n (blocks_measured n) {p = A_cell} 0 ds.total (λ b. part (Procedures (is_bare ds.tree b) (cell_of ds.tree b [])) done)
+    c ds.middle m [] (omega arith) ds.good ds.onward in
+    let ps = procedures_read (suc (length b.middle)) A_cell (is_bare ds.tree b.tree) (cell_of ds.tree b.tree []) b.total done c b.middle m [] (omega arith)
+    b.good (ds.fits, b.fits, tt) b.onward in
     let end = inside ps.onward in
     subst FitsCell (sym end.tree) ps.fits
 

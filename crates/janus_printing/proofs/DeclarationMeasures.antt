@@ -41,7 +41,8 @@ record IsBound (d : ℕ) (n : Option (ℕ × Span)) (from : List Token) (m' : Co
   shorter : length rest ≤ length from
   good : AreGood rest
 
-bound_read : (d used : ℕ) (t : Token) (r : Rule Bound) (n : Option (ℕ × Span)) (from : List Token) (m' : Count) (rest : List Token) → AreGood from → rule Bound t ≡ Some r → Runs r (count d used) n from m' rest → IsBound d n from m' rest
+bound_read : (d used : ℕ) (t : Token) (r : Rule Bound) (n : Option (ℕ × Span)) (from : List Token) (m' : Count) (rest : List Token) → AreGood from →
+    rule Bound t ≡ Some r → Runs r (count d used) n from m' rest → IsBound d n from m' rest
 bound_read d used (Sign_of sign.OpenIndex at) r n from m' rest g is run =
     let a : Rule Bound = record { opens = 0; counts = 0; is_whole = false; form = take A_number (λ n. sign_then sign.CloseIndex (done (Some n))) } in
     let here = runs_as a r (count d used) n from m' rest is run in
@@ -76,13 +77,23 @@ record IsDeclared {p : Part} (k : Declaration → Form p) (d : ℕ) (v : Tree p)
   onward : Spells all p (k tree) v (count d total) middle m' rest
 
 -- behind the declared name
-bounded : {p : Part} (t : Token) (x : Named) (d used : ℕ) (k : Declaration → Form p) (v : Tree p) (from : List Token) (m' : Count) (rest : List Token) → seen A_name t ≡ Some x → IsGood t → AreGood from →
+bounded : {p : Part} (t : Token) (x : Named) (d used : ℕ) (k : Declaration → Form p) (v : Tree p) (from : List Token) (m' : Count) (rest : List Token) →
+    seen A_name t ≡ Some x → IsGood t → AreGood from →
     Spells all p (part Bound (λ n. k (declared x n))) v (count d used) from m' rest → IsDeclared k d v from m' rest
 bounded {p} t x d used k v from m' rest is name g s =
     elim (inside s) [
       | inr left ↦
           let same : None ≡ left.tree = cc in
-          record { tree = declared x None; total = used; middle = from; fits = declared_fits t x None is name tt; shorter = omega arith; good = g; onward = subst (λ n. Spells all p (k (declared x n)) v (count d used) from m' rest) (sym same) left.onward }
+          record {
+            tree = declared x None;
+            total = used;
+            middle = from;
+            fits = declared_fits t x None is name tt;
+            shorter = omega arith;
+            good = g;
+            onward =
+                subst (λ n. Spells all p (k (declared x n)) v (count d used) from m' rest) (sym same) left.onward;
+          }
       | inl there ↦
           let less = shorter_behind from there.behind there.token there.whole in
           let good = good_behind from there.behind there.token there.whole g in
@@ -99,14 +110,16 @@ bounded {p} t x d used k v from m' rest is name g s =
           }
     ]
 
-declaration_read : {p : Part} (d used : ℕ) (k : Declaration → Form p) (v : Tree p) (t : Token) (r : Rule p) (from : List Token) (m' : Count) (rest : List Token) → AreGood from → declaration t k ≡ Some r → Runs r (count d used) v from m' rest → IsDeclared k d v from m' rest
+declaration_read : {p : Part} (d used : ℕ) (k : Declaration → Form p) (v : Tree p) (t : Token) (r : Rule p) (from : List Token) (m' : Count)
+    (rest : List Token) → AreGood from → declaration t k ≡ Some r → Runs r (count d used) v from m' rest → IsDeclared k d v from m' rest
 declaration_read {p} d used k v (Keyword_of keyword.Int at) r from m' rest g e run =
     let a : Rule p = record { opens = 0; counts = 0; is_whole = false; form = take A_name (λ x. part Bound (λ n. k (declared x n))) } in
     let here = runs_as a r (count d used) v from m' rest e run in
     let name = inside here.1 in
     let less = shorter_behind from name.behind name.token name.whole in
     let good = good_behind from name.behind name.token name.whole g in
-    let b = bounded name.token name.value d used k v name.behind m' rest name.is good.0 good.1 (recount (d + 0) d (used + 0) used (omega arith) (omega arith) name.onward) in
+    let b = bounded name.token name.value d used k v name.behind m' rest name.is good.0 good.1
+    (recount (d + 0) d (used + 0) used (omega arith) (omega arith) name.onward) in
     let less' = b.shorter in
     record { tree = b.tree; total = b.total; middle = b.middle; fits = b.fits; shorter = omega (arith, less, less'); good = b.good; onward = b.onward }
 declaration_read {p} d used k v (Keyword_of keyword.Stack at) r from m' rest g e run =
@@ -115,7 +128,16 @@ declaration_read {p} d used k v (Keyword_of keyword.Stack at) r from m' rest g e
     let name = inside here.1 in
     let less = shorter_behind from name.behind name.token name.whole in
     let good = good_behind from name.behind name.token name.whole g in
-    record { tree = StackOf name.value; total = used; middle = name.behind; fits = name_fits name.token name.value name.is good.0; shorter = omega (arith, less); good = good.1; onward = recount (d + 0) d (used + 0) used (omega arith) (omega arith) name.onward }
+    record {
+      tree = StackOf name.value;
+      total = used;
+      middle = name.behind;
+      fits = name_fits name.token name.value name.is good.0;
+      shorter = omega
+          (arith, less);
+      good = good.1;
+      onward = recount (d + 0) d (used + 0) used (omega arith) (omega arith) name.onward;
+    }
 declaration_read d used k v (Keyword_of _ at) r from m' rest g e run = absurd cc
 declaration_read d used k v (Name x at) r from m' rest g e run = absurd cc
 declaration_read d used k v (Number i at) r from m' rest g e run = absurd cc
@@ -131,19 +153,31 @@ pub record AreDeclared {p : Part} (k : List Declaration → Form p) (d : ℕ) (v
   pub good : AreGood middle
   pub onward : Spells all p (k tree) v (count d total) middle m' rest
 
-pub declarations_read : (n : ℕ) {p : Part} (d used : ℕ) (k : List Declaration → Form p) (v : Tree p) (from : List Token) (m' : Count) (rest : List Token) → length from < n → AreGood from → Spells all p (part Declarations k) v (count d used) from m' rest → AreDeclared k d v from m' rest
+pub declarations_read : (n : ℕ) {p : Part} (d used : ℕ) (k : List Declaration → Form p) (v : Tree p) (from : List Token) (m' : Count) (rest : List Token) →
+    length from < n → AreGood from → Spells all p (part Declarations k) v (count d used) from m' rest → AreDeclared k d v from m' rest
 declarations_read zero d used k v from m' rest h g s = absurd (omega (arith, h))
 declarations_read (suc n) {p} d used k v from m' rest h g s =
     elim (inside s) [
       | inr left ↦
           let same : [] ≡ left.tree = cc in
-          record { tree = []; total = used; middle = from; fits = tt; shorter = omega arith; good = g; onward = subst (λ ds. Spells all p (k ds) v (count d used) from m' rest) (sym same) left.onward }
+          record {
+            tree = [];
+            total = used;
+            middle = from;
+            fits = tt;
+            shorter = omega arith;
+            good = g;
+            onward = subst
+                (λ ds. Spells all p (k ds) v (count d used) from m' rest) (sym same) left.onward;
+          }
       | inl there ↦
           let less = shorter_behind from there.behind there.token there.whole in
           let good = good_behind from there.behind there.token there.whole g in
-          let one = declaration_read {p = Declarations} d used (λ x. part Declarations (λ xs. done (x ∷ xs))) there.tree there.token there.rule_of there.behind there.between there.middle good.1 there.is (there.few, there.inner) in
+          let one = declaration_read {p = Declarations} d used (λ x. part Declarations (λ xs. done (x ∷ xs))) there.tree there.token there.rule_of there.behind
+          there.between there.middle good.1 there.is (there.few, there.inner) in
           let less' = one.shorter in
-          let more = declarations_read n {p = Declarations} d one.total (λ xs. done (one.tree ∷ xs)) there.tree one.middle there.between there.middle (omega (arith, less, less', h)) one.good one.onward in
+          let more = declarations_read n {p = Declarations} d one.total (λ xs. done (one.tree ∷ xs)) there.tree one.middle there.between there.middle
+          (omega (arith, less, less', h)) one.good one.onward in
           let end = inside more.onward in
           let less'' = more.shorter in
           let rests = ap length end.rests in

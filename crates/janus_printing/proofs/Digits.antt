@@ -28,5 +28,6 @@ pub decimal_stands : (n : ℕ) → n < 2 ^ 64 → Stands n (fmt.decimal n)
 decimal_stands n h =
     decimal_by_steps Stands
     (λ m few. ((digit_passes m few, tt), omega arith))
-    (λ m ds many known. (number_behind ds (48 + m % 10) known.0 (digit_passes (m % 10) (omega arith)), decimal_more 0 ds (48 + m % 10) ∙ (let k = known.1 in omega (arith, k))))
+    (λ m ds many known.
+    (number_behind ds (48 + m % 10) known.0 (digit_passes (m % 10) (omega arith)), decimal_more 0 ds (48 + m % 10) ∙ (let k = known.1 in omega (arith, k))))
     n h

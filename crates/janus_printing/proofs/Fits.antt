@@ -5,7 +5,9 @@ use Rattle.std.specs.Prelude.{nat_lt}
 use Rattle.std.proofs.lemmas.Bool.{ltb-true, lt-ltb}
 use Rattle.janus_syntax.specs.declared.token.Sign.{Sign}
 use Rattle.janus_syntax.specs.declared.token.Sign.TheVariants as sign
-use Rattle.janus_syntax.specs.Tree.{Name, named, Exp, Num, Var, Element, EmptyOf, TopOf, Neg, Bin, And, Or, Stm, Skip, Assign, AssignElement, Push, Pop, Swap, If, Loop, LocalInt, LocalStack, Call, Uncall, Block, Empty, More, Declaration, Int, Array, StackOf, Parameter, IntParameter, ArrayParameter, StackParameter, Procedure, procedure_of, Cell, cell_of}
+use Rattle.janus_syntax.specs.Tree.{Name, named, Exp, Num, Var, Element, EmptyOf, TopOf, Neg, Bin, And, Or, Stm, Skip, Assign, AssignElement, Push, Pop, Swap}
+use Rattle.janus_syntax.specs.Tree.{If, Loop, LocalInt, LocalStack, Call, Uncall, Block, Empty, More, Declaration, Int, Array, StackOf, Parameter, IntParameter}
+use Rattle.janus_syntax.specs.Tree.{ArrayParameter, StackParameter, Procedure, procedure_of, Cell, cell_of}
 use Rattle.janus_syntax.specs.Operators.{weakest}
 use Rattle.janus_syntax.specs.Forms.{same_named}
 use Rattle.janus_syntax.specs.Lexical.{IsNameText, IsNoKeyword, largest_number}
@@ -72,8 +74,10 @@ abbrev mutual
   FitsStm (Push x s) d = IsName x × IsName s
   FitsStm (Pop x s) d = IsName x × IsName s
   FitsStm (Swap x y) d = IsName x × IsName y
-  FitsStm (If e s t f) d = (suc d ≤ depth_limit) × FitsWhole e (suc d) × (IsBody s × FitsBlock s (suc d)) × (IsBody t × FitsBlock t (suc d)) × FitsWhole f (suc d)
-  FitsStm (Loop e s t f) d = (suc d ≤ depth_limit) × FitsWhole e (suc d) × (IsBody s × FitsBlock s (suc d)) × (IsBody t × FitsBlock t (suc d)) × FitsWhole f (suc d)
+  FitsStm (If e s t f) d = (suc d ≤ depth_limit) × FitsWhole e (suc d) × (IsBody s × FitsBlock s (suc d)) × (IsBody t × FitsBlock t (suc d)) ×
+      FitsWhole f (suc d)
+  FitsStm (Loop e s t f) d = (suc d ≤ depth_limit) × FitsWhole e (suc d) × (IsBody s × FitsBlock s (suc d)) × (IsBody t × FitsBlock t (suc d)) ×
+      FitsWhole f (suc d)
   FitsStm (LocalInt x e s y f) d = (suc d ≤ depth_limit) × IsName x × FitsWhole e (suc d) × (IsBody s × FitsBlock s (suc d)) × IsAgain x y × FitsWhole f (suc d)
   FitsStm (LocalStack x s y) d = (suc d ≤ depth_limit) × IsName x × (IsBody s × FitsBlock s (suc d)) × IsAgain x y
   FitsStm (Call f xs) d = IsName f × AreNames xs
@@ -113,7 +117,8 @@ FitsCell (cell_of ds b ps) = FitsDeclarations ds × FitsBlock b 0 × FitsProcedu
 
 -- ---- less deep, and in a place of a weaker level
 
-parenthesized_less : (a b : Bool) (P Q : ℕ → Type 0) (d d' : ℕ) → ((m n : ℕ) → m ≤ n → P n → Q m) → d' ≤ d → (b ≡ true → a ≡ true) → Parenthesized a P d → Parenthesized b Q d'
+parenthesized_less : (a b : Bool) (P Q : ℕ → Type 0) (d d' : ℕ) → ((m n : ℕ) → m ≤ n → P n → Q m) → d' ≤ d → (b ≡ true → a ≡ true) → Parenthesized a P d →
+    Parenthesized b Q d'
 parenthesized_less true true P Q d d' less h only f = let few = f.0 in (omega (arith, few, h), less (suc d') (suc d) (omega (arith, h)) f.1)
 parenthesized_less true false P Q d d' less h only f = less d' (suc d) (omega (arith, h)) f.1
 parenthesized_less false true P Q d d' less h only f = let no = only refl in absurd cc
@@ -122,21 +127,28 @@ parenthesized_less false false P Q d d' less h only f = less d' d h f
 still_weaker : (own level level' : ℕ) → level ≤ level' → nat_lt level' own ≡ true → nat_lt level own ≡ true
 still_weaker own level level' h e = let l = ltb-true level' own e in lt-ltb level own (omega (arith, l, h))
 
-infix_less : (s : Sign) (left right : ℕ → ℕ → Type 0) (level level' d d' : ℕ) → ((m n : ℕ) → m ≤ n → left (sign_level s) n → left (sign_level s) m) → ((m n : ℕ) → m ≤ n → right (sign_level s - 1) n → right (sign_level s - 1) m) →
+infix_less : (s : Sign) (left right : ℕ → ℕ → Type 0) (level level' d d' : ℕ) → ((m n : ℕ) → m ≤ n → left (sign_level s) n → left (sign_level s) m) →
+    ((m n : ℕ) → m ≤ n → right (sign_level s - 1) n → right (sign_level s - 1) m) →
     level ≤ level' → d' ≤ d → FitsInfix s left right level d → FitsInfix s left right level' d'
 infix_less s left right level level' d d' l r h k f =
-    parenthesized_less (nat_lt level (sign_level s)) (nat_lt level' (sign_level s)) _ _ d d' (λ m n e p. (l m n e p.0, r m n e p.1)) k (still_weaker (sign_level s) level level' h) f
+    parenthesized_less (nat_lt level (sign_level s)) (nat_lt level' (sign_level s)) _ _ d d' (λ m n e p. (l m n e p.0, r m n e p.1)) k
+    (still_weaker (sign_level s) level level' h) f
 
 pub fits_less : (e : Exp) (level level' d d' : ℕ) → level ≤ level' → d' ≤ d → FitsExp e level d → FitsExp e level' d'
 fits_less (Num n at) level level' d d' h k f = f
 fits_less (Var x) level level' d d' h k f = f
-fits_less (Element x i) level level' d d' h k (name, few, f) = (name, omega (arith, few, k), fits_less i weakest weakest (suc d) (suc d') (omega arith) (omega (arith, k)) f)
+fits_less (Element x i) level level' d d' h k (name, few, f) =
+    (name, omega (arith, few, k), fits_less i weakest weakest (suc d) (suc d') (omega arith) (omega (arith, k)) f)
 fits_less (EmptyOf x) level level' d d' h k f = f
 fits_less (TopOf x) level level' d d' h k f = f
 fits_less (Neg e) level level' d d' h k (few, f) = (omega (arith, few, k), fits_less e 0 0 (suc d) (suc d') (omega arith) (omega (arith, k)) f)
-fits_less (Bin op l r) level level' d d' h k f = infix_less (operator_sign op) (FitsExp l) (FitsExp r) level level' d d' (λ m n i. fits_less l _ _ n m (omega arith) i) (λ m n i. fits_less r _ _ n m (omega arith) i) h k f
-fits_less (And l r) level level' d d' h k f = infix_less sign.And (FitsExp l) (FitsExp r) level level' d d' (λ m n i. fits_less l _ _ n m (omega arith) i) (λ m n i. fits_less r _ _ n m (omega arith) i) h k f
-fits_less (Or l r) level level' d d' h k f = infix_less sign.Or (FitsExp l) (FitsExp r) level level' d d' (λ m n i. fits_less l _ _ n m (omega arith) i) (λ m n i. fits_less r _ _ n m (omega arith) i) h k f
+fits_less (Bin op l r) level level' d d' h k f =
+    infix_less (operator_sign op) (FitsExp l) (FitsExp r) level level' d d' (λ m n i. fits_less l _ _ n m (omega arith) i)
+    (λ m n i. fits_less r _ _ n m (omega arith) i) h k f
+fits_less (And l r) level level' d d' h k f = infix_less sign.And (FitsExp l) (FitsExp r) level level' d d' (λ m n i. fits_less l _ _ n m (omega arith) i)
+    (λ m n i. fits_less r _ _ n m (omega arith) i) h k f
+fits_less (Or l r) level level' d d' h k f = infix_less sign.Or (FitsExp l) (FitsExp r) level level' d d' (λ m n i. fits_less l _ _ n m (omega arith) i)
+    (λ m n i. fits_less r _ _ n m (omega arith) i) h k f
 
 -- ---- in parentheses any expression is an operand
 
@@ -156,6 +168,7 @@ fits_operand (Element x i) d h f = fits_less (Element x i) 0 0 (suc d) d (omega 
 fits_operand (EmptyOf x) d h f = f
 fits_operand (TopOf x) d h f = f
 fits_operand (Neg e) d h f = fits_less (Neg e) 0 0 (suc d) d (omega arith) (omega arith) f
-fits_operand (Bin op l r) d h f = infix_operand (nat_lt weakest (sign_level (operator_sign op))) (nat_lt 0 (sign_level (operator_sign op))) _ d (both_less l r _ _) h f
+fits_operand (Bin op l r) d h f = infix_operand (nat_lt weakest (sign_level (operator_sign op))) (nat_lt 0 (sign_level (operator_sign op))) _ d
+    (both_less l r _ _) h f
 fits_operand (And l r) d h f = infix_operand (nat_lt weakest (sign_level sign.And)) (nat_lt 0 (sign_level sign.And)) _ d (both_less l r _ _) h f
 fits_operand (Or l r) d h f = infix_operand (nat_lt weakest (sign_level sign.Or)) (nat_lt 0 (sign_level sign.Or)) _ d (both_less l r _ _) h f

@@ -3,7 +3,8 @@ use Rattle.std.proofs.Common.{ℕ, ◌≤◌, List, [], ◌∷◌, subst, sym}
 use Rattle.janus_syntax.specs.declared.token.Span.{Span}
 use Rattle.janus_syntax.specs.Tokens.{Token, Name, Number, Sign_of, Keyword_of}
 use Rattle.janus_syntax.specs.Lexical
-use Rattle.janus_syntax.specs.Lexical.{IsNameText, IsNoKeyword, Item, Gap, A_name, A_number, A_sign, A_keyword, IsSpelled, IsToken, between, Lexes, largest_number}
+use Rattle.janus_syntax.specs.Lexical.{IsNameText, IsNoKeyword, Item, Gap, A_name, A_number, A_sign, A_keyword, IsSpelled, IsToken, between, Lexes}
+use Rattle.janus_syntax.specs.Lexical.{largest_number}
 
 abbrev pub IsGood : Token → Type 0
 IsGood (Name x at) = IsNameText x × IsNoKeyword x
@@ -25,4 +26,5 @@ good_token (A_keyword w) octets at t s is = subst IsGood (sym is) tt
 pub good_tokens : {text from rest : List ℕ} {ts : List Token} → Lexes text from ts rest → AreGood ts
 good_tokens Lexical.none = tt
 good_tokens (Lexical.gap f more) = good_tokens more
-good_tokens {text} {from} (Lexical.token {i = i} {octets = octets} {middle = middle} {t = t} f is more) = (good_token i octets (between text from middle) t f.spelled is, good_tokens more)
+good_tokens {text} {from} (Lexical.token {i = i} {octets = octets} {middle = middle} {t = t} f is more) =
+    (good_token i octets (between text from middle) t f.spelled is, good_tokens more)

@@ -53,5 +53,17 @@ inside Grammar.nothing_more = record { tree = refl; counts = refl; rests = refl 
 inside (Grammar.token {s = s} {t = t} {from = from} is ok more) = record { token = t; behind = from; value = s; whole = refl; is = is; fit = ok; onward = more }
 inside (Grammar.end_of_construct more) = more
 inside (Grammar.a_part {r = r} {u = u} {t = t} {m1 = m1} {from = from} {middle = middle} is ok inner more) =
-    inl (record { token = t; behind = from; rule_of = r; tree = u; between = m1; middle = middle; whole = refl; is = is; few = ok; inner = inner; onward = more })
+    inl (record {
+      token = t;
+      behind = from;
+      rule_of = r;
+      tree = u;
+      between = m1;
+      middle = middle;
+      whole = refl;
+      is = is;
+      few = ok;
+      inner = inner;
+      onward = more;
+    })
 inside (Grammar.no_part {u = u} is more) = inr (record { tree = u; is = is; onward = more })

@@ -12,7 +12,8 @@ use Rattle.janus_syntax.specs.Lexical
 use Rattle.janus_syntax.specs.Lexical.{goes_on_name, of_name, of_number, IsNameText, IsNumberText, Item, IsSpelled, NoLonger, IsFront, IsToken, between, Lexes}
 use Rattle.janus_syntax.specs.Printing.{Piece, A_name, A_number, A_sign, A_keyword, A_minus, An_opening, piece_text, leans, holds}
 use Rattle.janus_syntax.proofs.Fronts.{StopsAt}
-use Rattle.janus_syntax.proofs.Longest.{name_longest, keyword_longest, number_longest, space_spelled, one_space, extends, sign_longest, open_longest, open_index_longest, minus_longest}
+use Rattle.janus_syntax.proofs.Longest.{name_longest, keyword_longest, number_longest, space_spelled, one_space, extends, sign_longest, open_longest}
+use Rattle.janus_syntax.proofs.Longest.{open_index_longest, minus_longest}
 use Rattle.janus_printing.proofs.Spelled.{placed, Spelled}
 use Rattle.janus_printing.proofs.Pieces.{tail, BeginsOperand, AreFine}
 use Rattle.janus_printing.proofs.Digits.{decimal_stands}
@@ -156,7 +157,8 @@ others_fine An_opening ps f = f
 
 -- ---- all tokens
 
-gap_lexed : (text : List ℕ) (tight leaning : Bool) (from : List ℕ) (ts : List Token) → Lexes text from ts [] → Lexes text (cond tight [] (cond leaning [] (codes " ")) ++ from) ts []
+gap_lexed : (text : List ℕ) (tight leaning : Bool) (from : List ℕ) (ts : List Token) → Lexes text from ts [] →
+    Lexes text (cond tight [] (cond leaning [] (codes " ")) ++ from) ts []
 gap_lexed text true leaning from ts l = l
 gap_lexed text false true from ts l = l
 gap_lexed text false false from ts l = Lexical.gap {octets = 32 ∷ []} (record { whole = refl; spelled = space_spelled; longest = one_space from }) l
@@ -168,5 +170,6 @@ pieces_lexed text tight (p ∷ ps) f =
     let others = pieces_lexed text (holds p) ps (others_fine p ps f) in
     let here = first p ps f in
     let at = between text (piece_text p ++ rest) rest in
-    let lexed : Lexes text (piece_text p ++ rest) (placed p at ∷ others.0) [] = Lexical.token {i = item p} {octets = piece_text p} (record { whole = refl; spelled = here.spelled; longest = here.longest }) (here.token at) others.1 in
+    let lexed : Lexes text (piece_text p ++ rest) (placed p at ∷ others.0) [] =
+    Lexical.token {i = item p} {octets = piece_text p} (record { whole = refl; spelled = here.spelled; longest = here.longest }) (here.token at) others.1 in
     (placed p at ∷ others.0, gap_lexed text tight (leans p) (piece_text p ++ rest) (placed p at ∷ others.0) lexed, (at, others.0, refl, others.2))

@@ -22,7 +22,8 @@ use Rattle.janus_printing.proofs.Good.{IsGood, AreGood}
 
 -- ---- counts and rules
 
-pub recount : {p : Part} {f : Form p} {v : Tree p} {m' : Count} {from rest : List Token} (a b x y : ℕ) → a ≡ b → x ≡ y → Spells all p f v (count a x) from m' rest → Spells all p f v (count b y) from m' rest
+pub recount : {p : Part} {f : Form p} {v : Tree p} {m' : Count} {from rest : List Token} (a b x y : ℕ) → a ≡ b → x ≡ y →
+    Spells all p f v (count a x) from m' rest → Spells all p f v (count b y) from m' rest
 recount {p} {f} {v} {m'} {from} {rest} a b x y e h s =
     subst (λ n. Spells all p f v (count n y) from m' rest) e (subst (λ n. Spells all p f v (count a n) from m' rest) h s)
 
@@ -30,7 +31,8 @@ recount {p} {f} {v} {m'} {from} {rest} a b x y e h s =
 abbrev pub Runs : {p : Part} → Rule p → Count → Tree p → List Token → Count → List Token → Type 0
 Runs {p} r c v from m' rest = (fits (entered r c) ≡ true) × Spells all p r.form v (entered r c) from m' rest
 
-pub runs_as : {p : Part} (a r : Rule p) (c : Count) (v : Tree p) (from : List Token) (m' : Count) (rest : List Token) → Some a ≡ Some r → Runs r c v from m' rest → Runs a c v from m' rest
+pub runs_as : {p : Part} (a r : Rule p) (c : Count) (v : Tree p) (from : List Token) (m' : Count) (rest : List Token) → Some a ≡ Some r →
+    Runs r c v from m' rest → Runs a c v from m' rest
 runs_as a r c v from m' rest e run = let same : a ≡ r = cc in subst (λ x. Runs x c v from m' rest) (sym same) run
 
 pub few_of : (d u : ℕ) → fits (count d u) ≡ true → (d ≤ depth_limit) × (u ≤ operator_limit)
@@ -82,19 +84,22 @@ joined_operators (joint.Binary op) l r = refl
 joined_operators joint.And l r = refl
 joined_operators joint.Or l r = refl
 
-without_parentheses : (s : Sign) (left right : ℕ → ℕ → Type 0) (level d : ℕ) → sign_level s ≤ level → left (sign_level s) d → right (sign_level s - 1) d → FitsInfix s left right level d
+without_parentheses : (s : Sign) (left right : ℕ → ℕ → Type 0) (level d : ℕ) → sign_level s ≤ level → left (sign_level s) d → right (sign_level s - 1) d →
+    FitsInfix s left right level d
 without_parentheses s left right level d h l r =
     elim (nat_lt level (sign_level s)) as (λ b. nat_lt level (sign_level s) ≡ b → FitsInfix s left right level d) [
       | true ↦ λ e. let x = ltb-true level (sign_level s) e in absurd (omega (arith, x, h))
       | false ↦ λ e. rw e (l, r)
     ] refl
 
-joined_fits : (j : Joint) (l r : Exp) (level d : ℕ) → sign_level (joint_sign j) ≤ level → FitsExp l (sign_level (joint_sign j)) d → FitsExp r (sign_level (joint_sign j) - 1) d → FitsExp (joined j l r) level d
+joined_fits : (j : Joint) (l r : Exp) (level d : ℕ) → sign_level (joint_sign j) ≤ level → FitsExp l (sign_level (joint_sign j)) d →
+    FitsExp r (sign_level (joint_sign j) - 1) d → FitsExp (joined j l r) level d
 joined_fits (joint.Binary op) l r level d h x y = without_parentheses (operator_sign op) (FitsExp l) (FitsExp r) level d h x y
 joined_fits joint.And l r level d h x y = without_parentheses sign.And (FitsExp l) (FitsExp r) level d h x y
 joined_fits joint.Or l r level d h x y = without_parentheses sign.Or (FitsExp l) (FitsExp r) level d h x y
 
-pub chain_fits : (j : Joint) (l r : Exp) (level d : ℕ) → sign_level (joint_sign j) ≡ level → FitsExp l level d → FitsExp r (level - 1) d → FitsExp (joined j l r) level d
+pub chain_fits : (j : Joint) (l r : Exp) (level d : ℕ) → sign_level (joint_sign j) ≡ level → FitsExp l level d → FitsExp r (level - 1) d →
+    FitsExp (joined j l r) level d
 chain_fits j l r level d e x y =
     joined_fits j l r level d (omega (arith, e)) (subst (λ n. FitsExp l n d) (sym e) x) (subst (λ n. FitsExp r (n - 1) d) (sym e) y)
 
@@ -120,14 +125,16 @@ pub record IsMeasured (level d used : ℕ) (e : Exp) (from : List Token) (m' : C
 
 -- the same at fewer than n tokens
 abbrev pub LevelsMeasured : ℕ → Type 0
-LevelsMeasured n = (level d used : ℕ) (t : Token) (r : Rule (Level level)) (e : Exp) (from : List Token) (m' : Count) (rest : List Token) → length from < n → IsGood t → AreGood from → rule (Level level) t ≡ Some r →
+LevelsMeasured n = (level d used : ℕ) (t : Token) (r : Rule (Level level)) (e : Exp) (from : List Token) (m' : Count) (rest : List Token) → length from < n →
+    IsGood t → AreGood from → rule (Level level) t ≡ Some r →
     Runs r (count d used) e from m' rest → IsMeasured level d used e from m' rest
 
 no_level : (level : ℕ) (e : Exp) → left_out (Level level) ≡ Some e → ⊥
 no_level level e h = cc
 
 -- a part that is an expression
-pub level_read : (n : ℕ) → LevelsMeasured n → {p : Part} (level d used : ℕ) (k : Exp → Form p) (v : Tree p) (from : List Token) (m' : Count) (rest : List Token) → length from ≤ n → AreGood from →
+pub level_read : (n : ℕ) → LevelsMeasured n → {p : Part} (level d used : ℕ) (k : Exp → Form p) (v : Tree p) (from : List Token) (m' : Count)
+    (rest : List Token) → length from ≤ n → AreGood from →
     Spells all p (part (Level level) k) v (count d used) from m' rest → IsRead k level d used v from m' rest
 level_read n known {p} level d used k v from m' rest h g s =
     elim (inside s) [
@@ -135,7 +142,8 @@ level_read n known {p} level d used k v from m' rest h g s =
       | inl there ↦
           let less = shorter_behind from there.behind there.token there.whole in
           let good = good_behind from there.behind there.token there.whole g in
-          let is = known level d used there.token there.rule_of there.tree there.behind there.between there.middle (omega (arith, less, h)) good.0 good.1 there.is (there.few, there.inner) in
+          let is = known level d used there.token there.rule_of there.tree there.behind there.between there.middle (omega (arith, less, h))
+          good.0 good.1 there.is (there.few, there.inner) in
           let shorter = is.shorter in
           record {
             tree = there.tree;
@@ -149,7 +157,8 @@ level_read n known {p} level d used k v from m' rest h g s =
     ]
 
 -- behind a token that is there, and the end of a construct
-pub close_behind : {p : Part} (s : Sign) (f : Form p) (v : Tree p) (d u : ℕ) (from : List Token) (m' : Count) (rest : List Token) → AreGood from → Spells all p (sign_then s (close f)) v (count (d + 1) u) from m' rest →
+pub close_behind : {p : Part} (s : Sign) (f : Form p) (v : Tree p) (d u : ℕ) (from : List Token) (m' : Count) (rest : List Token) → AreGood from →
+    Spells all p (sign_then s (close f)) v (count (d + 1) u) from m' rest →
     (middle : List Token) × (length middle ≤ length from) × AreGood middle × Spells all p f v (count d u) middle m' rest
 close_behind s f v d u from m' rest g is =
     let t = inside is in
@@ -173,7 +182,8 @@ pub record IsStack {p : Part} (k : Named → Form p) (c : Count) (v : Tree p) (f
   pub good : AreGood middle
   pub onward : Spells all p (k name) v c middle m' rest
 
-pub stack_read : {p : Part} (k : Named → Form p) (v : Tree p) (c : Count) (from : List Token) (m' : Count) (rest : List Token) → AreGood from → Spells all p (stack_then k) v c from m' rest → IsStack k c v from m' rest
+pub stack_read : {p : Part} (k : Named → Form p) (v : Tree p) (c : Count) (from : List Token) (m' : Count) (rest : List Token) → AreGood from →
+    Spells all p (stack_then k) v c from m' rest → IsStack k c v from m' rest
 stack_read k v c from m' rest g s =
     let a = inside s in
     let b = inside a.onward in
@@ -184,10 +194,19 @@ stack_read k v c from m' rest g s =
     let l1 = shorter_behind from a.behind a.token a.whole in
     let l2 = shorter_behind a.behind b.behind b.token b.whole in
     let l3 = shorter_behind b.behind shut.behind shut.token shut.whole in
-    record { name = b.value; middle = shut.behind; fits = name_fits b.token b.value b.is g2.0; shorter = omega (arith, l1, l2, l3); good = g3.1; onward = shut.onward }
+    record {
+      name = b.value;
+      middle = shut.behind;
+      fits = name_fits b.token b.value b.is g2.0;
+      shorter = omega
+          (arith, l1, l2, l3);
+      good = g3.1;
+      onward = shut.onward;
+    }
 
 -- a variable and a stack were read
-pub record AreVariableAndStack {p : Part} (k : Named → Named → Form p) (c : Count) (v : Tree p) (from : List Token) (m' : Count) (rest : List Token) : Type 0 where
+pub record AreVariableAndStack {p : Part} (k : Named → Named → Form p) (c : Count) (v : Tree p) (from : List Token) (m' : Count)
+    (rest : List Token) : Type 0 where
   pub variable : Named
   pub stack : Named
   pub middle : List Token
@@ -197,7 +216,8 @@ pub record AreVariableAndStack {p : Part} (k : Named → Named → Form p) (c : 
   pub good : AreGood middle
   pub onward : Spells all p (k variable stack) v c middle m' rest
 
-pub pair_read : {p : Part} (k : Named → Named → Form p) (v : Tree p) (c : Count) (from : List Token) (m' : Count) (rest : List Token) → AreGood from → Spells all p (variable_and_stack_then k) v c from m' rest → AreVariableAndStack k c v from m' rest
+pub pair_read : {p : Part} (k : Named → Named → Form p) (v : Tree p) (c : Count) (from : List Token) (m' : Count) (rest : List Token) → AreGood from →
+    Spells all p (variable_and_stack_then k) v c from m' rest → AreVariableAndStack k c v from m' rest
 pair_read k v c from m' rest g s =
     let a = inside s in
     let b = inside a.onward in
@@ -234,7 +254,8 @@ same_name_fits (Sign_of s at) x y e g = absurd cc
 same_name_fits (Keyword_of w at) x y e g = absurd cc
 
 -- the name of a local and `=` were read
-pub head_read : {p : Part} (k : Named → Form p) (v : Tree p) (c : Count) (from : List Token) (m' : Count) (rest : List Token) → AreGood from → Spells all p (take A_name (λ x. sign_then sign.Equals (k x))) v c from m' rest → IsStack k c v from m' rest
+pub head_read : {p : Part} (k : Named → Form p) (v : Tree p) (c : Count) (from : List Token) (m' : Count) (rest : List Token) → AreGood from →
+    Spells all p (take A_name (λ x. sign_then sign.Equals (k x))) v c from m' rest → IsStack k c v from m' rest
 head_read k v c from m' rest g s =
     let a = inside s in
     let b = inside a.onward in
@@ -253,7 +274,8 @@ pub record IsDelocal {p : Part} (x : Named) (k : Named → Form p) (c : Count) (
   pub good : AreGood middle
   pub onward : Spells all p (k name) v c middle m' rest
 
-pub delocal_read : {p : Part} (j : LocalKind) (x : Named) (k : Named → Form p) (v : Tree p) (c : Count) (from : List Token) (m' : Count) (rest : List Token) → AreGood from → Spells all p (delocal_then j x k) v c from m' rest → IsDelocal x k c v from m' rest
+pub delocal_read : {p : Part} (j : LocalKind) (x : Named) (k : Named → Form p) (v : Tree p) (c : Count) (from : List Token) (m' : Count) (rest : List Token) →
+    AreGood from → Spells all p (delocal_then j x k) v c from m' rest → IsDelocal x k c v from m' rest
 delocal_read j x k v c from m' rest g s =
     let a = inside s in
     let b = inside a.onward in
@@ -267,4 +289,12 @@ delocal_read j x k v c from m' rest g s =
     let l2 = shorter_behind a.behind b.behind b.token b.whole in
     let l3 = shorter_behind b.behind name.behind name.token name.whole in
     let l4 = shorter_behind name.behind equals.behind equals.token equals.whole in
-    record { name = name.value; middle = equals.behind; fits = (same_name_fits name.token x name.value name.is g3.0, name.fit); shorter = omega (arith, l1, l2, l3, l4); good = g4.1; onward = equals.onward }
+    record {
+      name = name.value;
+      middle = equals.behind;
+      fits = (same_name_fits name.token x name.value name.is g3.0, name.fit);
+      shorter = omega
+          (arith, l1, l2, l3, l4);
+      good = g4.1;
+      onward = equals.onward;
+    }

@@ -33,9 +33,11 @@ none_fit xs e = let same : [] ≡ xs = cc in subst AreNames same tt
 
 -- what is known of lists of tokens of a length
 abbrev MoreRead : ℕ → Type 0
-MoreRead n = (p : Part) (d used : ℕ) (k : List Named → Form p) (v : Tree p) (from : List Token) (m' : Count) (rest : List Token) → length from ≤ n → AreGood from → Spells all p (part More_names k) v (count d used) from m' rest → AreRead k d used v from m' rest
+MoreRead n = (p : Part) (d used : ℕ) (k : List Named → Form p) (v : Tree p) (from : List Token) (m' : Count) (rest : List Token) → length from ≤ n →
+    AreGood from → Spells all p (part More_names k) v (count d used) from m' rest → AreRead k d used v from m' rest
 
-more_measured : (n : ℕ) → MoreRead n → (d used : ℕ) (t : Token) (r : Rule More_names) (xs : List Named) (from : List Token) (m' : Count) (rest : List Token) → length from ≤ n → AreGood from → rule More_names t ≡ Some r → Runs r (count d used) xs from m' rest →
+more_measured : (n : ℕ) → MoreRead n → (d used : ℕ) (t : Token) (r : Rule More_names) (xs : List Named) (from : List Token) (m' : Count) (rest : List Token) →
+    length from ≤ n → AreGood from → rule More_names t ≡ Some r → Runs r (count d used) xs from m' rest →
     AreMeasured d used xs from m' rest
 more_measured n known d used (Sign_of sign.Comma at) r xs from m' rest h g is run =
     let a : Rule More_names = record { opens = 0; counts = 0; is_whole = false; form = take A_name (λ y. part More_names (λ ys. done (y ∷ ys))) } in
@@ -70,7 +72,8 @@ more_read (suc n) p d used k v from m' rest h g s =
       | inl there ↦
           let less = shorter_behind from there.behind there.token there.whole in
           let good = good_behind from there.behind there.token there.whole g in
-          let is = more_measured n (more_read n) d used there.token there.rule_of there.tree there.behind there.between there.middle (omega (arith, less, h)) good.1 there.is (there.few, there.inner) in
+          let is = more_measured n (more_read n) d used there.token there.rule_of there.tree there.behind there.between there.middle (omega (arith, less, h))
+          good.1 there.is (there.few, there.inner) in
           let less' = is.shorter in
           record {
             names = there.tree;
@@ -82,11 +85,13 @@ more_read (suc n) p d used k v from m' rest h g s =
           }
     ]
 
-names_measured : (d used : ℕ) (t : Token) (r : Rule Names) (xs : List Named) (from : List Token) (m' : Count) (rest : List Token) → IsGood t → AreGood from → rule Names t ≡ Some r → Runs r (count d used) xs from m' rest → AreMeasured d used xs from m' rest
+names_measured : (d used : ℕ) (t : Token) (r : Rule Names) (xs : List Named) (from : List Token) (m' : Count) (rest : List Token) → IsGood t → AreGood from →
+    rule Names t ≡ Some r → Runs r (count d used) xs from m' rest → AreMeasured d used xs from m' rest
 names_measured d used (Name x at) r xs from m' rest is_good g is run =
     let a : Rule Names = record { opens = 0; counts = 0; is_whole = false; form = part More_names (λ ys. done (named x at ∷ ys)) } in
     let here = runs_as a r (count d used) xs from m' rest is run in
-    let more = more_read (length from) Names d used (λ ys. done (named x at ∷ ys)) xs from m' rest (omega arith) g (recount (d + 0) d (used + 0) used (omega arith) (omega arith) here.1) in
+    let more = more_read (length from) Names d used (λ ys. done (named x at ∷ ys)) xs from m' rest (omega arith) g
+    (recount (d + 0) d (used + 0) used (omega arith) (omega arith) here.1) in
     let less = more.shorter in
     let end = inside more.onward in
     let rests = ap length end.rests in
@@ -100,14 +105,16 @@ names_measured d used (Sign_of s at) r xs from m' rest is_good g is run = absurd
 names_measured d used (Keyword_of w at) r xs from m' rest is_good g is run = absurd cc
 names_measured d used (Number i at) r xs from m' rest is_good g is run = absurd cc
 
-names_read : {p : Part} (d used : ℕ) (k : List Named → Form p) (v : Tree p) (from : List Token) (m' : Count) (rest : List Token) → AreGood from → Spells all p (part Names k) v (count d used) from m' rest → AreRead k d used v from m' rest
+names_read : {p : Part} (d used : ℕ) (k : List Named → Form p) (v : Tree p) (from : List Token) (m' : Count) (rest : List Token) → AreGood from →
+    Spells all p (part Names k) v (count d used) from m' rest → AreRead k d used v from m' rest
 names_read {p} d used k v from m' rest g s =
     elim (inside s) [
       | inr left ↦ record { names = left.tree; middle = from; fits = none_fit left.tree left.is; shorter = omega arith; good = g; onward = left.onward }
       | inl there ↦
           let less = shorter_behind from there.behind there.token there.whole in
           let good = good_behind from there.behind there.token there.whole g in
-          let is = names_measured d used there.token there.rule_of there.tree there.behind there.between there.middle good.0 good.1 there.is (there.few, there.inner) in
+          let is = names_measured d used there.token there.rule_of there.tree there.behind there.between there.middle good.0 good.1 there.is
+          (there.few, there.inner) in
           let less' = is.shorter in
           record {
             names = there.tree;
@@ -130,7 +137,8 @@ pub record IsCall {p : Part} (k : Named → List Named → Form p) (d used : ℕ
   pub good : AreGood middle
   pub onward : Spells all p (k procedure arguments) v (count d used) middle m' rest
 
-pub call_read : {p : Part} (d used : ℕ) (k : Named → List Named → Form p) (v : Tree p) (from : List Token) (m' : Count) (rest : List Token) → AreGood from → Spells all p (call_then k) v (count d used) from m' rest → IsCall k d used v from m' rest
+pub call_read : {p : Part} (d used : ℕ) (k : Named → List Named → Form p) (v : Tree p) (from : List Token) (m' : Count) (rest : List Token) → AreGood from →
+    Spells all p (call_then k) v (count d used) from m' rest → IsCall k d used v from m' rest
 call_read {p} d used k v from m' rest g s =
     let name = inside s in
     let opening = inside name.onward in

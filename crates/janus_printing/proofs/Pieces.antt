@@ -8,11 +8,17 @@ use Rattle.janus_syntax.specs.declared.token.Sign.TheVariants as sign
 use Rattle.janus_syntax.specs.declared.token.Keyword.TheVariants as keyword
 use Rattle.janus_syntax.specs.declared.operator.Joint.{Joint}
 use Rattle.janus_syntax.specs.declared.operator.Joint.TheVariants as joint
-use Rattle.janus_syntax.specs.Tree.{Name, named, Exp, Num, Var, Element, EmptyOf, TopOf, Neg, Bin, And, Or, Stm, Skip, Assign, AssignElement, Push, Pop, Swap, If, Loop, LocalInt, LocalStack, Call, Uncall, Block, Empty, More, Declaration, Int, Array, StackOf, Parameter, IntParameter, ArrayParameter, StackParameter, Procedure, procedure_of, Cell, cell_of}
+use Rattle.janus_syntax.specs.Tree.{Name, named, Exp, Num, Var, Element, EmptyOf, TopOf, Neg, Bin, And, Or, Stm, Skip, Assign, AssignElement, Push, Pop, Swap}
+use Rattle.janus_syntax.specs.Tree.{If, Loop, LocalInt, LocalStack, Call, Uncall, Block, Empty, More, Declaration, Int, Array, StackOf, Parameter, IntParameter}
+use Rattle.janus_syntax.specs.Tree.{ArrayParameter, StackParameter, Procedure, procedure_of, Cell, cell_of}
 use Rattle.janus_syntax.specs.Operators.{weakest}
 use Rattle.janus_syntax.specs.Lexical.{IsNameText, IsNoKeyword, largest_number}
-use Rattle.janus_syntax.specs.Printing.{Piece, A_name, A_number, A_sign, A_keyword, A_minus, An_opening, piece_text, leans, holds, Printed, with_piece, with_pieces, sign_level, if_needed, infix_pieces, exp_pieces, whole_pieces, names_pieces, more_names_pieces, stm_pieces, block_pieces, declaration_pieces, declarations_pieces, parameter_pieces, more_parameters_pieces, parameters_pieces, procedure_pieces, procedures_pieces, cell_pieces}
-use Rattle.janus_printing.proofs.Fits.{AreNames, Parenthesized, FitsInfix, FitsExp, FitsStm, FitsBlock, FitsDeclaration, FitsDeclarations, FitsParameter, FitsParameters, FitsProcedure, FitsProcedures, FitsCell}
+use Rattle.janus_syntax.specs.Printing.{Piece, A_name, A_number, A_sign, A_keyword, A_minus, An_opening, piece_text, leans, holds, Printed, with_piece}
+use Rattle.janus_syntax.specs.Printing.{with_pieces, sign_level, if_needed, infix_pieces, exp_pieces, whole_pieces, names_pieces, more_names_pieces, stm_pieces}
+use Rattle.janus_syntax.specs.Printing.{block_pieces, declaration_pieces, declarations_pieces, parameter_pieces, more_parameters_pieces, parameters_pieces}
+use Rattle.janus_syntax.specs.Printing.{procedure_pieces, procedures_pieces, cell_pieces}
+use Rattle.janus_printing.proofs.Fits.{AreNames, Parenthesized, FitsInfix, FitsExp, FitsStm, FitsBlock, FitsDeclaration, FitsDeclarations, FitsParameter}
+use Rattle.janus_printing.proofs.Fits.{FitsParameters, FitsProcedure, FitsProcedures, FitsCell}
 use Rattle.janus_printing.proofs.Measures.{joint_sign}
 use Rattle.janus_printing.proofs.Expressions.{operator_is}
 
@@ -90,7 +96,8 @@ both_at : (b : Bool) (l r : ℕ → Type 0) (d : ℕ) → Parenthesized b (λ n.
 both_at true l r d (h, both) = (suc d, both.0, both.1)
 both_at false l r d (f, g) = (d, f, g)
 
-fine_infix : (s : Sign) (l r : Exp) → FineAt l → FineAt r → (level d : ℕ) → FitsInfix s (FitsExp l) (FitsExp r) level d → AreFine (infix_pieces level s (exp_pieces l) (exp_pieces r))
+fine_infix : (s : Sign) (l r : Exp) → FineAt l → FineAt r → (level d : ℕ) → FitsInfix s (FitsExp l) (FitsExp r) level d →
+    AreFine (infix_pieces level s (exp_pieces l) (exp_pieces r))
 fine_infix s l r x y level d f =
     let weaker = nat_lt level (sign_level s) in
     let both = both_at weaker (FitsExp l (sign_level s)) (FitsExp r (sign_level s - 1)) d f in
@@ -102,7 +109,9 @@ infix_operand : (j : Joint) (left right : ℕ → List Piece) → BeginsOperand 
 infix_operand j left right =
     let op = operator_is j in
     let weaker : nat_lt 0 (sign_level (joint_sign j)) ≡ true = ap (nat_lt 0) op.level ∙ lt-ltb 0 (suc op.below) (omega arith) in
-    subst (λ b. BeginsOperand (if_needed b sign.Open ++ (left (sign_level (joint_sign j)) ++ A_sign (joint_sign j) ∷ (right (sign_level (joint_sign j) - 1) ++ if_needed b sign.Close)))) (sym weaker) tt
+    subst (λ b. BeginsOperand
+    (if_needed b sign.Open ++ (left (sign_level (joint_sign j)) ++ A_sign
+    (joint_sign j) ∷ (right (sign_level (joint_sign j) - 1) ++ if_needed b sign.Close)))) (sym weaker) tt
 
 operand_begins : (e : Exp) → BeginsOperand (exp_pieces e 0)
 operand_begins (Num n at) = tt
@@ -140,13 +149,22 @@ mutual
   fine_stm : (s : Stm) (d : ℕ) → FitsStm s d → AreFine (stm_pieces s)
   fine_stm Skip d f = tt
   fine_stm (Assign (named x at) u e) d (name, f) = (name, fine_exp e weakest d f.0)
-  fine_stm (AssignElement (named x at) i u e) d (name, few, f, g) = (name, fine_both (whole_pieces i) _ (fine_exp i weakest (suc d) f.0) (fine_exp e weakest d g.0))
+  fine_stm (AssignElement (named x at) i u e) d (name, few, f, g) =
+      (name, fine_both (whole_pieces i) _ (fine_exp i weakest (suc d) f.0) (fine_exp e weakest d g.0))
   fine_stm (Push (named x at) (named s place)) d (f, g) = (f, (g, tt))
   fine_stm (Pop (named x at) (named s place)) d (f, g) = (f, (g, tt))
   fine_stm (Swap (named x at) (named y place)) d (f, g) = (f, (g, tt))
-  fine_stm (If e s t f) d (few, a, b, c, g) = fine_both (whole_pieces e) _ (fine_exp e weakest (suc d) a.0) (fine_both (block_pieces s) _ (fine_block s (suc d) b.1) (fine_both (block_pieces t) _ (fine_block t (suc d) c.1) (fine_exp f weakest (suc d) g.0)))
-  fine_stm (Loop e s t f) d (few, a, b, c, g) = fine_both (whole_pieces e) _ (fine_exp e weakest (suc d) a.0) (fine_both (block_pieces s) _ (fine_block s (suc d) b.1) (fine_both (block_pieces t) _ (fine_block t (suc d) c.1) (fine_exp f weakest (suc d) g.0)))
-  fine_stm (LocalInt (named x at) e s (named y place) f) d (few, name, a, b, c, g) = (name, fine_both (whole_pieces e) _ (fine_exp e weakest (suc d) a.0) (fine_both (block_pieces s) _ (fine_block s (suc d) b.1) (c.0, fine_exp f weakest (suc d) g.0)))
+  fine_stm (If e s t f) d (few, a, b, c, g) =
+      fine_both (whole_pieces e) _ (fine_exp e weakest (suc d) a.0)
+      (fine_both (block_pieces s) _ (fine_block s (suc d) b.1) (fine_both (block_pieces t) _ (fine_block t (suc d) c.1) (fine_exp f weakest (suc d) g.0)))
+  fine_stm (Loop e s t f) d (few, a, b, c, g) =
+      fine_both (whole_pieces e) _ (fine_exp e weakest (suc d) a.0)
+      (fine_both (block_pieces s) _ (fine_block s (suc d) b.1) (fine_both (block_pieces t) _ (fine_block t (suc d) c.1) (fine_exp f weakest (suc d) g.0)))
+  fine_stm (LocalInt (named x at) e s (named y place) f) d (few, name, a, b, c, g) = (
+    name,
+    fine_both (whole_pieces e) _ (fine_exp e weakest (suc d) a.0)
+        (fine_both (block_pieces s) _ (fine_block s (suc d) b.1) (c.0, fine_exp f weakest (suc d) g.0)),
+  )
   fine_stm (LocalStack (named x at) s (named y place)) d (few, name, b, c) = (name, fine_both (block_pieces s) _ (fine_block s (suc d) b.1) (c.0, tt))
   fine_stm (Call (named x at) xs) d (name, f) = (name, fine_both (names_pieces xs) _ (fine_names xs f) tt)
   fine_stm (Uncall (named x at) xs) d (name, f) = (name, fine_both (names_pieces xs) _ (fine_names xs f) tt)
@@ -185,4 +203,5 @@ fine_procedures [] f = tt
 fine_procedures (p ∷ ps) (f, g) = fine_both (procedure_pieces p) (procedures_pieces ps) (fine_procedure p f) (fine_procedures ps g)
 
 pub fine_cell : (c : Cell) → FitsCell c → AreFine (cell_pieces c)
-fine_cell (cell_of ds b ps) (f, g, h) = fine_both (declarations_pieces ds) (block_pieces b ++ procedures_pieces ps) (fine_declarations ds f) (fine_both (block_pieces b) (procedures_pieces ps) (fine_block b 0 g) (fine_procedures ps h))
+fine_cell (cell_of ds b ps) (f, g, h) = fine_both (declarations_pieces ds) (block_pieces b ++ procedures_pieces ps) (fine_declarations ds f)
+    (fine_both (block_pieces b) (procedures_pieces ps) (fine_block b 0 g) (fine_procedures ps h))

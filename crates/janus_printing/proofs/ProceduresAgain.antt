@@ -17,7 +17,8 @@ use Rattle.janus_printing.proofs.ParametersAgain.{parameters_again}
 
 -- behind the cell c these tokens are read as procedures, with which it is d
 abbrev pub CellTo : Bool → Cell → Cell → List Token → List Token → Type 0
-CellTo main c d ts rest = (p : Part) (k : Cell → Form p) (v : Tree p) (d' : ℕ) (end : List Token) → SpellsTo (k d) v 0 rest d' end → SpellsTo (part (Procedures main c) k) v 0 ts d' end
+CellTo main c d ts rest = (p : Part) (k : Cell → Form p) (v : Tree p) (d' : ℕ) (end : List Token) → SpellsTo (k d) v 0 rest d' end →
+    SpellsTo (part (Procedures main c) k) v 0 ts d' end
 
 -- these tokens are read as that procedure
 pub record ProcedureAgain (q : Procedure) (ts rest : List Token) : Type 0 where
@@ -44,10 +45,17 @@ procedure_again (procedure_of (named f place) xs b) ts rest (name, fits_xs, fits
           part_to {q = Procedures main c} k d v 0 0 d' ts end behind
           (begins_to (rule (Procedures main c)) (part (A_procedure main c) done) d 0 0 (Keyword_of keyword.Procedure on) ts t1 end e1 refl (omega arith)
           (part_to {p = Procedures main c} {q = A_procedure main c} done d d 0 0 0 t1 end end
-          (begins_to (rule (A_procedure main c)) (behind_name (named f at) (λ q. part (Procedures main (with_procedure c q)) done)) d 0 0 (Name f at) t1 t2 end e2 refl (omega arith)
-          (token_to {p = A_procedure main c} (The_sign sign.Open) (λ z. part Parameters (λ zs. sign_then sign.Close (part Body (λ e. part (Procedures main (with_procedure c (procedure_of (named f at) zs e))) done)))) tt d 0 0 (Sign_of sign.Open opened) t2 t3 end e3 refl
-          (ys.spells {p = A_procedure main c} (λ zs. sign_then sign.Close (part Body (λ e. part (Procedures main (with_procedure c (procedure_of (named f at) zs e))) done))) d 0 end
-          (token_to {p = A_procedure main c} (The_sign sign.Close) (λ z. part Body (λ e. part (Procedures main (with_procedure c (procedure_of (named f at) ys.again e))) done)) tt d 0 0 (Sign_of sign.Close shut) two.0 t4 end e4 refl
+          (begins_to (rule (A_procedure main c)) (behind_name (named f at) (λ q. part (Procedures main (with_procedure c q)) done)) d 0 0
+          (Name f at) t1 t2 end e2 refl (omega arith)
+          (token_to {p = A_procedure main c} (The_sign sign.Open)
+          (λ z. part Parameters
+          (λ zs. sign_then sign.Close (part Body (λ e. part (Procedures main (with_procedure c (procedure_of (named f at) zs e))) done)))) tt d 0 0
+          (Sign_of sign.Open opened) t2 t3 end e3 refl
+          (ys.spells {p = A_procedure main c}
+          (λ zs. sign_then sign.Close (part Body (λ e. part (Procedures main (with_procedure c (procedure_of (named f at) zs e))) done))) d 0 end
+          (token_to {p = A_procedure main c} (The_sign sign.Close)
+          (λ z. part Body (λ e. part (Procedures main (with_procedure c (procedure_of (named f at) ys.again e))) done)) tt d 0 0 (Sign_of sign.Close shut)
+          two.0 t4 end e4 refl
           (body.body fits_b.0 {p = A_procedure main c} (λ e. part (Procedures main (with_procedure c (procedure_of (named f at) ys.again e))) done) d 0 end
           (next (A_procedure main c) done d 0 end (done_to {p = A_procedure main c} d 0 end)))))))
           (done_to {p = Procedures main c} d 0 end)))
@@ -60,7 +68,8 @@ procedures_again [] ts rest f s = record {
   same = refl;
   goes = λ main ds b ps p k v d' end onward.
       subst (λ l. SpellsTo (part (Procedures main (cell_of ds b ps)) k) v 0 l d' end) (sym s)
-      (left_to {q = Procedures main (cell_of ds b ps)} k (cell_of ds b ps) v 0 d' rest end refl (subst (λ qs. SpellsTo (k (cell_of ds b qs)) v 0 rest d' end) (append-nil ps) onward));
+      (left_to {q = Procedures main (cell_of ds b ps)} k (cell_of ds b ps) v 0 d' rest end refl
+      (subst (λ qs. SpellsTo (k (cell_of ds b qs)) v 0 rest d' end) (append-nil ps) onward));
 }
 procedures_again (q ∷ qs) ts rest (f, g) s =
     let two = in_two (procedure_pieces q) (procedures_pieces qs) ts rest s in
@@ -71,5 +80,6 @@ procedures_again (q ∷ qs) ts rest (f, g) s =
       same = (λ n. first.same n ∷ others.same n);
       goes = λ main ds b ps.
           first.goes main (cell_of ds b ps) (cell_of ds b (ps ++ first.again ∷ others.again)) rest
-          (subst (λ os. CellTo main (cell_of ds b (ps ++ first.again ∷ [])) (cell_of ds b os) two.0 rest) (append_assoc ps (first.again ∷ []) others.again) (others.goes main ds b (ps ++ first.again ∷ [])));
+          (subst (λ os. CellTo main (cell_of ds b (ps ++ first.again ∷ [])) (cell_of ds b os) two.0 rest) (append_assoc ps (first.again ∷ []) others.again)
+          (others.goes main ds b (ps ++ first.again ∷ [])));
     }

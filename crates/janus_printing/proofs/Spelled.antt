@@ -43,27 +43,37 @@ pub record Starts {p : Part} (rules : Token → Option (Rule p)) (v : Tree p) (c
   pub is : rules token ≡ Some rule_of
   pub runs : Runs rule_of c v behind m' rest
 
-pub part_there : {p q : Part} (k : Tree q → Form p) (u : Tree q) (v : Tree p) (c between m' : Count) (from middle rest : List Token) → Starts (rule q) u c from between middle → Spells all p (k u) v between middle m' rest → Spells all p (part q k) v c from m' rest
-part_there {p} {q} k u v c between m' from middle rest s onward = subst (λ ts. Spells all p (part q k) v c ts m' rest) (sym s.whole) (Grammar.a_part s.is s.runs.0 s.runs.1 onward)
+pub part_there : {p q : Part} (k : Tree q → Form p) (u : Tree q) (v : Tree p) (c between m' : Count) (from middle rest : List Token) →
+    Starts (rule q) u c from between middle → Spells all p (k u) v between middle m' rest → Spells all p (part q k) v c from m' rest
+part_there {p} {q} k u v c between m' from middle rest s onward =
+    subst (λ ts. Spells all p (part q k) v c ts m' rest) (sym s.whole) (Grammar.a_part s.is s.runs.0 s.runs.1 onward)
 
-pub keyword_there : {p : Part} (w : Keyword) (f : Form p) (v : Tree p) (c m' : Count) (at : Span) (from more rest : List Token) → from ≡ Keyword_of w at ∷ more → seen (The_keyword w) (Keyword_of w at) ≡ Some tt → Spells all p f v c more m' rest → Spells all p (keyword_then w f) v c from m' rest
+pub keyword_there : {p : Part} (w : Keyword) (f : Form p) (v : Tree p) (c m' : Count) (at : Span) (from more rest : List Token) →
+    from ≡ Keyword_of w at ∷ more → seen (The_keyword w) (Keyword_of w at) ≡ Some tt → Spells all p f v c more m' rest →
+    Spells all p (keyword_then w f) v c from m' rest
 keyword_there {p} w f v c m' at from more rest e is s = subst (λ ts. Spells all p (keyword_then w f) v c ts m' rest) (sym e) (Grammar.token is refl s)
 
-pub sign_there : {p : Part} (r : Sign) (f : Form p) (v : Tree p) (c m' : Count) (at : Span) (from more rest : List Token) → from ≡ Sign_of r at ∷ more → seen (The_sign r) (Sign_of r at) ≡ Some tt → Spells all p f v c more m' rest → Spells all p (sign_then r f) v c from m' rest
+pub sign_there : {p : Part} (r : Sign) (f : Form p) (v : Tree p) (c m' : Count) (at : Span) (from more rest : List Token) → from ≡ Sign_of r at ∷ more →
+    seen (The_sign r) (Sign_of r at) ≡ Some tt → Spells all p f v c more m' rest → Spells all p (sign_then r f) v c from m' rest
 sign_there {p} r f v c m' at from more rest e is s = subst (λ ts. Spells all p (sign_then r f) v c ts m' rest) (sym e) (Grammar.token is refl s)
 
 -- the name of a stack in parentheses
-pub stack_there : {p : Part} (k : Named → Form p) (x : List ℕ) (v : Tree p) (c m' : Count) (opened at shut : Span) (from t1 t2 more rest : List Token) → from ≡ Sign_of sign.Open opened ∷ t1 → t1 ≡ Name x at ∷ t2 → t2 ≡ Sign_of sign.Close shut ∷ more →
+pub stack_there : {p : Part} (k : Named → Form p) (x : List ℕ) (v : Tree p) (c m' : Count) (opened at shut : Span) (from t1 t2 more rest : List Token) →
+    from ≡ Sign_of sign.Open opened ∷ t1 → t1 ≡ Name x at ∷ t2 → t2 ≡ Sign_of sign.Close shut ∷ more →
     Spells all p (k (named x at)) v c more m' rest → Spells all p (stack_then k) v c from m' rest
 stack_there {p} k x v c m' opened at shut from t1 t2 more rest e1 e2 e3 s =
-    let shut_behind : Spells all p (sign_then sign.Close (k (named x at))) v c t2 m' rest = sign_there sign.Close (k (named x at)) v c m' shut t2 more rest e3 refl s in
-    let name_behind : Spells all p (take Name_class (λ y. sign_then sign.Close (k y))) v c t1 m' rest = subst (λ ts. Spells all p (take Name_class (λ y. sign_then sign.Close (k y))) v c ts m' rest) (sym e2) (Grammar.token {c = Name_class} refl refl shut_behind) in
+    let shut_behind : Spells all p (sign_then sign.Close (k (named x at))) v c t2 m' rest =
+    sign_there sign.Close (k (named x at)) v c m' shut t2 more rest e3 refl s in
+    let name_behind : Spells all p (take Name_class (λ y. sign_then sign.Close (k y))) v c t1 m' rest =
+    subst (λ ts. Spells all p (take Name_class (λ y. sign_then sign.Close (k y))) v c ts m' rest) (sym e2)
+    (Grammar.token {c = Name_class} refl refl shut_behind) in
     sign_there sign.Open (take Name_class (λ y. sign_then sign.Close (k y))) v c m' opened from t1 rest e1 refl name_behind
 
 -- ---- operators
 
 -- levels without operators are passed over
-pub chains_over : {p : Part} (l l' n n' : ℕ) (e : Exp) (k : Exp → Form p) (v : Tree p) (c m' : Count) (from rest : List Token) → l + n ≡ l' + n' → l ≤ l' → Spells all p (chains l' n' e k) v c from m' rest → Spells all p (chains l n e k) v c from m' rest
+pub chains_over : {p : Part} (l l' n n' : ℕ) (e : Exp) (k : Exp → Form p) (v : Tree p) (c m' : Count) (from rest : List Token) → l + n ≡ l' + n' → l ≤ l' →
+    Spells all p (chains l' n' e k) v c from m' rest → Spells all p (chains l n e k) v c from m' rest
 chains_over {p} l l' zero n' e k v c m' from rest same h s =
     let one : l' ≡ l = omega (arith, same, h) in
     let other : n' ≡ zero = omega (arith, same, h) in

@@ -31,12 +31,14 @@ module _ (ls : List (List ℤ)) (i : ℕ) (l : List ℤ) (n : ℤ) where
   one_read (values.Array v) z = refl
   one_read (values.Stack j) z = ap plain.Stack (sym (get_or-set_other ls i j l [] (differ i j (omega (arith, z)))))
 
-  none_read : (vs : List Variable) (q : ℕ) → times i (stacks_of vs) ≡ 0 → plain_of ls n (slice_index_or vs q no_variable).value ≡ plain_of (set ls i l) n (slice_index_or vs q no_variable).value
+  none_read : (vs : List Variable) (q : ℕ) → times i (stacks_of vs) ≡ 0 → plain_of ls n (slice_index_or vs q no_variable).value ≡ plain_of (set ls i l) n
+      (slice_index_or vs q no_variable).value
   none_read [] q z = refl
   none_read (v ∷ vs) zero z = one_read v.value (let a = times_append i (number_in v.value) (stacks_of vs) in omega (arith, a, z))
   none_read (v ∷ vs) (suc q) z = none_read vs q (let a = times_append i (number_in v.value) (stacks_of vs) in omega (arith, a, z))
 
-  pub others_read : (vs : List Variable) (p : ℕ) (v : Variable) → slice_get vs p ≡ Some v → v.value ≡ values.Stack i → times i (stacks_of vs) ≤ 1 → (q : ℕ) → q ≢ p → plain_of ls n (slice_index_or vs q no_variable).value ≡ plain_of (set ls i l) n (slice_index_or vs q no_variable).value
+  pub others_read : (vs : List Variable) (p : ℕ) (v : Variable) → slice_get vs p ≡ Some v → v.value ≡ values.Stack i → times i (stacks_of vs) ≤ 1 → (q : ℕ) →
+      q ≢ p → plain_of ls n (slice_index_or vs q no_variable).value ≡ plain_of (set ls i l) n (slice_index_or vs q no_variable).value
   others_read [] p v e s t q ne = cc
   others_read (w ∷ vs) zero v e s t zero ne = absurd (ne refl)
   others_read (w ∷ vs) zero v e s t (suc q) ne =

@@ -1,5 +1,6 @@
 -- The numbers beside variables: more of them, fewer, and another one in place of one.
-use Rattle.std.proofs.Common.{◌≡◌, nat_eq, false, ℕ, ℤ, ◌<◌, ◌≤◌, List, [], ◌∷◌, ◌++◌, length, set, get_or, refl, ap, ◌∙◌, sym, subst, arith, get_or-set_same, get_or-set_other}
+use Rattle.std.proofs.Common.{◌≡◌, nat_eq, false, ℕ, ℤ, ◌<◌, ◌≤◌, List, [], ◌∷◌, ◌++◌, length, set, get_or, refl, ap, ◌∙◌, sym, subst, arith, get_or-set_same}
+use Rattle.std.proofs.Common.{get_or-set_other}
 use Rattle.std.specs.Prelude.{slice_get, slice_index_or, Some, pos}
 use Rattle.std.proofs.lemmas.Bool.{eqb-false}
 use Rattle.std.proofs.lemmas.List.{get_or_append_left}
@@ -34,17 +35,22 @@ module _ (texts : List Name) (lists : List (List ℤ)) (few more all : List ℤ)
   same_number : (q : ℕ) → q < length few → slice_index_or few q (pos 0) ≡ slice_index_or all q (pos 0)
   same_number q lt = sym (ap (λ l. slice_index_or l q (pos 0)) is ∙ get_or_append_left few more (pos 0) q lt)
 
-  module _ (xs : List Name) (d : ℕ) (vs : List Variable) (cs : List Call) (nested : AreNested (length vs) (here (bounds xs [] vs) (length vs) cs) (around (bounds xs [] vs) (length vs) cs)) (fits : length vs ≤ length few) where
+  module _ (xs : List Name) (d : ℕ) (vs : List Variable) (cs : List Call)
+      (nested : AreNested (length vs) (here (bounds xs [] vs) (length vs) cs) (around (bounds xs [] vs) (length vs) cs)) (fits : length vs ≤ length few) where
     below : AgreeBelow (value_at short vs) (value_at long vs) (length vs)
     below q lt = ap (λ n. plain_of lists n (slice_index_or vs q no_variable).value) (same_number q (omega (arith, lt, fits)))
 
     -- what is held stays
     pub same_beside : held_in short xs d vs cs ≡ held_in long xs d vs cs
     same_beside =
-        same_state (same_sight (value_at short vs) (value_at long vs) (length vs) (here (bounds xs [] vs) (length vs) cs) (around (bounds xs [] vs) (length vs) cs) nested below)
-        refl refl refl (callers_below (value_at short vs) (value_at long vs) (length vs) (here (bounds xs [] vs) (length vs) cs) (around (bounds xs [] vs) (length vs) cs) nested below)
+        same_state (same_sight (value_at short vs) (value_at long vs) (length vs) (here (bounds xs [] vs) (length vs) cs)
+        (around (bounds xs [] vs) (length vs) cs) nested below)
+        refl refl refl
+        (callers_below (value_at short vs) (value_at long vs) (length vs) (here (bounds xs [] vs) (length vs) cs) (around (bounds xs [] vs) (length vs) cs)
+        nested below)
 
-held_moved : (one other : Holdings) (xs : List Name) (ns : List ℕ) (vs : List Variable) (d : ℕ) (cs : List Call) → IsHeld one xs ns vs d cs → held_in one xs d vs cs ≡ held_in other xs d vs cs → IsHeld other xs ns vs d cs
+held_moved : (one other : Holdings) (xs : List Name) (ns : List ℕ) (vs : List Variable) (d : ℕ) (cs : List Call) → IsHeld one xs ns vs d cs →
+    held_in one xs d vs cs ≡ held_in other xs d vs cs → IsHeld other xs ns vs d cs
 held_moved one other xs ns vs d cs h same =
     let callers : (held_in one xs d vs cs).callers ≡ (held_in other xs d vs cs).callers = ap (λ (h : StoreState). h.callers) same in
     record {
@@ -57,7 +63,8 @@ held_moved one other xs ns vs d cs h same =
       calls = h.calls;
     }
 
-module _ (texts : List Name) (lists : List (List ℤ)) (few more all : List ℤ) (is : all ≡ few ++ more) (xs : List Name) (ns : List ℕ) (vs : List Variable) (d : ℕ) (cs : List Call) (fits : length vs ≤ length few) where
+module _ (texts : List Name) (lists : List (List ℤ)) (few more all : List ℤ) (is : all ≡ few ++ more) (xs : List Name) (ns : List ℕ) (vs : List Variable)
+    (d : ℕ) (cs : List Call) (fits : length vs ≤ length few) where
   pub held_longer : IsHeld (short texts lists few more all is) xs ns vs d cs → IsHeld (long texts lists few more all is) xs ns vs d cs
   held_longer h = held_moved _ _ xs ns vs d cs h (same_beside texts lists few more all is xs d vs cs h.nested fits)
 
@@ -65,7 +72,9 @@ module _ (texts : List Name) (lists : List (List ℤ)) (few more all : List ℤ)
   held_shorter h = held_moved _ _ xs ns vs d cs h (sym (same_beside texts lists few more all is xs d vs cs h.nested fits))
 
 -- other texts
-pub other_texts : (lists : List (List ℤ)) (numbers : List ℤ) (ls ms xs : List Name) (ns : List ℕ) (vs : List Variable) (d : ℕ) (cs : List Call) → IsHeld (record { lists = lists; numbers = numbers; texts = ls }) xs ns vs d cs → IsHeld (record { lists = lists; numbers = numbers; texts = ms }) xs ns vs d cs
+pub other_texts : (lists : List (List ℤ)) (numbers : List ℤ) (ls ms xs : List Name) (ns : List ℕ) (vs : List Variable) (d : ℕ) (cs : List Call) →
+    IsHeld (record { lists = lists; numbers = numbers; texts = ls }) xs ns vs d cs →
+    IsHeld (record { lists = lists; numbers = numbers; texts = ms }) xs ns vs d cs
 other_texts lists numbers ls ms xs ns vs d cs h = record {
   one_number = h.one_number;
   row = h.row;
@@ -78,7 +87,8 @@ other_texts lists numbers ls ms xs ns vs d cs h = record {
 
 -- the last one
 pub last_number : (few all : List ℤ) (n : ℤ) (p : ℕ) → all ≡ few ++ n ∷ [] → length few ≡ p → slice_index_or all p (pos 0) ≡ n
-last_number few all n p is long = ap (λ l. slice_index_or l p (pos 0)) is ∙ ap (λ p. slice_index_or (few ++ n ∷ []) p (pos 0)) (sym long) ∙ get_or-append_seam few n [] (pos 0)
+last_number few all n p is long = ap (λ l. slice_index_or l p (pos 0)) is ∙ ap (λ p. slice_index_or (few ++ n ∷ []) p (pos 0)) (sym long)
+    ∙ get_or-append_seam few n [] (pos 0)
 
 -- ---- the number of a name
 
@@ -93,7 +103,9 @@ is_number lists b values.Number n e = refl
 is_number lists b (values.Array v) n e = cc
 is_number lists b (values.Stack i) n e = cc
 
-module _ (pool : Holdings) (xs : List Name) (ns : List ℕ) (vs : List Variable) (d : ℕ) (cs : List Call) (h : IsHeld pool xs ns vs d cs) (H : StoreState) (view : held_in pool xs d vs cs ≡ H) (k : ℕ) (x : Name) (n : ℤ) (e : IsNumbered H.names k x) (f : look x H.slots ≡ Fine (Num n)) (p : ℕ) (q : IsPlaceOf ns vs k p) where
+module _ (pool : Holdings) (xs : List Name) (ns : List ℕ) (vs : List Variable) (d : ℕ) (cs : List Call) (h : IsHeld pool xs ns vs d cs) (H : StoreState)
+    (view : held_in pool xs d vs cs ≡ H) (k : ℕ) (x : Name) (n : ℤ) (e : IsNumbered H.names k x) (f : look x H.slots ≡ Fine (Num n)) (p : ℕ)
+    (q : IsPlaceOf ns vs k p) where
   there : (v : Variable) × (slice_get vs p ≡ Some v)
   there = get_there vs p (place_fits pool xs ns vs d cs h H view k x (Num n) p e f q)
 

@@ -39,7 +39,8 @@ count_cleared k (e ∷ l) =
     ap (λ b. one_if b + count_of k (map cleared_entry l)) (same_of k e.1) ∙ ap (λ n. one_if (is_of k e.1) + n) (count_cleared k l)
 
 count_first : (k : Kind) (i : ℕ) (s : Store) → count_of k (take i (listed (cleared s))) ≡ count_of k (take i (listed s))
-count_first k i s = ap (λ l. count_of k (take i l)) (listed_cleared s) ∙ ap (count_of k) (take-map cleared_entry i (listed s)) ∙ count_cleared k (take i (listed s))
+count_first k i s = ap (λ l. count_of k (take i l)) (listed_cleared s) ∙ ap (count_of k) (take-map cleared_entry i (listed s))
+    ∙ count_cleared k (take i (listed s))
 
 nth_cleared : (k : Kind) (s : Store) (n : ℕ) (x : Name) → IsNth k s n x → IsNth k (cleared s) n x
 nth_cleared k s n x h = record {

@@ -1,5 +1,6 @@
 -- The places of each kind, as variables are put and taken away.
-use Rattle.std.proofs.Common.{◌≡◌, ℕ, zero, suc, ◌+◌, ◌-◌, ◌<◌, ◌≤◌, Bool, true, false, List, [], ◌∷◌, ◌++◌, length, take, drop, set, length-append, append_assoc, refl, ap, ◌∙◌, sym, subst, arith, ℤ}
+use Rattle.std.proofs.Common.{◌≡◌, ℕ, zero, suc, ◌+◌, ◌-◌, ◌<◌, ◌≤◌, Bool, true, false, List, [], ◌∷◌, ◌++◌, length, take, drop, set, length-append}
+use Rattle.std.proofs.Common.{append_assoc, refl, ap, ◌∙◌, sym, subst, arith, ℤ}
 use Rattle.std.specs.Prelude.{slice_get, slice_index_or, Some, None}
 use Rattle.std.proofs.lemmas.List.{append-nil, get_or_append_left, take-append-le, take-append-drop}
 use Rattle.std.proofs.lemmas.Option.{slice_get_past, get_or_from_slice_get}
@@ -8,7 +9,8 @@ use Rattle.std.proofs.Math.Seq.{take-append_seam, get_or-append_seam}
 use Rattle.janus_meaning.specs.Store.{cleared_val}
 use Rattle.janus_store.specs.Inside.{no_variable, sight_start}
 use Rattle.janus_store.specs.Kinds.{same_kind, kind_of}
-use Rattle.janus_store.specs.Places.{Sorted, list_of, length_in, with_place, without_last, cut_to, all_but_last, Mark, mark_of, marks_of, no_mark, kind_at, if_so, of_kind, ArePlaced, AreSorted, AreCounted}
+use Rattle.janus_store.specs.Places.{Sorted, list_of, length_in, with_place, without_last, cut_to, all_but_last, Mark, mark_of, marks_of, no_mark, kind_at}
+use Rattle.janus_store.specs.Places.{if_so, of_kind, ArePlaced, AreSorted, AreCounted}
 use Rattle.janus_store.specs.Values.{val_in}
 use Rattle.janus_store.specs.declared.places.Kind.{Kind}
 use Rattle.janus_store.specs.declared.places.Kind.TheVariants as kinds
@@ -78,7 +80,8 @@ pub marks_long : (vs : List Variable) → length (marks_of vs) ≡ length vs
 marks_long [] = refl
 marks_long (v ∷ vs) = ap suc (marks_long vs)
 
-pub marks_set : (vs : List Variable) (i : ℕ) (v w : Variable) → slice_get vs i ≡ Some v → w.place ≡ v.place → kind_of w.value ≡ kind_of v.value → marks_of (set vs i w) ≡ marks_of vs
+pub marks_set : (vs : List Variable) (i : ℕ) (v w : Variable) → slice_get vs i ≡ Some v → w.place ≡ v.place → kind_of w.value ≡ kind_of v.value →
+    marks_of (set vs i w) ≡ marks_of vs
 marks_set [] i v w e p k = refl
 marks_set (u ∷ vs) zero v w e p k =
     let same : v ≡ u = cc in
@@ -109,7 +112,8 @@ own_kind vs y own =
     ∙ ap (λ p. kind_of (slice_index_or (vs ++ y ∷ []) p no_variable).value) own
     ∙ ap (λ (v : Variable). kind_of v.value) (get_or-append_seam vs y [] no_variable)
 
-pub older_kind : (vs : List Variable) (y w : Variable) → y.place < length vs → slice_get vs y.place ≡ Some w → kind_at (marks_of vs ++ mark_of y ∷ []) y.place ≡ kind_of w.value
+pub older_kind : (vs : List Variable) (y w : Variable) → y.place < length vs → slice_get vs y.place ≡ Some w →
+    kind_at (marks_of vs ++ mark_of y ∷ []) y.place ≡ kind_of w.value
 older_kind vs y w lt e =
     ap (λ l. kind_at l y.place) (sym (marks_both vs (y ∷ [])))
     ∙ kind_marked (vs ++ y ∷ []) y.place
@@ -173,7 +177,8 @@ places_taken k n ms h =
 pub sorted_low : (s : Sorted) (ms : List Mark) (k : Kind) → AreSorted s ms → length (list_of k s) ≤ length ms
 sorted_low s ms k h = omega (arith, kind_short k ms ms, ap length (h.lists k))
 
-pub sorted_put : (s t : Sorted) (ms : List Mark) (m : Mark) (kind : Kind) → AreSorted s ms → m.place ≤ length ms → kind_at (ms ++ m ∷ []) m.place ≡ kind → t ≡ with_place kind m.place s → AreSorted t (ms ++ m ∷ [])
+pub sorted_put : (s t : Sorted) (ms : List Mark) (m : Mark) (kind : Kind) → AreSorted s ms → m.place ≤ length ms → kind_at (ms ++ m ∷ []) m.place ≡ kind →
+    t ≡ with_place kind m.place s → AreSorted t (ms ++ m ∷ [])
 sorted_put s t ms m kind h low is e =
     let placed : ArePlaced 0 (ms ++ m ∷ []) = placed_put 0 ms m h.placed (omega arith) in
     record {
@@ -186,18 +191,22 @@ sorted_put s t ms m kind h low is e =
       placed = placed;
     }
 
-last_is : (k : Kind) (s : Sorted) (ms : List Mark) (m : Mark) (kind : Kind) → AreSorted s (ms ++ m ∷ []) → kind_at (ms ++ m ∷ []) m.place ≡ kind → list_of k s ≡ of_kind k ms ms ++ if_so (same_kind k kind) m.place
+last_is : (k : Kind) (s : Sorted) (ms : List Mark) (m : Mark) (kind : Kind) → AreSorted s (ms ++ m ∷ []) → kind_at (ms ++ m ∷ []) m.place ≡ kind →
+    list_of k s ≡ of_kind k ms ms ++ if_so (same_kind k kind) m.place
 last_is k s ms m kind h is =
     h.lists k ∙ older_first k ms (m ∷ []) h.placed
     ∙ ap (λ l. of_kind k ms ms ++ l) (append-nil (if_so (same_kind k (kind_at (ms ++ m ∷ []) m.place)) m.place))
     ∙ ap (λ d. of_kind k ms ms ++ if_so (same_kind k d) m.place) is
 
-pub last_there : (s : Sorted) (ms : List Mark) (m : Mark) (kind : Kind) → AreSorted s (ms ++ m ∷ []) → kind_at (ms ++ m ∷ []) m.place ≡ kind → 0 < length (list_of kind s)
+pub last_there : (s : Sorted) (ms : List Mark) (m : Mark) (kind : Kind) → AreSorted s (ms ++ m ∷ []) → kind_at (ms ++ m ∷ []) m.place ≡ kind →
+    0 < length (list_of kind s)
 last_there s ms m kind h is =
-    let e : list_of kind s ≡ of_kind kind ms ms ++ m.place ∷ [] = last_is kind s ms m kind h is ∙ ap (λ b. of_kind kind ms ms ++ if_so b m.place) (same_self kind) in
+    let e : list_of kind s ≡ of_kind kind ms ms ++ m.place ∷ [] = last_is kind s ms m kind h is
+    ∙ ap (λ b. of_kind kind ms ms ++ if_so b m.place) (same_self kind) in
     omega (arith, ap length e, length-append (of_kind kind ms ms) (m.place ∷ []))
 
-pub sorted_removed : (s t : Sorted) (ms : List Mark) (m : Mark) (kind : Kind) → AreSorted s (ms ++ m ∷ []) → kind_at (ms ++ m ∷ []) m.place ≡ kind → t ≡ without_last kind s → AreSorted t ms
+pub sorted_removed : (s t : Sorted) (ms : List Mark) (m : Mark) (kind : Kind) → AreSorted s (ms ++ m ∷ []) → kind_at (ms ++ m ∷ []) m.place ≡ kind →
+    t ≡ without_last kind s → AreSorted t ms
 sorted_removed s t ms m kind h is e = record {
   lists = λ k. removed k kind m.place (of_kind k ms ms) s t e (last_is k s ms m kind h is);
   placed = placed_front 0 ms (m ∷ []) h.placed;
@@ -207,13 +216,16 @@ sorted_removed s t ms m kind h is e = record {
 
 pub counted_put : (ms more : List Mark) (cs : List Call) → sight_start cs ≤ length ms → AreCounted ms cs → AreCounted (ms ++ more) cs
 counted_put ms more [] le h = tt
-counted_put ms more (c ∷ cs) le h = subst (λ us. ((k : Kind) → length_in k c.lengths ≡ length (of_kind k us us)) × AreCounted us cs) (sym (take-append-le c.start ms more le)) h
+counted_put ms more (c ∷ cs) le h =
+    subst (λ us. ((k : Kind) → length_in k c.lengths ≡ length (of_kind k us us)) × AreCounted us cs) (sym (take-append-le c.start ms more le)) h
 
 pub counted_left : (ms more : List Mark) (cs : List Call) → sight_start cs ≤ length ms → AreCounted (ms ++ more) cs → AreCounted ms cs
 counted_left ms more [] le h = tt
-counted_left ms more (c ∷ cs) le h = subst (λ us. ((k : Kind) → length_in k c.lengths ≡ length (of_kind k us us)) × AreCounted us cs) (take-append-le c.start ms more le) h
+counted_left ms more (c ∷ cs) le h =
+    subst (λ us. ((k : Kind) → length_in k c.lengths ≡ length (of_kind k us us)) × AreCounted us cs) (take-append-le c.start ms more le) h
 
-pub counted_call : (s : Sorted) (ms more : List Mark) (c : Call) (cs : List Call) → AreSorted s ms → c.start ≡ length ms → c.lengths ≡ record { numbers = length s.numbers; arrays = length s.arrays; stacks = length s.stacks } → AreCounted ms cs → AreCounted (ms ++ more) (c ∷ cs)
+pub counted_call : (s : Sorted) (ms more : List Mark) (c : Call) (cs : List Call) → AreSorted s ms → c.start ≡ length ms →
+    c.lengths ≡ record { numbers = length s.numbers; arrays = length s.arrays; stacks = length s.stacks } → AreCounted ms cs → AreCounted (ms ++ more) (c ∷ cs)
 counted_call s ms more c cs h start is counted =
     let e : take c.start (ms ++ more) ≡ ms = ap (λ n. take n (ms ++ more)) start ∙ take-append_seam ms more in
     subst (λ us. ((k : Kind) → length_in k c.lengths ≡ length (of_kind k us us)) × AreCounted us cs) (sym e) (λ k. told k ∙ ap length (h.lists k), counted)
@@ -224,7 +236,8 @@ counted_call s ms more c cs h start is counted =
     told kinds.Stack = ap (λ (l : Lengths). l.stacks) is
 
 -- a call is left
-pub sorted_cut : (s t : Sorted) (ms : List Mark) (c : Call) (cs : List Call) → AreSorted s ms → AreCounted ms (c ∷ cs) → t ≡ cut_to c.lengths s → AreSorted t (take c.start ms)
+pub sorted_cut : (s t : Sorted) (ms : List Mark) (c : Call) (cs : List Call) → AreSorted s ms → AreCounted ms (c ∷ cs) → t ≡ cut_to c.lengths s →
+    AreSorted t (take c.start ms)
 sorted_cut s t ms c cs h counted e =
     let us = take c.start ms in
     let ns = drop c.start ms in

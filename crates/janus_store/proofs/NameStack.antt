@@ -86,7 +86,8 @@ first_is (x ∷ l) = refl
 
 -- ---- the stack of a name
 
-module _ (pool : Holdings) (xs : List Name) (ns : List ℕ) (vs : List Variable) (d : ℕ) (cs : List Call) (h : IsHeld pool xs ns vs d cs) (H : StoreState) (view : held_in pool xs d vs cs ≡ H) (k : ℕ) (x : Name) (l : List ℤ) (e : IsNumbered H.names k x) (f : look x H.slots ≡ Fine (Stk l)) where
+module _ (pool : Holdings) (xs : List Name) (ns : List ℕ) (vs : List Variable) (d : ℕ) (cs : List Call) (h : IsHeld pool xs ns vs d cs) (H : StoreState)
+    (view : held_in pool xs d vs cs ≡ H) (k : ℕ) (x : Name) (l : List ℤ) (e : IsNumbered H.names k x) (f : look x H.slots ≡ Fine (Stk l)) where
   pub has_stack : (i : ℕ) × IsStackOf ns vs k i
   has_stack =
       let p = has_place pool xs ns vs d cs h H view k x (Stk l) e f in
@@ -114,7 +115,8 @@ module _ (pool : Holdings) (xs : List Name) (ns : List ℕ) (vs : List Variable)
       other = record { lists = after; numbers = pool.numbers; texts = pool.texts }
 
       others : (q : ℕ) → nat_eq q s.0 ≡ false → value_at pool vs q ≡ value_at other vs q
-      others q ne = others_read pool.lists i (list_of after i) (slice_index_or pool.numbers q (pos 0)) vs s.0 s.1 s.3 s.4 once q (eqb-false q s.0 ne) ∙ ap (λ ls. plain_of ls (slice_index_or pool.numbers q (pos 0)) (slice_index_or vs q no_variable).value) (sym is)
+      others q ne = others_read pool.lists i (list_of after i) (slice_index_or pool.numbers q (pos 0)) vs s.0 s.1 s.3 s.4 once q (eqb-false q s.0 ne)
+          ∙ ap (λ ls. plain_of ls (slice_index_or pool.numbers q (pos 0)) (slice_index_or vs q no_variable).value) (sym is)
 
       stays : set vs s.0 s.1 ≡ vs
       stays = set_back vs s.0 s.1 s.3

@@ -1,5 +1,6 @@
 -- The n-th name of a kind in sight, and where its value is.
-use Rattle.std.proofs.Common.{◌≡◌, ℕ, ℤ, zero, suc, ◌+◌, ◌<◌, ◌≤◌, Bool, true, false, List, [], ◌∷◌, ◌++◌, length, take, drop, map, length-append, refl, ap, ◌∙◌, sym, subst, arith, ⊎_elim}
+use Rattle.std.proofs.Common.{◌≡◌, ℕ, ℤ, zero, suc, ◌+◌, ◌<◌, ◌≤◌, Bool, true, false, List, [], ◌∷◌, ◌++◌, length, take, drop, map, length-append, refl, ap}
+use Rattle.std.proofs.Common.{◌∙◌, sym, subst, arith, ⊎_elim}
 use Rattle.std.specs.Prelude.{slice_get, slice_index_or, Some, None, pos}
 use Rattle.std.proofs.lemmas.Bool.{cases_lt}
 use Rattle.std.proofs.lemmas.List.{take-append-drop, take-map}
@@ -13,7 +14,8 @@ use Rattle.janus_names.specs.Numbers.{IsNumbered}
 use Rattle.janus_store.specs.Bounds.{all_of, search_for}
 use Rattle.janus_store.specs.Inside.{bounds, name_among, no_variable, value_at, here, held_in, sight_start, IsHeld, IsPlaceOf}
 use Rattle.janus_store.specs.Kinds.{same_kind, kind_of, is_of, one_if, count_of, IsNth}
-use Rattle.janus_store.specs.Places.{Sorted, list_of, length_in, Mark, mark_of, marks_of, kind_at, if_so, of_kind, ArePlaced, AreSorted, AreCounted, lengths_before}
+use Rattle.janus_store.specs.Places.{Sorted, list_of, length_in, Mark, mark_of, marks_of, kind_at, if_so, of_kind, ArePlaced, AreSorted, AreCounted}
+use Rattle.janus_store.specs.Places.{lengths_before}
 use Rattle.janus_store.specs.Plain.{val_of}
 use Rattle.janus_store.specs.StoreState.{StoreState}
 use Rattle.janus_store.specs.Values.{val_in, Holdings}
@@ -63,7 +65,8 @@ so_long false p = refl
 
 module _ (pool : Holdings) (xs : List Name) (vs : List Variable) where
   kind_here : (k : Kind) (p : ℕ) → is_of k (val_of (value_at pool vs p)) ≡ same_kind k (kind_at (marks_of vs) p)
-  kind_here k p = value_kind pool.lists (slice_index_or pool.numbers p (pos 0)) k (slice_index_or vs p no_variable).value ∙ ap (same_kind k) (sym (kind_marked vs p))
+  kind_here k p = value_kind pool.lists (slice_index_or pool.numbers p (pos 0)) k (slice_index_or vs p no_variable).value
+      ∙ ap (same_kind k) (sym (kind_marked vs p))
 
   counts : (k : Kind) (us : List Variable) → count_of k (map (pair_of xs (value_at pool vs)) us) ≡ length (of_kind k (marks_of vs) (marks_of us))
   counts k [] = refl
@@ -106,11 +109,13 @@ none_before kinds.Number = refl
 none_before kinds.Array = refl
 none_before kinds.Stack = refl
 
-told_before : (k : Kind) (ms : List Mark) (cs : List Call) → ArePlaced 0 ms → AreCounted ms cs → length_in k (lengths_before cs) ≡ length (of_kind k ms (take (sight_start cs) ms))
+told_before : (k : Kind) (ms : List Mark) (cs : List Call) → ArePlaced 0 ms → AreCounted ms cs →
+    length_in k (lengths_before cs) ≡ length (of_kind k ms (take (sight_start cs) ms))
 told_before k ms [] h c = none_before k
 told_before k ms (call ∷ cs) h c = c.0 k ∙ ap length (sym (places_taken k call.start ms h))
 
-module _ (pool : Holdings) (xs : List Name) (ns : List ℕ) (vs : List Variable) (d : ℕ) (cs : List Call) (h : IsHeld pool xs ns vs d cs) (s : Sorted) (sorted : AreSorted s (marks_of vs)) (counted : AreCounted (marks_of vs) cs) (H : StoreState) (view : held_in pool xs d vs cs ≡ H) where
+module _ (pool : Holdings) (xs : List Name) (ns : List ℕ) (vs : List Variable) (d : ℕ) (cs : List Call) (h : IsHeld pool xs ns vs d cs) (s : Sorted)
+    (sorted : AreSorted s (marks_of vs)) (counted : AreCounted (marks_of vs) cs) (H : StoreState) (view : held_in pool xs d vs cs ≡ H) where
   abbrev first : ℕ
   first = sight_start cs
 
@@ -132,8 +137,10 @@ module _ (pool : Holdings) (xs : List Name) (ns : List ℕ) (vs : List Variable)
   -- how many are in sight
   pub count_is : (k : Kind) → length_in k (lengths_before cs) + count_of k (listed H.slots) ≡ length (list_of k s)
   count_is k =
-      let all : of_kind k ms ms ≡ of_kind k ms (take first ms) ++ of_kind k ms (drop first ms) = ap (of_kind k ms) (sym (take-append-drop first ms)) ∙ kind_both k ms (take first ms) (drop first ms) in
-      let here : count_of k (listed H.slots) ≡ length (of_kind k ms (drop first ms)) = ap (count_of k) listed_is ∙ counts pool xs vs k us ∙ ap (λ l. length (of_kind k ms l)) (sym (drop-map mark_of first vs)) in
+      let all : of_kind k ms ms ≡ of_kind k ms (take first ms) ++ of_kind k ms (drop first ms) = ap (of_kind k ms) (sym (take-append-drop first ms))
+      ∙ kind_both k ms (take first ms) (drop first ms) in
+      let here : count_of k (listed H.slots) ≡ length (of_kind k ms (drop first ms)) = ap (count_of k) listed_is ∙ counts pool xs vs k us
+      ∙ ap (λ l. length (of_kind k ms l)) (sym (drop-map mark_of first vs)) in
       omega (arith, before k, here, ap length (sorted.lists k), ap length all, length-append (of_kind k ms (take first ms)) (of_kind k ms (drop first ms)))
 
   module _ (k : Kind) (n : ℕ) (x : Name) (nth : IsNth k H.slots n x) where
@@ -149,7 +156,8 @@ module _ (pool : Holdings) (xs : List Name) (ns : List ℕ) (vs : List Variable)
     newest : IsNewest xs us x nth.index
     newest j w e g =
         ⊎_elim
-        (λ (lt : nth.index < j). absurd (nth.newest j (name_among xs w) (val_of (value_at pool vs w.place)) lt (ap (λ l. slice_get l j) listed_is ∙ slice_get-map pairs us j w e) g))
+        (λ (lt : nth.index < j). absurd
+        (nth.newest j (name_among xs w) (val_of (value_at pool vs w.place)) lt (ap (λ l. slice_get l j) listed_is ∙ slice_get-map pairs us j w e) g))
         (λ (le : j ≤ nth.index). le)
         (cases_lt nth.index j)
 
@@ -166,7 +174,8 @@ module _ (pool : Holdings) (xs : List Name) (ns : List ℕ) (vs : List Variable)
     nth_named = ap (λ (h : StoreState). slice_get h.names at.0.name) (sym view) ∙ mine
 
     nth_look : look x H.slots ≡ Fine nth.value
-    nth_look = ap (λ (h : StoreState). look x h.slots) (sym view) ∙ look_found (value_at pool vs) x at.0.place (all_of (here (bounds xs [] vs) (length vs) cs)) in_level ∙ ap Fine valued
+    nth_look = ap (λ (h : StoreState). look x h.slots) (sym view) ∙ look_found (value_at pool vs) x at.0.place (all_of (here (bounds xs [] vs) (length vs) cs))
+        in_level ∙ ap Fine valued
 
     nth_place : IsPlaceOf ns vs at.0.name at.0.place
     nth_place = has_place_of xs ns vs (laid_of pool xs ns vs d cs h) at.0.name x at.0.place mine (in_row x at.0.place (bounds xs [] vs) (length vs) cs in_level)
@@ -175,9 +184,11 @@ module _ (pool : Holdings) (xs : List Name) (ns : List ℕ) (vs : List Variable)
     told =
         let two : of_kind k ms (take (first + nth.index) ms) ≡ of_kind k ms (take first ms) ++ of_kind k ms (take nth.index (drop first ms)) =
         ap (of_kind k ms) (sym (take_two first nth.index ms)) ∙ kind_both k ms (take first ms) (take nth.index (drop first ms)) in
-        let marks : take nth.index (drop first ms) ≡ marks_of (take nth.index us) = ap (take nth.index) (drop-map mark_of first vs) ∙ take-map mark_of nth.index us in
+        let marks : take nth.index (drop first ms) ≡ marks_of (take nth.index us) = ap (take nth.index) (drop-map mark_of first vs)
+        ∙ take-map mark_of nth.index us in
         let some : n ≡ length (of_kind k ms (take nth.index (drop first ms))) =
-        sym nth.before ∙ ap (λ l. count_of k (take nth.index l)) listed_is ∙ ap (count_of k) (take-map pairs nth.index us) ∙ counts pool xs vs k (take nth.index us) ∙ ap (λ l. length (of_kind k ms l)) (sym marks) in
+        sym nth.before ∙ ap (λ l. count_of k (take nth.index l)) listed_is ∙ ap (count_of k) (take-map pairs nth.index us)
+        ∙ counts pool xs vs k (take nth.index us) ∙ ap (λ l. length (of_kind k ms l)) (sym marks) in
         omega (arith, before k, some, ap length two, length-append (of_kind k ms (take first ms)) (of_kind k ms (take nth.index (drop first ms))))
 
     nth_listed : slice_get (list_of k s) (length_in k (lengths_before cs) + n) ≡ Some at.0.place
@@ -186,7 +197,8 @@ module _ (pool : Holdings) (xs : List Name) (ns : List ℕ) (vs : List Variable)
         let is : same_kind k (kind_at ms at.0.place) ≡ true = sym (kind_here pool xs vs k at.0.place) ∙ ap (is_of k) valued ∙ nth.kind in
         let one : ms ≡ take m ms ++ mark_of at.0 ∷ drop (suc m) ms = split_at ms m (mark_of at.0) (slice_get-map mark_of vs m at.0 there) in
         let all : of_kind k ms ms ≡ of_kind k ms (take m ms) ++ at.0.place ∷ of_kind k ms (drop (suc m) ms) =
-        ap (of_kind k ms) one ∙ kind_both k ms (take m ms) (mark_of at.0 ∷ drop (suc m) ms) ∙ ap (λ b. of_kind k ms (take m ms) ++ (if_so b at.0.place ++ of_kind k ms (drop (suc m) ms))) is in
+        ap (of_kind k ms) one ∙ kind_both k ms (take m ms) (mark_of at.0 ∷ drop (suc m) ms)
+        ∙ ap (λ b. of_kind k ms (take m ms) ++ (if_so b at.0.place ++ of_kind k ms (drop (suc m) ms))) is in
         ap (λ l. slice_get l (length_in k (lengths_before cs) + n)) (sorted.lists k ∙ all)
         ∙ ap (slice_get (of_kind k ms (take m ms) ++ at.0.place ∷ of_kind k ms (drop (suc m) ms))) told
         ∙ at_seam (of_kind k ms (take m ms)) (of_kind k ms (drop (suc m) ms)) at.0.place
@@ -198,4 +210,12 @@ module _ (pool : Holdings) (xs : List Name) (ns : List ℕ) (vs : List Variable)
     nth_found p e =
         let both : Some at.0.place ≡ Some p = sym nth_listed ∙ e in
         let same : at.0.place ≡ p = cc in
-        record { number = at.0.name; value = nth.value; named = nth_named; seen = nth_look; kind = nth.kind; place = subst (IsPlaceOf ns vs at.0.name) same nth_place }
+        record {
+          number = at.0.name;
+          value = nth.value;
+          named = nth_named;
+          seen = nth_look;
+          kind = nth.kind;
+          place = subst (IsPlaceOf ns vs at.0.name)
+              same nth_place;
+        }

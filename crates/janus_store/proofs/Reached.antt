@@ -11,7 +11,8 @@ use Rattle.janus_store.proofs.Grown.{same_held, grown_held}
 use Rattle.janus_store.proofs.Slots.{further, none_further, slots_grown, slots_go_on, slots_one}
 
 -- places that were filled up with zeros, or left
-pub filled_up : (ok : Bool) (ns ms : List ℕ) (n k : ℕ) → length ns ≤ n → ms ≡ (if ok then take n ns ++ replicate k 0 else ns) → (more : ℕ) × (ms ≡ ns ++ replicate more 0)
+pub filled_up : (ok : Bool) (ns ms : List ℕ) (n k : ℕ) → length ns ≤ n → ms ≡ (if ok then take n ns ++ replicate k 0 else ns) → (more : ℕ) ×
+    (ms ≡ ns ++ replicate more 0)
 filled_up true ns ms n k le e = (k, e ∙ ap (λ l. l ++ replicate k 0) (take_all n ns le))
 filled_up false ns ms n k le e = (0, e ∙ sym (append-nil ns))
 
@@ -27,14 +28,16 @@ module _ {L : Type 0} (a : Inside L) (k : IsKept (slots_of a) a) (more : Vec ℕ
 
   pub reached_held : held_of after ≡ record (held_of a) { names = slots_below (length more.items) }
   reached_held =
-      same_held (holdings a) (slots_of a) (further (length a.newest.items) m) (slots_below (length more.items)) a.newest.items a.variables.items a.declared (reverse a.calls.items) k.held grown
+      same_held (holdings a) (slots_of a) (further (length a.newest.items) m) (slots_below (length more.items)) a.newest.items a.variables.items a.declared
+      (reverse a.calls.items) k.held grown
 
   pub reached_on : GoOn (slots_of a) (slots_below (length more.items))
   reached_on = slots_go_on (length a.newest.items) m (length more.items) long
 
   pub reached_kept : IsKept (slots_below (length more.items)) after
   reached_kept = record {
-    held = grown_held (holdings a) (slots_of a) (further (length a.newest.items) m) (slots_below (length more.items)) a.newest.items a.variables.items a.declared (reverse a.calls.items) k.held grown
+    held = grown_held (holdings a) (slots_of a) (further (length a.newest.items) m) (slots_below (length more.items))
+        a.newest.items a.variables.items a.declared (reverse a.calls.items) k.held grown
         (slots_one (length more.items)) more.items (is ∙ ap (λ l. a.newest.items ++ l) (sym (none_further (length a.newest.items) m)));
     stacks = omega (arith, k.stacks, ap live_stacks reached_held);
     values = omega (arith, k.values, ap values_held reached_held);

@@ -1,5 +1,6 @@
 -- What is in sight: the variables from the innermost call's start on.
-use Rattle.std.proofs.Common.{◌≡◌, ℕ, zero, suc, ◌+◌, ◌-◌, ◌<◌, ◌≤◌, List, [], ◌∷◌, ◌++◌, length, take, drop, map, append_assoc, refl, ap, ◌∙◌, sym, subst, arith}
+use Rattle.std.proofs.Common.{◌≡◌, ℕ, zero, suc, ◌+◌, ◌-◌, ◌<◌, ◌≤◌, List, [], ◌∷◌, ◌++◌, length, take, drop, map, append_assoc, refl, ap, ◌∙◌, sym, subst}
+use Rattle.std.proofs.Common.{arith}
 use Rattle.std.specs.Prelude.{slice_get, Some, None}
 use Rattle.std.proofs.lemmas.List.{append-nil, take-append-drop, length-drop}
 use Rattle.std.proofs.lemmas.Option.{slice_get_past}
@@ -58,7 +59,9 @@ take_two (suc a) b (x ∷ l) =
     ap (λ l. x ∷ l) (take_two a b l) ∙ ap (λ n. take n (x ∷ l)) (sym z)
 
 -- the names of the innermost level, the newest first
-pub level_names : (xs : List Name) (vs : List Variable) (cs : List Call) → AreNested (length vs) (here (bounds xs [] vs) (length vs) cs) (around (bounds xs [] vs) (length vs) cs) → all_of (here (bounds xs [] vs) (length vs) cs) ≡ bounds xs [] (drop (sight_start cs) vs)
+pub level_names : (xs : List Name) (vs : List Variable) (cs : List Call) →
+    AreNested (length vs) (here (bounds xs [] vs) (length vs) cs) (around (bounds xs [] vs) (length vs) cs) →
+    all_of (here (bounds xs [] vs) (length vs) cs) ≡ bounds xs [] (drop (sight_start cs) vs)
 level_names xs vs [] h = append-nil (bounds xs [] vs)
 level_names xs vs (c ∷ cs) h =
     let l = level_of (length vs) (here (bounds xs [] vs) (length vs) (c ∷ cs)) (around (bounds xs [] vs) (length vs) (c ∷ cs)) h in
@@ -73,7 +76,8 @@ below_under : (n : ℕ) (xs : List Name) (ts : List Bound) (vs : List Variable) 
 below_under n xs ts [] h = h
 below_under n xs ts (v ∷ vs) h = (below_under n xs (bound_of xs v ∷ ts) vs h).1
 
-pub below_nth : (n : ℕ) (xs : List Name) (ts : List Bound) (vs : List Variable) (i : ℕ) (v : Variable) → AllBelow n (bounds xs ts vs) → slice_get vs i ≡ Some v → v.place < n
+pub below_nth : (n : ℕ) (xs : List Name) (ts : List Bound) (vs : List Variable) (i : ℕ) (v : Variable) → AllBelow n (bounds xs ts vs) →
+    slice_get vs i ≡ Some v → v.place < n
 below_nth n xs ts [] i v h e = let bad : None ≡ Some v = sym (slice_get_past [] i (omega arith)) ∙ e in cc
 below_nth n xs ts (w ∷ vs) zero v h e =
     let same : w ≡ v = cc in
@@ -117,7 +121,8 @@ module _ (pool : Holdings) (xs : List Name) (ns : List ℕ) (vs : List Variable)
   pub listed_all : listed (held_in pool xs d vs cs).slots ≡ map (pair_of xs (value_at pool vs)) (drop (sight_start cs) vs)
   listed_all = ap listed sight_is ∙ listed_bounds xs (value_at pool vs) [] (drop (sight_start cs) vs)
 
-  pub listed_in_sight : (i : ℕ) (v w : Variable) → slice_get vs (sight_start cs + i) ≡ Some v → slice_get vs v.place ≡ Some w → slice_get (listed (held_in pool xs d vs cs).slots) i ≡ Some (name_among xs v, val_at pool v.place w.value)
+  pub listed_in_sight : (i : ℕ) (v w : Variable) → slice_get vs (sight_start cs + i) ≡ Some v → slice_get vs v.place ≡ Some w →
+      slice_get (listed (held_in pool xs d vs cs).slots) i ≡ Some (name_among xs v, val_at pool v.place w.value)
   listed_in_sight i v w e f =
       ap (λ l. slice_get l i) listed_all
       ∙ slice_get-map (pair_of xs (value_at pool vs)) (drop (sight_start cs) vs) i v (drop_nth (sight_start cs) i vs ∙ e)
@@ -132,23 +137,31 @@ pub start_of : (ts : List Bound) (n : ℕ) (cs : List Call) → (here ts n cs).s
 start_of ts n [] = refl
 start_of ts n (c ∷ cs) = refl
 
-pub counted_over : (vs ws : List Variable) (y : Variable) (cs : List Call) → sight_start cs ≤ length vs → ws ≡ vs ++ y ∷ [] → AreCounted (marks_of vs) cs → AreCounted (marks_of ws) cs
+pub counted_over : (vs ws : List Variable) (y : Variable) (cs : List Call) → sight_start cs ≤ length vs → ws ≡ vs ++ y ∷ [] → AreCounted (marks_of vs) cs →
+    AreCounted (marks_of ws) cs
 counted_over vs ws y cs low e h =
-    subst (λ l. AreCounted l cs) (sym (ap marks_of e ∙ marks_both vs (y ∷ []))) (counted_put (marks_of vs) (marks_of (y ∷ [])) cs (omega (arith, low, marks_long vs)) h)
+    subst (λ l. AreCounted l cs) (sym (ap marks_of e ∙ marks_both vs (y ∷ [])))
+    (counted_put (marks_of vs) (marks_of (y ∷ [])) cs (omega (arith, low, marks_long vs)) h)
 
-pub counted_under : (vs ws : List Variable) (y : Variable) (cs : List Call) → sight_start cs ≤ length ws → vs ≡ ws ++ y ∷ [] → AreCounted (marks_of vs) cs → AreCounted (marks_of ws) cs
+pub counted_under : (vs ws : List Variable) (y : Variable) (cs : List Call) → sight_start cs ≤ length ws → vs ≡ ws ++ y ∷ [] → AreCounted (marks_of vs) cs →
+    AreCounted (marks_of ws) cs
 counted_under vs ws y cs low e h =
-    counted_left (marks_of ws) (marks_of (y ∷ [])) cs (omega (arith, low, marks_long ws)) (subst (λ l. AreCounted l cs) (ap marks_of e ∙ marks_both ws (y ∷ [])) h)
+    counted_left (marks_of ws) (marks_of (y ∷ [])) cs (omega (arith, low, marks_long ws))
+    (subst (λ l. AreCounted l cs) (ap marks_of e ∙ marks_both ws (y ∷ [])) h)
 
 -- a variable that has its own place
-pub sorted_over : (s t : Sorted) (vs ws : List Variable) (y : Variable) → y.place ≡ length vs → ws ≡ vs ++ y ∷ [] → AreSorted s (marks_of vs) → t ≡ with_place (kind_of y.value) y.place s → AreSorted t (marks_of ws)
+pub sorted_over : (s t : Sorted) (vs ws : List Variable) (y : Variable) → y.place ≡ length vs → ws ≡ vs ++ y ∷ [] → AreSorted s (marks_of vs) →
+    t ≡ with_place (kind_of y.value) y.place s → AreSorted t (marks_of ws)
 sorted_over s t vs ws y own e h added =
-    subst (AreSorted t) (sym (ap marks_of e ∙ marks_both vs (y ∷ []))) (sorted_put s t (marks_of vs) (mark_of y) (kind_of y.value) h (omega (arith, own, marks_long vs)) (own_kind vs y own) added)
+    subst (AreSorted t) (sym (ap marks_of e ∙ marks_both vs (y ∷ [])))
+    (sorted_put s t (marks_of vs) (mark_of y) (kind_of y.value) h (omega (arith, own, marks_long vs)) (own_kind vs y own) added)
 
 -- a variable that has the place of an older one
-pub sorted_bound : (s t : Sorted) (vs ws : List Variable) (y w : Variable) → y.place < length vs → slice_get vs y.place ≡ Some w → ws ≡ vs ++ y ∷ [] → AreSorted s (marks_of vs) → t ≡ with_place (kind_of w.value) y.place s → AreSorted t (marks_of ws)
+pub sorted_bound : (s t : Sorted) (vs ws : List Variable) (y w : Variable) → y.place < length vs → slice_get vs y.place ≡ Some w → ws ≡ vs ++ y ∷ [] →
+    AreSorted s (marks_of vs) → t ≡ with_place (kind_of w.value) y.place s → AreSorted t (marks_of ws)
 sorted_bound s t vs ws y w lt at e h added =
-    subst (AreSorted t) (sym (ap marks_of e ∙ marks_both vs (y ∷ []))) (sorted_put s t (marks_of vs) (mark_of y) (kind_of w.value) h (omega (arith, lt, marks_long vs)) (older_kind vs y w lt at) added)
+    subst (AreSorted t) (sym (ap marks_of e ∙ marks_both vs (y ∷ [])))
+    (sorted_put s t (marks_of vs) (mark_of y) (kind_of w.value) h (omega (arith, lt, marks_long vs)) (older_kind vs y w lt at) added)
 
 module _ (s : Sorted) (vs ws : List Variable) (y : Variable) (own : y.place ≡ length ws) (e : vs ≡ ws ++ y ∷ []) (h : AreSorted s (marks_of vs)) where
   split : AreSorted s (marks_of ws ++ mark_of y ∷ [])

@@ -1,5 +1,6 @@
 -- The declared variables have their numbers in order, and each has a text: as variables come and go, and what is shown of them.
-use Rattle.std.proofs.Common.{◌≡◌, ℕ, zero, suc, ◌+◌, ◌<◌, ◌≤◌, List, [], ◌∷◌, ◌++◌, length, length-append, map, take, drop, set, append_assoc, refl, ap, ◌∙◌, sym, arith, ⊎_elim}
+use Rattle.std.proofs.Common.{◌≡◌, ℕ, zero, suc, ◌+◌, ◌<◌, ◌≤◌, List, [], ◌∷◌, ◌++◌, length, length-append, map, take, drop, set, append_assoc, refl, ap, ◌∙◌}
+use Rattle.std.proofs.Common.{sym, arith, ⊎_elim}
 use Rattle.std.specs.Prelude.{slice_get, slice_index_or, reverse, Some, None}
 use Rattle.std.proofs.lemmas.List.{reverse-append, length-take-le, take-append-drop, append-nil}
 use Rattle.std.proofs.lemmas.Option.{slice_get_past, slice_get_within}
@@ -18,7 +19,8 @@ use Rattle.janus_store.proofs.Indexes.{last_or_before}
 -- ---- variables come and go
 
 -- each variable among the first ones has the number that one had there
-pub told_by : (ls : List Name) (d : ℕ) (vs ws : List Variable) → AreTold ls d vs → ((i : ℕ) (v : Variable) → i < d → slice_get ws i ≡ Some v → (u : Variable) × (slice_get vs i ≡ Some u) × (u.name ≡ v.name)) → AreTold ls d ws
+pub told_by : (ls : List Name) (d : ℕ) (vs ws : List Variable) → AreTold ls d vs →
+    ((i : ℕ) (v : Variable) → i < d → slice_get ws i ≡ Some v → (u : Variable) × (slice_get vs i ≡ Some u) × (u.name ≡ v.name)) → AreTold ls d ws
 told_by ls d vs ws t h = record {
   one_text = t.one_text;
   many = t.many;
@@ -43,7 +45,8 @@ told_fewer ls d vs ws more e t =
 pub told_taken : (ls : List Name) (d s : ℕ) (vs ws : List Variable) → ws ≡ take s vs → AreTold ls d vs → AreTold ls d ws
 told_taken ls d s vs ws e t = told_fewer ls d vs ws (drop s vs) (sym (ap (λ (l : List Variable). l ++ drop s vs) e ∙ take-append-drop s vs)) t
 
-same_numbers : (vs : List Variable) (p i : ℕ) (v w u : Variable) → slice_get vs p ≡ Some v → w.name ≡ v.name → slice_get (set vs p w) i ≡ Some u → (t : Variable) × (slice_get vs i ≡ Some t) × (t.name ≡ u.name)
+same_numbers : (vs : List Variable) (p i : ℕ) (v w u : Variable) → slice_get vs p ≡ Some v → w.name ≡ v.name → slice_get (set vs p w) i ≡ Some u →
+    (t : Variable) × (slice_get vs i ≡ Some t) × (t.name ≡ u.name)
 same_numbers [] p i v w u at n e = let bad : None ≡ Some v = sym (slice_get_past [] p (omega arith)) ∙ at in cc
 same_numbers (x ∷ vs) zero zero v w u at n e =
     let a : x ≡ v = cc in
@@ -54,7 +57,8 @@ same_numbers (x ∷ vs) (suc p) zero v w u at n e = (u, e, refl)
 same_numbers (x ∷ vs) (suc p) (suc i) v w u at n e = same_numbers vs p i v w u at n e
 
 -- one has another value
-pub told_set : (ls : List Name) (d : ℕ) (vs : List Variable) (p : ℕ) (v w : Variable) → slice_get vs p ≡ Some v → w.name ≡ v.name → AreTold ls d vs → AreTold ls d (set vs p w)
+pub told_set : (ls : List Name) (d : ℕ) (vs : List Variable) (p : ℕ) (v w : Variable) → slice_get vs p ≡ Some v → w.name ≡ v.name → AreTold ls d vs →
+    AreTold ls d (set vs p w)
 told_set ls d vs p v w at n t = told_by ls d vs (set vs p w) t (λ i u lt f. same_numbers vs p i v w u at n f)
 
 -- a text that is new stands behind the others
@@ -66,7 +70,8 @@ added_last ls ms k x new named adds =
     adds
 
 -- one name more is declared
-pub told_declared : (ls ms : List Name) (d e : ℕ) (vs ws : List Variable) (x : Name) (y : Variable) → AreTold ls d vs → d ≡ length vs → ms ≡ ls ++ x ∷ [] → HaveOneNumber ms → ws ≡ vs ++ y ∷ [] → y.name ≡ d → e ≡ suc d → AreTold ms e ws
+pub told_declared : (ls ms : List Name) (d e : ℕ) (vs ws : List Variable) (x : Name) (y : Variable) → AreTold ls d vs → d ≡ length vs → ms ≡ ls ++ x ∷ [] →
+    HaveOneNumber ms → ws ≡ vs ++ y ∷ [] → y.name ≡ d → e ≡ suc d → AreTold ms e ws
 told_declared ls ms d e vs ws x y t all m one w n up = record {
   one_text = one;
   many = omega (arith, ap length m, length-append ls (x ∷ []), t.many, up);
@@ -78,7 +83,8 @@ told_declared ls ms d e vs ws x y t all m one w n up = record {
 }
 
 -- the newest name is no longer declared
-pub told_retired : (ls ms : List Name) (d e : ℕ) (vs ws more : List Variable) → AreTold ls d vs → e ≤ d → ms ≡ take e ls → HaveOneNumber ms → vs ≡ ws ++ more → AreTold ms e ws
+pub told_retired : (ls ms : List Name) (d e : ℕ) (vs ws more : List Variable) → AreTold ls d vs → e ≤ d → ms ≡ take e ls → HaveOneNumber ms → vs ≡ ws ++ more →
+    AreTold ms e ws
 told_retired ls ms d e vs ws more t le m one w = record {
   one_text = one;
   many = ap length m ∙ length-take-le e ls (omega (arith, le, t.many));
@@ -119,7 +125,8 @@ names_bound ls ts (v ∷ vs) =
     ∙ ap (λ l. l ++ map its_name ts) (sym (reverse-append (name_among ls v ∷ []) (map (name_among ls) vs)))
 
 -- variables whose numbers are in order, from k on, have names that are in order
-in_order : (all ls : List Name) (k : ℕ) (vs : List Variable) → ((i : ℕ) (v : Variable) → slice_get vs i ≡ Some v → v.name ≡ k + i) → ((i : ℕ) (x : Name) → IsNumbered ls i x → slice_index_or all (k + i) [] ≡ x) → length vs ≡ length ls → map (name_among all) vs ≡ ls
+in_order : (all ls : List Name) (k : ℕ) (vs : List Variable) → ((i : ℕ) (v : Variable) → slice_get vs i ≡ Some v → v.name ≡ k + i) →
+    ((i : ℕ) (x : Name) → IsNumbered ls i x → slice_index_or all (k + i) [] ≡ x) → length vs ≡ length ls → map (name_among all) vs ≡ ls
 in_order all [] k [] h g l = refl
 in_order all [] k (v ∷ vs) h g l = absurd (omega (arith, l))
 in_order all (x ∷ ls) k [] h g l = absurd (omega (arith, l))
@@ -132,19 +139,22 @@ in_order all (x ∷ ls) k (v ∷ vs) h g l =
     (omega (arith, l)) in
     ap (λ x. x ∷ map (name_among all) vs) first ∙ ap (λ l. x ∷ l) rest
 
-names_told : (ls : List Name) (vs : List Variable) → ((i : ℕ) (v : Variable) → slice_get vs i ≡ Some v → v.name ≡ i) → length vs ≡ length ls → map (name_among ls) vs ≡ ls
+names_told : (ls : List Name) (vs : List Variable) → ((i : ℕ) (v : Variable) → slice_get vs i ≡ Some v → v.name ≡ i) → length vs ≡ length ls →
+    map (name_among ls) vs ≡ ls
 names_told ls vs h l =
     in_order ls ls 0 vs
     (λ i v e. let z : i ≡ 0 + i = omega arith in h i v e ∙ z)
     (λ i x e. let z : 0 + i ≡ i = omega arith in ap (λ j. slice_index_or ls j []) z ∙ name_is ls i x e) l
 
 -- the names of variables under their texts
-pub named_told : (val : ℕ → Plain) (ls : List Name) (vs : List Variable) → ((i : ℕ) (v : Variable) → slice_get vs i ≡ Some v → v.name ≡ i) → length vs ≡ length ls → names_in (seen val [] (bounds ls [] vs)) ≡ reverse ls
+pub named_told : (val : ℕ → Plain) (ls : List Name) (vs : List Variable) → ((i : ℕ) (v : Variable) → slice_get vs i ≡ Some v → v.name ≡ i) →
+    length vs ≡ length ls → names_in (seen val [] (bounds ls [] vs)) ≡ reverse ls
 named_told val ls vs h l =
     names_seen val (bounds ls [] vs) ∙ names_bound ls [] vs ∙ append-nil (reverse (map (name_among ls) vs)) ∙ ap reverse (names_told ls vs h l)
 
 -- variables under their texts
-pub renamed : (val : ℕ → Plain) (xs ls : List Name) (vs : List Variable) → ((i : ℕ) (v : Variable) → slice_get vs i ≡ Some v → v.name ≡ i) → length vs ≡ length ls → under_names (reverse ls) (seen val [] (bounds xs [] vs)) ≡ seen val [] (bounds ls [] vs)
+pub renamed : (val : ℕ → Plain) (xs ls : List Name) (vs : List Variable) → ((i : ℕ) (v : Variable) → slice_get vs i ≡ Some v → v.name ≡ i) →
+    length vs ≡ length ls → under_names (reverse ls) (seen val [] (bounds xs [] vs)) ≡ seen val [] (bounds ls [] vs)
 renamed val xs ls vs h l =
     ap (λ g. under_names g (seen val [] (bounds xs [] vs))) (sym (named_told val ls vs h l))
     ∙ renamed_by val (bounds xs [] vs) (bounds ls [] vs) (same_places xs ls [] [] vs tt)
@@ -166,7 +176,9 @@ stacked_seen val (t ∷ ts) h =
     ∙ ap (λ x. Slot x (val_of (val t.place)) (in_slots (seen val [] ts))) (sym h.0)
     ∙ ap (Slot t.name (val_of (val t.place))) (stacked_seen val ts h.1)
 
-stacked_bounds : (xs : List Name) (ts : List Bound) (vs : List Variable) → AreSlots xs → AreStacked ts → ((i : ℕ) (v : Variable) → slice_get vs i ≡ Some v → v.name ≡ length ts + i) → ((i : ℕ) (v : Variable) → slice_get vs i ≡ Some v → v.name < length xs) → AreStacked (bounds xs ts vs)
+stacked_bounds : (xs : List Name) (ts : List Bound) (vs : List Variable) → AreSlots xs → AreStacked ts →
+    ((i : ℕ) (v : Variable) → slice_get vs i ≡ Some v → v.name ≡ length ts + i) → ((i : ℕ) (v : Variable) → slice_get vs i ≡ Some v → v.name < length xs) →
+    AreStacked (bounds xs ts vs)
 stacked_bounds xs ts [] s h g low = h
 stacked_bounds xs ts (v ∷ vs) s h g low =
     let z : length ts + 0 ≡ length ts = omega arith in
@@ -176,7 +188,8 @@ stacked_bounds xs ts (v ∷ vs) s h g low =
     (λ i u e. low (suc i) u e)
 
 -- variables in their slots
-pub stand_in_slots : (val : ℕ → Plain) (xs : List Name) (vs : List Variable) → AreSlots xs → ((i : ℕ) (v : Variable) → slice_get vs i ≡ Some v → v.name ≡ i) → ((i : ℕ) (v : Variable) → slice_get vs i ≡ Some v → v.name < length xs) → in_slots (seen val [] (bounds xs [] vs)) ≡ seen val [] (bounds xs [] vs)
+pub stand_in_slots : (val : ℕ → Plain) (xs : List Name) (vs : List Variable) → AreSlots xs → ((i : ℕ) (v : Variable) → slice_get vs i ≡ Some v → v.name ≡ i) →
+    ((i : ℕ) (v : Variable) → slice_get vs i ≡ Some v → v.name < length xs) → in_slots (seen val [] (bounds xs [] vs)) ≡ seen val [] (bounds xs [] vs)
 stand_in_slots val xs vs s h low =
     stacked_seen val (bounds xs [] vs) (stacked_bounds xs [] vs s tt (λ i v e. let z : i ≡ 0 + i = omega arith in h i v e ∙ z) low)
 
@@ -185,7 +198,8 @@ slots_by val [] [] h = refl
 slots_by val [] (u ∷ us) h = absurd h
 slots_by val (t ∷ ts) [] h = absurd h
 slots_by val (t ∷ ts) (u ∷ us) h =
-    let long : length (names_in (seen val [] us)) ≡ length (names_in (seen val [] ts)) = names_long val us ∙ sym (same_long ts us h.1) ∙ sym (names_long val ts) in
+    let long : length (names_in (seen val [] us)) ≡ length (names_in (seen val [] ts)) = names_long val us ∙ sym (same_long ts us h.1)
+    ∙ sym (names_long val ts) in
     ap (λ n. Slot (slot n) (val_of (val u.place)) (in_slots (seen val [] us))) long
     ∙ ap (λ p. Slot (slot (length (names_in (seen val [] ts)))) (val_of (val p)) (in_slots (seen val [] us))) (sym h.0)
     ∙ ap (Slot (slot (length (names_in (seen val [] ts)))) (val_of (val t.place))) (slots_by val ts us h.1)
@@ -197,5 +211,6 @@ slots_by val (t ∷ ts) (u ∷ us) h =
     same_long (t ∷ ts) (u ∷ us) h = ap suc (same_long ts us h.1)
 
 -- whatever their names are, slots are the same
-pub same_in_slots : (val : ℕ → Plain) (xs ls : List Name) (vs : List Variable) → in_slots (seen val [] (bounds ls [] vs)) ≡ in_slots (seen val [] (bounds xs [] vs))
+pub same_in_slots : (val : ℕ → Plain) (xs ls : List Name) (vs : List Variable) →
+    in_slots (seen val [] (bounds ls [] vs)) ≡ in_slots (seen val [] (bounds xs [] vs))
 same_in_slots val xs ls vs = slots_by val (bounds xs [] vs) (bounds ls [] vs) (same_places xs ls [] [] vs tt)

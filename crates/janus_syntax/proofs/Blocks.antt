@@ -65,13 +65,15 @@ no_statement (Keyword_of _ place) k h = refl
 
 no_statements : (rest : List Token) → is_statement (next rest) ≡ false → (t : Token) → next rest ≡ Some t → rule Statements t ≡ None
 no_statements [] h t e = absurd cc
-no_statements (u ∷ rest) h t e = let same : u ≡ t = cc in subst (λ x. rule Statements x ≡ None) same (no_statement u (λ s. part Statements (λ b. done (More s b))) h)
+no_statements (u ∷ rest) h t e = let same : u ≡ t =
+    cc in subst (λ x. rule Statements x ≡ None) same (no_statement u (λ s. part Statements (λ b. done (More s b))) h)
 
 no_body : (t : Token) → is_statement (Some t) ≡ false → rule Body t ≡ None
 no_body t h = no_statement t (λ s. part Statements (λ b. done (More s b))) h
 
 -- a part that begins here
-pub part_begun : {goal p : Part} (q : Part) (k : Tree q → Form p) (S : Stack goal p) (d u : ℕ) (rest : List Token) (w v : What) (other : Step goal) (o : Option (Rule q)) → (r : Rule q) × (o ≡ Some r) →
+pub part_begun : {goal p : Part} (q : Part) (k : Tree q → Form p) (S : Stack goal p) (d u : ℕ) (rest : List Token) (w v : What) (other : Step goal)
+    (o : Option (Rule q)) → (r : Rule q) × (o ≡ Some r) →
     follow (λ n. run all rest n) w (suc (length rest)) (enter all o k S (count d u) other) ≡ begun v o rest (waits k S) (count d u)
 part_begun q k S d u rest w v other o (r, is) =
     ap (λ x. follow (λ n. run all rest n) w (suc (length rest)) (enter all x k S (count d u) other)) is
@@ -85,7 +87,8 @@ statements_begin : {goal p : Part} (k : Block → Form p) (S : Stack goal p) (d 
     run all from (at (part Statements k) S (count d u)) ≡ begin_statement from (then_more {p = Statements} (λ b. b)) (waits {q = Statements} k S) d u
 statements_begin k S d u [] h = absurd cc
 statements_begin {goal} k S d u (t ∷ rest) h =
-    part_begun Statements k S d u rest _ what.Statement (skip (Some Empty) (λ v. at_form all (k v) S (count d u) (Some t) (hand all S (Some t)))) (rule Statements t) (a_statement t (then_more {p = Statements} (λ b. b)) h)
+    part_begun Statements k S d u rest _ what.Statement (skip (Some Empty) (λ v. at_form all (k v) S (count d u) (Some t) (hand all S (Some t))))
+    (rule Statements t) (a_statement t (then_more {p = Statements} (λ b. b)) h)
 
 body_begins : {goal p : Part} (k : Block → Form p) (S : Stack goal p) (d u : ℕ) (from : List Token) → is_statement (next from) ≡ true →
     run all from (at (part Body k) S (count d u)) ≡ begin_statement from (then_more {p = Body} (λ b. b)) (waits {q = Body} k S) d u
@@ -104,7 +107,8 @@ so_far_begins d before from =
       shorter = omega arith;
     }
 
-one_more : {d : ℕ} {b : Block} {s : Stm} {goal : Part} {out : _} {rest after : List Token} {p : Part} {k : Block → Form p} {S : Stack goal p} → AtStatements d b goal out rest p k S → IsStm d s rest after → AtStatements d (followed_by b (More s Empty)) goal out after p k S
+one_more : {d : ℕ} {b : Block} {s : Stm} {goal : Part} {out : _} {rest after : List Token} {p : Part} {k : Block → Form p} {S : Stack goal p} →
+    AtStatements d b goal out rest p k S → IsStm d s rest after → AtStatements d (followed_by b (More s Empty)) goal out after p k S
 one_more {d} {b} {s} {goal} {out} {rest} {after} {p} {k} {S} a i =
     let T : Stack goal Statements = waits {q = Statements} a.form a.stack in
     let u = a.stands.0 in
@@ -120,7 +124,8 @@ one_more {d} {b} {s} {goal} {out} {rest} {after} {p} {k} {S} a i =
           ∙ ap (λ y. run all ts (at (k y) S (count d v))) (sym (followed_by_more b (More s Empty) c));
     }
 
-pub so_far_goes_on : {d : ℕ} {before now : Block} {s : Stm} {from rest after : List Token} → AreSoFar d before now from rest → IsStm d s rest after → AreSoFar d before (followed_by now (More s Empty)) from after
+pub so_far_goes_on : {d : ℕ} {before now : Block} {s : Stm} {from rest after : List Token} → AreSoFar d before now from rest → IsStm d s rest after →
+    AreSoFar d before (followed_by now (More s Empty)) from after
 so_far_goes_on {d} {before} {now} {s} a i =
     record {
       block = followed_by a.block (More s Empty);
@@ -129,12 +134,15 @@ so_far_goes_on {d} {before} {now} {s} a i =
       shorter = let x = a.shorter in let y = i.shorter in omega (arith, x, y);
     }
 
-pub so_far_fails : {d : ℕ} {before now : Block} {from rest : List Token} (e : Refusal) → AreSoFar d before now from rest → FailsStm d rest e → FailsPart Statements d from e
+pub so_far_fails : {d : ℕ} {before now : Block} {from rest : List Token} (e : Refusal) → AreSoFar d before now from rest → FailsStm d rest e →
+    FailsPart Statements d from e
 so_far_fails {d} {from = from} {rest = rest} e a f p k goal S u h =
     let x = a.goes p k goal S u h in
-    x.stands.2 ∙ statements_begin x.form x.stack d x.stands.0 rest f.begins ∙ f.stops goal Statements (then_more {p = Statements} (λ c. c)) (waits {q = Statements} x.form x.stack) x.stands.0 x.stands.1
+    x.stands.2 ∙ statements_begin x.form x.stack d x.stands.0 rest f.begins
+    ∙ f.stops goal Statements (then_more {p = Statements} (λ c. c)) (waits {q = Statements} x.form x.stack) x.stands.0 x.stands.1
 
-pub so_far_ends : {d : ℕ} {before now : Block} {from rest : List Token} → AreSoFar d before now from rest → is_statement (next rest) ≡ false → AreStatements d before now from rest
+pub so_far_ends : {d : ℕ} {before now : Block} {from rest : List Token} → AreSoFar d before now from rest → is_statement (next rest) ≡ false →
+    AreStatements d before now from rest
 so_far_ends {d} {before} {now} {from} {rest} a n =
     record {
       block = a.block;
@@ -156,7 +164,8 @@ so_far_ends {d} {before} {now} {from} {rest} a n =
 
 -- ---- bodies
 
-pub body_is : {d : ℕ} {s : Stm} {now : Block} {from middle rest : List Token} → IsStm d s from middle → AreStatements d (More s Empty) now middle rest → IsPart Body d now from rest
+pub body_is : {d : ℕ} {s : Stm} {now : Block} {from middle rest : List Token} → IsStm d s from middle → AreStatements d (More s Empty) now middle rest →
+    IsPart Body d now from rest
 body_is {d} {s} {now} {from} {middle} {rest} i a =
     subst (λ b. IsPart Body d b from rest) (sym a.is)
     (record {
@@ -171,7 +180,8 @@ body_is {d} {s} {now} {from} {middle} {rest} i a =
 pub body_stops_first : (d : ℕ) (from : List Token) (e : Refusal) → FailsStm d from e → FailsPart Body d from e
 body_stops_first d from e f p k goal S u h = body_begins k S d u from f.begins ∙ f.stops goal Body (then_more {p = Body} (λ c. c)) (waits {q = Body} k S) u h
 
-pub body_stops_others : {d : ℕ} {s : Stm} {from middle : List Token} (e : Refusal) → IsStm d s from middle → FailsPart Statements d middle e → FailsPart Body d from e
+pub body_stops_others : {d : ℕ} {s : Stm} {from middle : List Token} (e : Refusal) → IsStm d s from middle → FailsPart Statements d middle e →
+    FailsPart Body d from e
 body_stops_others {d} {s} {from} {middle} e i f p k goal S u h =
     let T : Stack goal Body = waits {q = Body} k S in
     let x = i.goes goal Body (then_more {p = Body} (λ c. c)) T u h in
@@ -179,22 +189,30 @@ body_stops_others {d} {s} {from} {middle} e i f p k goal S u h =
 
 pub body_is_wanted : (d : ℕ) (from : List Token) → is_statement (next from) ≡ false → FailsPart Body d from (Expected what.Statement (length from))
 body_is_wanted d [] n p k goal S u h = refl
-body_is_wanted d (t ∷ rest) n p k goal S u h = ap (λ o. follow (λ s. run all rest s) what.Statement (suc (length rest)) (enter all o k S (count d u) Stuck)) (no_body t n)
+body_is_wanted d (t ∷ rest) n p k goal S u h = ap (λ o. follow (λ s. run all rest s) what.Statement (suc (length rest)) (enter all o k S (count d u) Stuck))
+    (no_body t n)
 
 -- ---- results of calls
 
-pub optional_result : {X : Type 0} (w : Keyword) (d : ℕ) (from behind : List Token) (block : X → Block) (rest : X → List Token) (r : Result X Problem) → BeginsWith w from behind →
-    Reads (λ x. IsPart Body d (block x) behind (rest x)) (FailsPart Body d behind) r → Reads (λ x. IsOptional w d (block x) from (rest x)) (FailsOptional w d from) r
+pub optional_result : {X : Type 0} (w : Keyword) (d : ℕ) (from behind : List Token) (block : X → Block) (rest : X → List Token) (r : Result X Problem) →
+    BeginsWith w from behind →
+    Reads (λ x. IsPart Body d (block x) behind (rest x)) (FailsPart Body d behind) r →
+    Reads (λ x. IsOptional w d (block x) from (rest x)) (FailsOptional w d from) r
 optional_result w d from behind block rest (Ok x) b h = there b h
 optional_result w d from behind block rest (Err e) b h = passes_on (FailsPart Body d behind) (FailsOptional w d from) e h (λ out f. (behind, b, f))
 
-pub body_result : {X : Type 0} (d : ℕ) (s : Stm) (before : Block) (from middle : List Token) (block : X → Block) (rest : X → List Token) (r : Result X Problem) → IsStm d s from middle → before ≡ More s Empty →
-    Reads (λ x. AreStatements d before (block x) middle (rest x)) (FailsPart Statements d middle) r → Reads (λ x. IsPart Body d (block x) from (rest x)) (FailsPart Body d from) r
+pub body_result : {X : Type 0} (d : ℕ) (s : Stm) (before : Block) (from middle : List Token) (block : X → Block) (rest : X → List Token)
+    (r : Result X Problem) → IsStm d s from middle → before ≡ More s Empty →
+    Reads (λ x. AreStatements d before (block x) middle (rest x)) (FailsPart Statements d middle) r →
+    Reads (λ x. IsPart Body d (block x) from (rest x)) (FailsPart Body d from) r
 body_result d s before from middle block rest (Ok x) i e h = body_is i (subst (λ b. AreStatements d b (block x) middle (rest x)) e h)
-body_result d s before from middle block rest (Err x) i e h = passes_on (FailsPart Statements d middle) (FailsPart Body d from) x h (λ out f. body_stops_others {d = d} out i f)
+body_result d s before from middle block rest (Err x) i e h =
+    passes_on (FailsPart Statements d middle) (FailsPart Body d from) x h (λ out f. body_stops_others {d = d} out i f)
 
-pub statements_result : {X : Type 0} (d : ℕ) (before : Block) (from : List Token) (block : X → Block) (rest : X → List Token) (r : Result X Problem) → before ≡ Empty →
-    Reads (λ x. AreStatements d before (block x) from (rest x)) (FailsPart Statements d from) r → Reads (λ x. IsPart Statements d (block x) from (rest x)) (FailsPart Statements d from) r
+pub statements_result : {X : Type 0} (d : ℕ) (before : Block) (from : List Token) (block : X → Block) (rest : X → List Token) (r : Result X Problem) →
+    before ≡ Empty →
+    Reads (λ x. AreStatements d before (block x) from (rest x)) (FailsPart Statements d from) r →
+    Reads (λ x. IsPart Statements d (block x) from (rest x)) (FailsPart Statements d from) r
 statements_result d before from block rest (Ok x) e h =
     let a = subst (λ b. AreStatements d b (block x) from (rest x)) e h in
     subst (λ b. IsPart Statements d b from (rest x)) (sym a.is) a.part

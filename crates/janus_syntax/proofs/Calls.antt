@@ -61,13 +61,15 @@ first_name x place rest =
 abbrev one_more : Form More_names
 one_more = take A_name (λ x. part More_names (λ xs. done (x ∷ xs)))
 
-comma_begins : {goal p : Part} (k : List Named → Form p) (S : Stack goal p) (d u : ℕ) {rest behind : List Token} → d ≤ depth_limit → u ≤ operator_limit → BeginsWithSign sign.Comma rest behind →
+comma_begins : {goal p : Part} (k : List Named → Form p) (S : Stack goal p) (d u : ℕ) {rest behind : List Token} → d ≤ depth_limit → u ≤ operator_limit →
+    BeginsWithSign sign.Comma rest behind →
     run all rest (at (part More_names k) S (count d u)) ≡ run all behind (at one_more (waits {q = More_names} k S) (count d u))
 comma_begins k S d u {rest} {behind} room h b =
     subst (λ ts. run all ts (at (part More_names k) S (count d u)) ≡ run all behind (at one_more (waits {q = More_names} k S) (count d u))) (sym b.is)
     (begins_part More_names k S d u (Sign_of sign.Comma b.at) behind one_more refl room h)
 
-next_name : {d : ℕ} {xs : List Named} {y : Named} {goal p : Part} {k : List Named → Form p} {S : Stack goal p} {out : _} {rest behind after : List Token} → d ≤ depth_limit →
+next_name : {d : ℕ} {xs : List Named} {y : Named} {goal p : Part} {k : List Named → Form p} {S : Stack goal p} {out : _} {rest behind after : List Token} →
+    d ≤ depth_limit →
     AtNames d xs goal out rest p k S → BeginsWithSign sign.Comma rest behind → TokenGoes A_name y behind after → AtNames d (xs ++ y ∷ []) goal out after p k S
 next_name {d} {xs} {y} {goal} {p} {k} {S} room x b t =
     record {
@@ -77,22 +79,27 @@ next_name {d} {xs} {y} {goal} {p} {k} {S} room x b t =
       stands = (
         x.stands.0,
         x.stands.1,
-        x.stands.2 ∙ comma_begins x.form x.stack d x.stands.0 room x.stands.1 b ∙ t.goes goal More_names (λ y. part More_names (λ ys. done (y ∷ ys))) (waits {q = More_names} x.form x.stack) (count d x.stands.0),
+        x.stands.2 ∙ comma_begins x.form x.stack d x.stands.0 room x.stands.1 b
+            ∙ t.goes goal More_names (λ y. part More_names (λ ys. done (y ∷ ys))) (waits {q = More_names} x.form x.stack) (count d x.stands.0),
       );
-      onward = λ ys ts v. run_hands all More_names x.form x.stack (count d v) (y ∷ ys) ts ∙ x.onward (y ∷ ys) ts v ∙ ap (λ l. run all ts (at (k l) S (count d v))) (sym (append_assoc xs (y ∷ []) ys));
+      onward = λ ys ts v. run_hands all More_names x.form x.stack (count d v) (y ∷ ys) ts ∙ x.onward (y ∷ ys) ts v
+          ∙ ap (λ l. run all ts (at (k l) S (count d v))) (sym (append_assoc xs (y ∷ []) ys));
     }
 
-pub named_goes_on : {xs : List Named} {y : Named} {from rest behind after : List Token} → AreNamed xs from rest → BeginsWithSign sign.Comma rest behind → TokenGoes A_name y behind after → AreNamed (xs ++ y ∷ []) from after
+pub named_goes_on : {xs : List Named} {y : Named} {from rest behind after : List Token} → AreNamed xs from rest → BeginsWithSign sign.Comma rest behind →
+    TokenGoes A_name y behind after → AreNamed (xs ++ y ∷ []) from after
 named_goes_on a b t =
     record {
       goes = λ d room p k goal S u h. next_name room (a.goes d room p k goal S u h) b t;
       shorter = let s0 = a.shorter in let s1 = ap length b.is in let s2 = t.shorter in omega (arith, s0, s1, s2);
     }
 
-pub named_fails : {xs : List Named} {from rest behind : List Token} (e : Refusal) → AreNamed xs from rest → BeginsWithSign sign.Comma rest behind → TokenFails A_name behind e → FailNames from e
+pub named_fails : {xs : List Named} {from rest behind : List Token} (e : Refusal) → AreNamed xs from rest → BeginsWithSign sign.Comma rest behind →
+    TokenFails A_name behind e → FailNames from e
 named_fails e a b f d room p k goal S u h =
     let x = a.goes d room p k goal S u h in
-    x.stands.2 ∙ comma_begins x.form x.stack d x.stands.0 room x.stands.1 b ∙ f goal More_names (λ y. part More_names (λ ys. done (y ∷ ys))) (waits {q = More_names} x.form x.stack) (count d x.stands.0)
+    x.stands.2 ∙ comma_begins x.form x.stack d x.stands.0 room x.stands.1 b
+    ∙ f goal More_names (λ y. part More_names (λ ys. done (y ∷ ys))) (waits {q = More_names} x.form x.stack) (count d x.stands.0)
 
 pub named_ends : {xs : List Named} {from rest : List Token} → AreNamed xs from rest → NoComma rest → AreNames xs from rest
 named_ends {xs} {from} {rest} a n =
@@ -122,53 +129,77 @@ module _ {f : Named} {from r1 : List Token} (i : TokenGoes A_name f from r1) whe
   at_open : (d : ℕ) (p : Part) (k : Named → List Named → Form p) → Moves d (call_then k) from (to_open k f) r1
   at_open d p k = token_moves d A_name (to_open k) f from r1 i
 
-  at_names : {r2 : List Token} → TokenGoes (The_sign sign.Open) tt r1 r2 → (d : ℕ) (p : Part) (k : Named → List Named → Form p) → Moves d (call_then k) from (to_names k f) r2
-  at_names {r2} o d p k = moves_on d (call_then k) (to_open k f) (to_names k f) from r1 r2 (at_open d p k) (token_moves d (The_sign sign.Open) (λ v. to_names k f) tt r1 r2 o)
+  at_names : {r2 : List Token} → TokenGoes (The_sign sign.Open) tt r1 r2 → (d : ℕ) (p : Part) (k : Named → List Named → Form p) →
+      Moves d (call_then k) from (to_names k f) r2
+  at_names {r2} o d p k =
+      moves_on d (call_then k) (to_open k f) (to_names k f) from r1 r2 (at_open d p k) (token_moves d (The_sign sign.Open) (λ v. to_names k f) tt r1 r2 o)
 
-  at_close : {xs : List Named} {r2 r3 : List Token} → TokenGoes (The_sign sign.Open) tt r1 r2 → AreNames xs r2 r3 → (d : ℕ) → d ≤ depth_limit → (p : Part) (k : Named → List Named → Form p) → Moves d (call_then k) from (sign_then sign.Close (k f xs)) r3
-  at_close {xs} {r2} {r3} o n d room p k = moves_on d (call_then k) (to_names k f) (sign_then sign.Close (k f xs)) from r2 r3 (at_names o d p k) (n.goes d room p (λ ys. sign_then sign.Close (k f ys)))
+  at_close : {xs : List Named} {r2 r3 : List Token} → TokenGoes (The_sign sign.Open) tt r1 r2 → AreNames xs r2 r3 → (d : ℕ) → d ≤ depth_limit →
+      (p : Part) (k : Named → List Named → Form p) → Moves d (call_then k) from (sign_then sign.Close (k f xs)) r3
+  at_close {xs} {r2} {r3} o n d room p k = moves_on d (call_then k) (to_names k f) (sign_then sign.Close (k f xs)) from r2 r3 (at_names o d p k)
+      (n.goes d room p (λ ys. sign_then sign.Close (k f ys)))
 
-  pub call_is : {xs : List Named} {r2 r3 rest : List Token} → TokenGoes (The_sign sign.Open) tt r1 r2 → AreNames xs r2 r3 → TokenGoes (The_sign sign.Close) tt r3 rest → IsCall f xs from rest
+  pub call_is : {xs : List Named} {r2 r3 rest : List Token} → TokenGoes (The_sign sign.Open) tt r1 r2 → AreNames xs r2 r3 →
+      TokenGoes (The_sign sign.Close) tt r3 rest → IsCall f xs from rest
   call_is {xs} {r2} {r3} {rest} o n c =
       record {
-        goes = λ d room p k. moves_on d (call_then k) (sign_then sign.Close (k f xs)) (k f xs) from r3 rest (at_close o n d room p k) (token_moves d (The_sign sign.Close) (λ v. k f xs) tt r3 rest c);
+        goes = λ d room p k. moves_on d (call_then k) (sign_then sign.Close (k f xs)) (k f xs) from r3 rest (at_close o n d room p k)
+            (token_moves d (The_sign sign.Close) (λ v. k f xs) tt r3 rest c);
         shorter = let s0 = i.shorter in let s1 = o.shorter in let s2 = n.shorter in let s3 = c.shorter in omega (arith, s0, s1, s2, s3);
       }
 
   pub call_stops_open : (e : Refusal) → TokenFails (The_sign sign.Open) r1 e → FailsCall from e
-  call_stops_open e x d room p k = moves_stop d (call_then k) (to_open k f) from r1 e (at_open d p k) (token_stops d (The_sign sign.Open) (λ v. to_names k f) r1 e x)
+  call_stops_open e x d room p k =
+      moves_stop d (call_then k) (to_open k f) from r1 e (at_open d p k) (token_stops d (The_sign sign.Open) (λ v. to_names k f) r1 e x)
 
   pub call_stops_names : {r2 : List Token} (e : Refusal) → TokenGoes (The_sign sign.Open) tt r1 r2 → FailNames r2 e → FailsCall from e
-  call_stops_names {r2} e o x d room p k = moves_stop d (call_then k) (to_names k f) from r2 e (at_names o d p k) (x d room p (λ ys. sign_then sign.Close (k f ys)))
+  call_stops_names {r2} e o x d room p k =
+      moves_stop d (call_then k) (to_names k f) from r2 e (at_names o d p k) (x d room p (λ ys. sign_then sign.Close (k f ys)))
 
-  pub call_stops_close : {xs : List Named} {r2 r3 : List Token} (e : Refusal) → TokenGoes (The_sign sign.Open) tt r1 r2 → AreNames xs r2 r3 → TokenFails (The_sign sign.Close) r3 e → FailsCall from e
-  call_stops_close {xs} {r2} {r3} e o n x d room p k = moves_stop d (call_then k) (sign_then sign.Close (k f xs)) from r3 e (at_close o n d room p k) (token_stops d (The_sign sign.Close) (λ v. k f xs) r3 e x)
+  pub call_stops_close : {xs : List Named} {r2 r3 : List Token} (e : Refusal) → TokenGoes (The_sign sign.Open) tt r1 r2 → AreNames xs r2 r3 →
+      TokenFails (The_sign sign.Close) r3 e → FailsCall from e
+  call_stops_close {xs} {r2} {r3} e o n x d room p k =
+      moves_stop d (call_then k) (sign_then sign.Close (k f xs)) from r3 e (at_close o n d room p k) (token_stops d (The_sign sign.Close) (λ v. k f xs) r3 e x)
 
 pub call_stops_name : (from : List Token) (e : Refusal) → TokenFails A_name from e → FailsCall from e
 call_stops_name from e x d room p k = token_stops d A_name (to_open k) from e x
 
 -- ---- calls as statements
 
-pub call_begins : (place : Span) (d : ℕ) {f : Named} {xs : List Named} {rest after : List Token} → d ≤ depth_limit → IsCall f xs rest after → IsStm d (Call f xs) (Keyword_of keyword.Call place ∷ rest) after
+pub call_begins : (place : Span) (d : ℕ) {f : Named} {xs : List Named} {rest after : List Token} → d ≤ depth_limit → IsCall f xs rest after →
+    IsStm d (Call f xs) (Keyword_of keyword.Call place ∷ rest) after
 call_begins place d {rest = rest} room i =
     record {
       begins = refl;
-      goes = λ g p k S u h. let a = i.goes d room p (λ f xs. k (Call f xs)) g S u h in (a.0, a.1, begun_plain (call_then (λ f xs. k (Call f xs))) S d u rest room h ∙ a.2);
+      goes = λ g p k S u h. let a = i.goes d room p (λ f xs. k (Call f xs)) g S u h in
+          (a.0, a.1, begun_plain (call_then (λ f xs. k (Call f xs))) S d u rest room h ∙ a.2);
       shorter = let y = i.shorter in omega (arith, y);
     }
 
-pub call_stops : (place : Span) (d : ℕ) (rest : List Token) (e : Refusal) → d ≤ depth_limit → FailsCall rest e → FailsStm d (Keyword_of keyword.Call place ∷ rest) e
+pub call_stops : (place : Span) (d : ℕ) (rest : List Token) (e : Refusal) → d ≤ depth_limit → FailsCall rest e →
+    FailsStm d (Keyword_of keyword.Call place ∷ rest) e
 call_stops place d rest e room x =
-    record { begins = refl; stops = λ g p k S u h. begun_plain (call_then (λ f xs. k (Call f xs))) S d u rest room h ∙ x d room p (λ f xs. k (Call f xs)) g S u h }
+    record {
+      begins = refl;
+      stops = λ g p k S u h. begun_plain (call_then (λ f xs. k (Call f xs))) S d u rest room h
+          ∙ x d room p (λ f xs. k (Call f xs)) g S u h;
+    }
 
-pub uncall_begins : (place : Span) (d : ℕ) {f : Named} {xs : List Named} {rest after : List Token} → d ≤ depth_limit → IsCall f xs rest after → IsStm d (Uncall f xs) (Keyword_of keyword.Uncall place ∷ rest) after
+pub uncall_begins : (place : Span) (d : ℕ) {f : Named} {xs : List Named} {rest after : List Token} → d ≤ depth_limit → IsCall f xs rest after →
+    IsStm d (Uncall f xs) (Keyword_of keyword.Uncall place ∷ rest) after
 uncall_begins place d {rest = rest} room i =
     record {
       begins = refl;
-      goes = λ g p k S u h. let a = i.goes d room p (λ f xs. k (Uncall f xs)) g S u h in (a.0, a.1, begun_plain (call_then (λ f xs. k (Uncall f xs))) S d u rest room h ∙ a.2);
+      goes = λ g p k S u h. let a = i.goes d room p (λ f xs. k (Uncall f xs)) g S u h in
+          (a.0, a.1, begun_plain (call_then (λ f xs. k (Uncall f xs))) S d u rest room h ∙ a.2);
       shorter = let y = i.shorter in omega (arith, y);
     }
 
-pub uncall_stops : (place : Span) (d : ℕ) (rest : List Token) (e : Refusal) → d ≤ depth_limit → FailsCall rest e → FailsStm d (Keyword_of keyword.Uncall place ∷ rest) e
+pub uncall_stops : (place : Span) (d : ℕ) (rest : List Token) (e : Refusal) → d ≤ depth_limit → FailsCall rest e →
+    FailsStm d (Keyword_of keyword.Uncall place ∷ rest) e
 uncall_stops place d rest e room x =
-    record { begins = refl; stops = λ g p k S u h. begun_plain (call_then (λ f xs. k (Uncall f xs))) S d u rest room h ∙ x d room p (λ f xs. k (Uncall f xs)) g S u h }
+    record {
+      begins = refl;
+      stops = λ g p k S u h. begun_plain (call_then (λ f xs. k (Uncall f xs))) S d u rest room h
+          ∙ x d room p (λ f xs. k (Uncall f xs)) g S u h;
+    }

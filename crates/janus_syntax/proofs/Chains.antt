@@ -1,5 +1,6 @@
 -- The parser's loops over operators, over plain lists.
-use Rattle.std.proofs.Common.{◌≡◌, ◌≢◌, ℕ, zero, suc, ◌+◌, ◌-◌, ◌<◌, ◌≤◌, List, [], ◌∷◌, length, Option, Some, None, Bool, true, false, cond, refl, ap, sym, subst, ◌∙◌, arith}
+use Rattle.std.proofs.Common.{◌≡◌, ◌≢◌, ℕ, zero, suc, ◌+◌, ◌-◌, ◌<◌, ◌≤◌, List, [], ◌∷◌, length, Option, Some, None, Bool, true, false, cond, refl, ap, sym}
+use Rattle.std.proofs.Common.{subst, ◌∙◌, arith}
 use Rattle.std.specs.Prelude.{nat_le}
 use Rattle.std.proofs.lemmas.Bool.{eq-eqb, ne_eqb, le-leb, lt-leb, and_from, and_right}
 use Rattle.janus_syntax.specs.declared.fault.What.{What}
@@ -16,7 +17,8 @@ use Rattle.janus_syntax.specs.Reading.{begun, begin, count, IsExp, FailsExp, IsS
 use Rattle.janus_syntax.proofs.SoFar.{IsSoFar, IsChain}
 use Rattle.janus_syntax.proofs.Agrees.{run_hands, run_alike, steps_over, wants_behind}
 
-pub go_if_runs : {goal : Part} (b : Bool) (s : State goal) (rest : List Token) (w : What) → follow (λ n. run all rest n) w (suc (length rest)) (go_if b s TooMany) ≡ cond b (run all rest s) (Nested (suc (length rest)))
+pub go_if_runs : {goal : Part} (b : Bool) (s : State goal) (rest : List Token) (w : What) →
+    follow (λ n. run all rest n) w (suc (length rest)) (go_if b s TooMany) ≡ cond b (run all rest s) (Nested (suc (length rest)))
 go_if_runs true s rest w = refl
 go_if_runs false s rest w = refl
 
@@ -26,23 +28,33 @@ level_begun n j T m rest None = refl
 level_begun n j T m rest (Some r) = go_if_runs (fits (entered r m)) (at r.form (waits j T) (entered r m)) rest what.Expression
 
 -- an expression of a level is begun
-pub begin_level : {goal p : Part} (n : ℕ) (j : Exp → Form p) (T : Stack goal p) (m : Count) (ts : List Token) → run all ts (at (part (Level n) j) T m) ≡ begin ts (λ x. chains 0 n x done) (waits {q = Level n} j T) m
+pub begin_level : {goal p : Part} (n : ℕ) (j : Exp → Form p) (T : Stack goal p) (m : Count) (ts : List Token) →
+    run all ts (at (part (Level n) j) T m) ≡ begin ts (λ x. chains 0 n x done) (waits {q = Level n} j T) m
 begin_level n j T m [] = refl
 begin_level n j T m (t ∷ rest) = level_begun n j T m rest (operand t (λ x. chains 0 n x done))
 
-pub so_far_begins : {weakest depth used : ℕ} {e : Exp} {total : ℕ} {from rest : List Token} → IsExp 0 depth used e total from rest → IsSoFar 0 weakest depth used e total from rest
-so_far_begins {weakest} i = record { to_come = weakest; levels = omega arith; goes = λ g p k S. i.goes g p (λ x. chains 0 weakest x k) S; within = i.within; shorter = i.shorter }
+pub so_far_begins : {weakest depth used : ℕ} {e : Exp} {total : ℕ} {from rest : List Token} → IsExp 0 depth used e total from rest →
+    IsSoFar 0 weakest depth used e total from rest
+so_far_begins {weakest} i =
+    record { to_come = weakest; levels = omega arith; goes = λ g p k S. i.goes g p (λ x. chains 0 weakest x k) S; within = i.within; shorter = i.shorter }
 
 pub so_far_fails : (weakest depth used : ℕ) (from : List Token) (out : Refusal) → FailsExp 0 depth used from out → FailsExp weakest depth used from out
 so_far_fails weakest depth used from out f g p k S = f g p (λ x. chains 0 weakest x k) S
 
-pub so_far_ends : {level weakest depth used : ℕ} {e : Exp} {total : ℕ} {from rest : List Token} → weakest ≤ level → IsSoFar level weakest depth used e total from rest → IsExp weakest depth used e total from rest
+pub so_far_ends : {level weakest depth used : ℕ} {e : Exp} {total : ℕ} {from rest : List Token} → weakest ≤ level →
+    IsSoFar level weakest depth used e total from rest → IsExp weakest depth used e total from rest
 so_far_ends {level} {weakest} {depth} {used} {e} {total} {from} {rest} h s =
     let none : s.to_come ≡ 0 = omega (arith, h, s.levels) in
-    record { goes = λ g p k S. s.goes g p k S ∙ ap (λ n. run all rest (at (chains level n e k) S (count depth total))) none; within = s.within; shorter = s.shorter }
+    record {
+      goes = λ g p k S. s.goes g p k S
+          ∙ ap (λ n. run all rest (at (chains level n e k) S (count depth total))) none;
+      within = s.within;
+      shorter = s.shorter;
+    }
 
 -- a level's operators begin
-chain_begins_with : {level weakest depth used : ℕ} {e : Exp} {total : ℕ} {from rest : List Token} (s : IsSoFar level weakest depth used e total from rest) (n : ℕ) → s.to_come ≡ suc n → IsChain level weakest depth used e total from rest
+chain_begins_with : {level weakest depth used : ℕ} {e : Exp} {total : ℕ} {from rest : List Token} (s : IsSoFar level weakest depth used e total from rest)
+    (n : ℕ) → s.to_come ≡ suc n → IsChain level weakest depth used e total from rest
 chain_begins_with {level} {weakest} {depth} {used} {e} {total} {from} {rest} s n is =
     record {
       to_come = n;
@@ -58,7 +70,8 @@ chain_begins_with {level} {weakest} {depth} {used} {e} {total} {from} {rest} s n
       shorter = s.shorter;
     }
 
-pub chain_begins : {level weakest depth used : ℕ} {e : Exp} {total : ℕ} {from rest : List Token} → level < weakest → IsSoFar level weakest depth used e total from rest → IsChain level weakest depth used e total from rest
+pub chain_begins : {level weakest depth used : ℕ} {e : Exp} {total : ℕ} {from rest : List Token} → level < weakest →
+    IsSoFar level weakest depth used e total from rest → IsChain level weakest depth used e total from rest
 chain_begins {level} {weakest} {depth} {used} {e} {total} {from} {rest} h s =
     elim (s.to_come) as (λ n. s.to_come ≡ n → IsChain level weakest depth used e total from rest) [
       | zero ↦ λ is. let k = s.levels in absurd (omega (arith, h, is, k))
@@ -68,9 +81,11 @@ chain_begins {level} {weakest} {depth} {used} {e} {total} {from} {rest} h s =
 -- an operator of the level is taken
 
 abbrev the_rule : (op : Infix) (level : ℕ) (e : Exp) → Rule (Chain (suc level) e)
-the_rule op level e = record { opens = 0; counts = 1; is_whole = false; form = part (Level (suc level - 1)) (λ r. part (Chain (suc level) (joined op.joint e r)) done) }
+the_rule op level e =
+    record { opens = 0; counts = 1; is_whole = false; form = part (Level (suc level - 1)) (λ r. part (Chain (suc level) (joined op.joint e r)) done) }
 
-rule_is : (level : ℕ) (e : Exp) (t : Token) (op : Infix) → operator_at t ≡ Some op → op.level ≡ suc level → rule (Chain (suc level) e) t ≡ Some (the_rule op level e)
+rule_is : (level : ℕ) (e : Exp) (t : Token) (op : Infix) → operator_at t ≡ Some op → op.level ≡ suc level →
+    rule (Chain (suc level) e) t ≡ Some (the_rule op level e)
 rule_is level e t op is l =
     ap (λ o. chain_rule o (suc level) e) is
     ∙ ap (λ b. cond b (Some (the_rule op level e)) None) (eq-eqb op.level (suc level) l)
@@ -78,23 +93,35 @@ rule_is level e t op is l =
 entered_is : (op : Infix) (level : ℕ) (e : Exp) (depth total : ℕ) → entered (the_rule op level e) (count depth total) ≡ count depth (total + 1)
 entered_is op level e depth total = ap (λ d. count d (total + 1)) (omega arith)
 
-takes_operator : {goal p : Part} (level : ℕ) (e : Exp) (j : Exp → Form p) (T : Stack goal p) (depth total : ℕ) (t : Token) (op : Infix) (behind : List Token) → operator_at t ≡ Some op → op.level ≡ suc level →
+takes_operator : {goal p : Part} (level : ℕ) (e : Exp) (j : Exp → Form p) (T : Stack goal p) (depth total : ℕ) (t : Token) (op : Infix) (behind : List Token) →
+    operator_at t ≡ Some op → op.level ≡ suc level →
     run all (t ∷ behind) (at (part (Chain (suc level) e) j) T (count depth total))
-    ≡ cond (fits (count depth (total + 1))) (begin behind (λ x. chains 0 level x done) (waits {q = Level level} (λ r. part (Chain (suc level) (joined op.joint e r)) done) (waits {q = Chain (suc level) e} j T)) (count depth (total + 1))) (Nested (suc (length behind)))
+    ≡ cond (fits (count depth (total + 1)))
+    (begin behind (λ x. chains 0 level x done)
+    (waits {q = Level level} (λ r. part (Chain (suc level) (joined op.joint e r)) done) (waits {q = Chain (suc level) e} j T)) (count depth (total + 1)))
+    (Nested (suc (length behind)))
 takes_operator {p} level e j T depth total t op behind is l =
     let r = the_rule op level e in
     let c = count depth total in
-    ap (λ o. follow (λ n. run all behind n) (wanted (at (part (Chain (suc level) e) j) T c)) (suc (length behind)) (enter all o j T c (at_form all (j e) T c (Some t) (hand all T (Some t))))) (rule_is level e t op is l)
+    ap (λ o. follow (λ n. run all behind n) (wanted (at (part (Chain (suc level) e) j) T c)) (suc (length behind))
+    (enter all o j T c (at_form all (j e) T c (Some t) (hand all T (Some t))))) (rule_is level e t op is l)
     ∙ go_if_runs (fits (entered r c)) (at r.form (waits {q = Chain (suc level) e} j T) (entered r c)) behind (wanted (at (part (Chain (suc level) e) j) T c))
-    ∙ ap (λ m. cond (fits m) (run all behind (at r.form (waits {q = Chain (suc level) e} j T) m)) (Nested (suc (length behind)))) (entered_is op level e depth total)
-    ∙ ap (λ i. cond (fits (count depth (total + 1))) (run all behind (at (part (Level i) (λ r. part (Chain (suc level) (joined op.joint e r)) done)) (waits {q = Chain (suc level) e} j T) (count depth (total + 1)))) (Nested (suc (length behind)))) (omega arith)
-    ∙ ap (λ o. cond (fits (count depth (total + 1))) o (Nested (suc (length behind)))) (begin_level level (λ r. part (Chain (suc level) (joined op.joint e r)) done) (waits {q = Chain (suc level) e} j T) (count depth (total + 1)) behind)
+    ∙ ap (λ m. cond (fits m) (run all behind (at r.form (waits {q = Chain (suc level) e} j T) m)) (Nested (suc (length behind))))
+    (entered_is op level e depth total)
+    ∙ ap (λ i. cond (fits (count depth (total + 1)))
+    (run all behind
+    (at (part (Level i) (λ r. part (Chain (suc level) (joined op.joint e r)) done)) (waits {q = Chain (suc level) e} j T) (count depth (total + 1))))
+    (Nested (suc (length behind)))) (omega arith)
+    ∙ ap (λ o. cond (fits (count depth (total + 1))) o (Nested (suc (length behind))))
+    (begin_level level (λ r. part (Chain (suc level) (joined op.joint e r)) done) (waits {q = Chain (suc level) e} j T) (count depth (total + 1)) behind)
 
 pub fits_count : (d u : ℕ) → d ≤ depth_limit → u ≤ operator_limit → fits (count d u) ≡ true
 fits_count d u h k = and_from (nat_le d depth_limit) (nat_le u operator_limit) (le-leb d depth_limit h) (le-leb u operator_limit k)
 
-pub chain_goes_on : {level weakest depth used : ℕ} {e r : Exp} {total now : ℕ} {op : Infix} {from rest behind after : List Token} → depth ≤ depth_limit → total < operator_limit →
-    IsChain level weakest depth used e total from rest → IsOperator (suc level) op rest behind → IsExp level depth (total + 1) r now behind after → IsChain level weakest depth used (joined op.joint e r) now from after
+pub chain_goes_on : {level weakest depth used : ℕ} {e r : Exp} {total now : ℕ} {op : Infix} {from rest behind after : List Token} → depth ≤ depth_limit →
+    total < operator_limit →
+    IsChain level weakest depth used e total from rest → IsOperator (suc level) op rest behind → IsExp level depth (total + 1) r now behind after →
+    IsChain level weakest depth used (joined op.joint e r) now from after
 chain_goes_on {level} {weakest} {depth} {used} {e} {r} {total} {now} {op} {from} {rest} {behind} {after} h few s o i =
     record {
       to_come = s.to_come;
@@ -112,7 +139,9 @@ chain_goes_on {level} {weakest} {depth} {used} {e} {r} {total} {now} {op} {from}
                 a.stands
                 ∙ ap (λ ts. run all ts (at (part (Chain (suc level) e) j) T (count depth total))) o.is
                 ∙ takes_operator level e j T depth total o.token op behind o.operator o.level_is
-                ∙ ap (λ b. cond b (begin behind (λ x. chains 0 level x done) (waits {q = Level level} J (waits {q = Chain (suc level) e} j T)) (count depth (total + 1))) (Nested (suc (length behind)))) (fits_count depth (total + 1) h (omega (arith, few)))
+                ∙ ap (λ b. cond b
+                (begin behind (λ x. chains 0 level x done) (waits {q = Level level} J (waits {q = Chain (suc level) e} j T)) (count depth (total + 1)))
+                (Nested (suc (length behind)))) (fits_count depth (total + 1) h (omega (arith, few)))
                 ∙ i.goes g (Level level) done (waits J (waits j T))
                 ∙ run_hands all (Level level) J (waits {q = Chain (suc level) e} j T) (count depth now) r after;
             onward = λ f ts m. run_hands all (Chain (suc level) e) j T m f ts ∙ a.onward f ts m;
@@ -121,8 +150,10 @@ chain_goes_on {level} {weakest} {depth} {used} {e} {r} {total} {now} {op} {from}
       shorter = let x = s.shorter in let y = i.shorter in let z = ap length o.is in omega (arith, x, y, z);
     }
 
-pub chain_fails : {level weakest depth used : ℕ} {e : Exp} {total : ℕ} {op : Infix} {from rest behind : List Token} (out : Refusal) → depth ≤ depth_limit → total < operator_limit →
-    IsChain level weakest depth used e total from rest → IsOperator (suc level) op rest behind → FailsExp level depth (total + 1) behind out → FailsExp weakest depth used from out
+pub chain_fails : {level weakest depth used : ℕ} {e : Exp} {total : ℕ} {op : Infix} {from rest behind : List Token} (out : Refusal) → depth ≤ depth_limit →
+    total < operator_limit →
+    IsChain level weakest depth used e total from rest → IsOperator (suc level) op rest behind → FailsExp level depth (total + 1) behind out →
+    FailsExp weakest depth used from out
 chain_fails {level} {weakest} {depth} {used} {e} {total} {op} {from} {rest} {behind} out h few s o f g p k S =
     let a = s.goes g p k S in
     let j = a.form in
@@ -131,7 +162,8 @@ chain_fails {level} {weakest} {depth} {used} {e} {total} {op} {from} {rest} {beh
     a.stands
     ∙ ap (λ ts. run all ts (at (part (Chain (suc level) e) j) T (count depth total))) o.is
     ∙ takes_operator level e j T depth total o.token op behind o.operator o.level_is
-    ∙ ap (λ b. cond b (begin behind (λ x. chains 0 level x done) (waits {q = Level level} J (waits {q = Chain (suc level) e} j T)) (count depth (total + 1))) (Nested (suc (length behind)))) (fits_count depth (total + 1) h (omega (arith, few)))
+    ∙ ap (λ b. cond b (begin behind (λ x. chains 0 level x done) (waits {q = Level level} J (waits {q = Chain (suc level) e} j T)) (count depth (total + 1)))
+    (Nested (suc (length behind)))) (fits_count depth (total + 1) h (omega (arith, few)))
     ∙ f g (Level level) done (waits J (waits j T))
 
 pub chain_too_long : {level weakest depth used : ℕ} {e : Exp} {total : ℕ} {op : Infix} {from rest behind : List Token} → total ≡ operator_limit →
@@ -145,19 +177,22 @@ chain_too_long {level} {weakest} {depth} {used} {e} {total} {op} {from} {rest} {
     a.stands
     ∙ ap (λ ts. run all ts (at (part (Chain (suc level) e) j) T (count depth total))) o.is
     ∙ takes_operator level e j T depth total o.token op behind o.operator o.level_is
-    ∙ ap (λ b. cond b (begin behind (λ x. chains 0 level x done) (waits {q = Level level} J (waits {q = Chain (suc level) e} j T)) (count depth (total + 1))) (Nested (suc (length behind)))) many
+    ∙ ap (λ b. cond b (begin behind (λ x. chains 0 level x done) (waits {q = Level level} J (waits {q = Chain (suc level) e} j T)) (count depth (total + 1)))
+    (Nested (suc (length behind)))) many
     ∙ ap Nested (sym (ap length o.is))
 
 no_chain : (level : ℕ) (e : Exp) (o : Option Infix) → ((op : Infix) → o ≡ Some op → op.level ≢ suc level) → chain_rule o (suc level) e ≡ None
 no_chain level e None h = refl
 no_chain level e (Some op) h = ap (λ b. cond b (Some (the_rule op level e)) None) (ne_eqb op.level (suc level) (h op refl))
 
-no_chain_at : (level : ℕ) (e : Exp) (rest : List Token) → ((op : Infix) → seen_operator (next rest) ≡ Some op → op.level ≢ suc level) → (t : Token) → next rest ≡ Some t → rule (Chain (suc level) e) t ≡ None
+no_chain_at : (level : ℕ) (e : Exp) (rest : List Token) → ((op : Infix) → seen_operator (next rest) ≡ Some op → op.level ≢ suc level) → (t : Token) →
+    next rest ≡ Some t → rule (Chain (suc level) e) t ≡ None
 no_chain_at level e [] h t is = absurd cc
 no_chain_at level e (u ∷ rest) h t is = let same : u ≡ t = cc in subst (λ x. rule (Chain (suc level) e) x ≡ None) same (no_chain level e (operator_at u) h)
 
 -- no operator of the level stands here: the next level
-pub chain_ends : {level weakest depth used : ℕ} {e : Exp} {total : ℕ} {from rest : List Token} → ((op : Infix) → seen_operator (next rest) ≡ Some op → op.level ≢ suc level) →
+pub chain_ends : {level weakest depth used : ℕ} {e : Exp} {total : ℕ} {from rest : List Token} →
+    ((op : Infix) → seen_operator (next rest) ≡ Some op → op.level ≢ suc level) →
     IsChain level weakest depth used e total from rest → IsSoFar (suc level) weakest depth used e total from rest
 chain_ends {level} {weakest} {depth} {used} {e} {total} {from} {rest} n s =
     record {
@@ -168,7 +203,8 @@ chain_ends {level} {weakest} {depth} {used} {e} {total} {from} {rest} n s =
           let j = a.form in
           let T = a.stack in
           a.stands
-          ∙ run_alike all rest (at (part (Chain (suc level) e) j) T (count depth total)) (at (j e) T (count depth total)) (wants_behind (Chain (suc level) e) j T (count depth total) e refl)
+          ∙ run_alike all rest (at (part (Chain (suc level) e) j) T (count depth total)) (at (j e) T (count depth total))
+          (wants_behind (Chain (suc level) e) j T (count depth total) e refl)
           (steps_over all (Chain (suc level) e) j T (count depth total) e (next rest) refl (no_chain_at level e rest n))
           ∙ a.onward e rest (count depth total);
       within = s.within;
@@ -183,7 +219,8 @@ next_level {level} o = record { token = o.token; is = o.is; operator = o.operato
 pub shorter_operator : {level : ℕ} {op : Infix} {rest behind : List Token} → IsOperator level op rest behind → suc (length behind) ≡ length rest
 shorter_operator o = sym (ap length o.is)
 
-pub chain_ends_there : {level weakest depth used : ℕ} {e : Exp} {total : ℕ} {from rest : List Token} → ((op : Infix) → seen_operator (next rest) ≡ Some op → op.level ≢ level + 1) →
+pub chain_ends_there : {level weakest depth used : ℕ} {e : Exp} {total : ℕ} {from rest : List Token} →
+    ((op : Infix) → seen_operator (next rest) ≡ Some op → op.level ≢ level + 1) →
     IsChain level weakest depth used e total from rest → IsSoFar (level + 1) weakest depth used e total from rest
 chain_ends_there {level} {weakest} {depth} {used} {e} {total} {from} {rest} n s =
     let same : suc level ≡ level + 1 = omega arith in
@@ -196,7 +233,8 @@ some_same e = cc
 
 -- no operator of the levels behind `level` up to `to` stands here
 passed : (n : ℕ) {level to weakest depth used : ℕ} {e : Exp} {total : ℕ} {from rest : List Token} → level + n ≡ to → to ≤ weakest →
-    ((op : Infix) → seen_operator (next rest) ≡ Some op → level < op.level → op.level ≤ to → ⊥) → IsSoFar level weakest depth used e total from rest → IsSoFar to weakest depth used e total from rest
+    ((op : Infix) → seen_operator (next rest) ≡ Some op → level < op.level → op.level ≤ to → ⊥) → IsSoFar level weakest depth used e total from rest →
+    IsSoFar to weakest depth used e total from rest
 passed zero {level} {to} {weakest} {depth} {used} {e} {total} {from} {rest} is h none s =
     let same : level ≡ to = omega (arith, is) in
     subst (λ l. IsSoFar l weakest depth used e total from rest) same s
@@ -205,11 +243,13 @@ passed (suc n) {level} {to} is h none s =
     passed n (omega (arith, is)) h (λ op seen low high. none op seen (omega (arith, low)) high) ended
 
 -- the next operator's level begins
-pub level_begins : {level stronger weakest depth used : ℕ} {e : Exp} {total : ℕ} {from rest : List Token} → IsSeen level rest → stronger < level → level ≤ weakest →
+pub level_begins : {level stronger weakest depth used : ℕ} {e : Exp} {total : ℕ} {from rest : List Token} → IsSeen level rest → stronger < level →
+    level ≤ weakest →
     IsSoFar stronger weakest depth used e total from rest → IsChain (level - 1) weakest depth used e total from rest
 level_begins {level} {stronger} {weakest} seen low high s =
     chain_begins (omega (arith, low, high)) (passed (level - 1 - stronger) (omega (arith, low)) (omega (arith, high))
-    (λ op is above below. let same = ap (λ o. o.level) (some_same (sym is ∙ seen.is)) in let k = seen.level_is in absurd (omega (arith, same, k, below, low))) s)
+    (λ op is above below. let same = ap (λ o. o.level) (some_same (sym is ∙ seen.is)) in let k = seen.level_is in absurd (omega (arith, same, k, below, low)))
+    s)
 
 pub levels_end : {stronger weakest depth used : ℕ} {e : Exp} {total : ℕ} {from rest : List Token} →
     ((op : Infix) → seen_operator (next rest) ≡ Some op → stronger < op.level → op.level ≤ weakest → ⊥) →

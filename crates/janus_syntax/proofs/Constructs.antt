@@ -15,17 +15,22 @@ use Rattle.janus_syntax.proofs.Assignments.{if_begins, if_stops, from_begins, fr
 use Rattle.janus_syntax.proofs.Locals.{local_begins, local_stops}
 
 module _ {X : Type 0} (place : Span) (d : ℕ) (room : d < depth_limit) (from : List Token) (stm : X → Stm) (rest : X → List Token) where
-  pub if_result : (r : Result X Problem) → Reads (λ x. IsIf (d + 1) (stm x) from (rest x)) (FailsIf (d + 1) from) r → Reads (λ x. IsStm d (stm x) (Keyword_of keyword.If place ∷ from) (rest x)) (FailsStm d (Keyword_of keyword.If place ∷ from)) r
+  pub if_result : (r : Result X Problem) → Reads (λ x. IsIf (d + 1) (stm x) from (rest x)) (FailsIf (d + 1) from) r →
+      Reads (λ x. IsStm d (stm x) (Keyword_of keyword.If place ∷ from) (rest x)) (FailsStm d (Keyword_of keyword.If place ∷ from)) r
   if_result (Ok x) h = if_begins place room h
   if_result (Err e) h = passes_on (FailsIf (d + 1) from) (FailsStm d (Keyword_of keyword.If place ∷ from)) e h (λ out f. if_stops place d from out room f)
 
-  pub from_result : (r : Result X Problem) → Reads (λ x. IsLoop (d + 1) (stm x) from (rest x)) (FailsLoop (d + 1) from) r → Reads (λ x. IsStm d (stm x) (Keyword_of keyword.From place ∷ from) (rest x)) (FailsStm d (Keyword_of keyword.From place ∷ from)) r
+  pub from_result : (r : Result X Problem) → Reads (λ x. IsLoop (d + 1) (stm x) from (rest x)) (FailsLoop (d + 1) from) r →
+      Reads (λ x. IsStm d (stm x) (Keyword_of keyword.From place ∷ from) (rest x)) (FailsStm d (Keyword_of keyword.From place ∷ from)) r
   from_result (Ok x) h = from_begins place room h
-  from_result (Err e) h = passes_on (FailsLoop (d + 1) from) (FailsStm d (Keyword_of keyword.From place ∷ from)) e h (λ out f. from_stops place d from out room f)
+  from_result (Err e) h =
+      passes_on (FailsLoop (d + 1) from) (FailsStm d (Keyword_of keyword.From place ∷ from)) e h (λ out f. from_stops place d from out room f)
 
-  pub local_result : (r : Result X Problem) → Reads (λ x. IsPart Local (d + 1) (stm x) from (rest x)) (FailsPart Local (d + 1) from) r → Reads (λ x. IsStm d (stm x) (Keyword_of keyword.Local place ∷ from) (rest x)) (FailsStm d (Keyword_of keyword.Local place ∷ from)) r
+  pub local_result : (r : Result X Problem) → Reads (λ x. IsPart Local (d + 1) (stm x) from (rest x)) (FailsPart Local (d + 1) from) r →
+      Reads (λ x. IsStm d (stm x) (Keyword_of keyword.Local place ∷ from) (rest x)) (FailsStm d (Keyword_of keyword.Local place ∷ from)) r
   local_result (Ok x) h = local_begins place room h
-  local_result (Err e) h = passes_on (FailsPart Local (d + 1) from) (FailsStm d (Keyword_of keyword.Local place ∷ from)) e h (λ out f. local_stops place d from out room f)
+  local_result (Err e) h =
+      passes_on (FailsPart Local (d + 1) from) (FailsStm d (Keyword_of keyword.Local place ∷ from)) e h (λ out f. local_stops place d from out room f)
 
 -- a keyword that begins a construct, and is neither of these
 pub is_local : (w : Keyword) → opens_construct w ≡ true → (w ≡ keyword.If → ⊥) → (w ≡ keyword.From → ⊥) → w ≡ keyword.Local

@@ -4,8 +4,10 @@ use Rattle.janus_syntax.specs.declared.fault.What.{What}
 use Rattle.janus_syntax.specs.declared.fault.What.TheVariants as what
 use Rattle.janus_syntax.specs.Tokens.{Token}
 use Rattle.janus_syntax.specs.Forms.{Part, Tree}
-use Rattle.janus_syntax.specs.Grammar.{Demands, all, none, but_limits, but_agreement, zero_count, IsTree, IsOpen, Wants, Refusal, Expected, TooNested, DelocalName, IsRefused, expected, expected_at_end, too_nested, delocal_name}
-use Rattle.janus_syntax.specs.Reader.{State, Step, Go, Accept, Stuck, TooMany, Differs, step, wanted, Outcome, Ended, Failed, Nested, Unlike, outcome_of, at_end, follow, run, start}
+use Rattle.janus_syntax.specs.Grammar.{Demands, all, none, but_limits, but_agreement, zero_count, IsTree, IsOpen, Wants, Refusal, Expected, TooNested}
+use Rattle.janus_syntax.specs.Grammar.{DelocalName, IsRefused, expected, expected_at_end, too_nested, delocal_name}
+use Rattle.janus_syntax.specs.Reader.{State, Step, Go, Accept, Stuck, TooMany, Differs, step, wanted, Outcome, Ended, Failed, Nested, Unlike, outcome_of}
+use Rattle.janus_syntax.specs.Reader.{at_end, follow, run, start}
 use Rattle.janus_syntax.specs.Laws.{OneWanted, WantsIfOpen, OpenIfWants}
 use Rattle.janus_syntax.proofs.Agrees.{reads_cell}
 use Rattle.janus_syntax.proofs.Completes.{Within}
@@ -17,47 +19,60 @@ module _ {goal : Part} where
   -- Each refusal is what the machine answers.
 
   -- the outcome at a token behind a front
-  outcome_at : {s : State goal} (front : List Token) (t : Token) (behind tokens : List Token) (x : Raw goal) → tokens ≡ front ++ t ∷ behind → Walk all (start goal) front s → raw s (Some t) ≡ x →
+  outcome_at : {s : State goal} (front : List Token) (t : Token) (behind tokens : List Token) (x : Raw goal) → tokens ≡ front ++ t ∷ behind →
+      Walk all (start goal) front s → raw s (Some t) ≡ x →
       run all tokens (start goal) ≡ follow (λ n. run all behind n) (wanted s) (suc (length behind)) (judge all x)
   outcome_at {s} front t behind tokens x whole w e =
       ap (λ ts. run all ts (start goal)) whole ∙ walk_run w (t ∷ behind)
       ∙ ap (follow (λ n. run all behind n) (wanted s) (suc (length behind))) (judged all s (Some t) ∙ ap (judge all) e)
 
-  goes_open : (d : Demands) (s m : State goal) (front : List Token) (t : Token) (x : Raw goal) → Walk d (start goal) front s → raw s (Some t) ≡ x → judge d x ≡ Go m → Within d.limits zero_count → IsOpen goal d (front ++ t ∷ [])
+  goes_open : (d : Demands) (s m : State goal) (front : List Token) (t : Token) (x : Raw goal) → Walk d (start goal) front s → raw s (Some t) ≡ x →
+      judge d x ≡ Go m → Within d.limits zero_count → IsOpen goal d (front ++ t ∷ [])
   goes_open d s m front t x w e h k = step_open d t w (judged d s (Some t) ∙ ap (judge d) e ∙ h) k
 
-  dead_not_open : (d : Demands) (s : State goal) (front : List Token) (t : Token) (x : Raw goal) → Walk d (start goal) front s → raw s (Some t) ≡ x → ((n : State goal) → judge d x ≡ Go n → ⊥) → IsOpen goal d (front ++ t ∷ []) → ⊥
+  dead_not_open : (d : Demands) (s : State goal) (front : List Token) (t : Token) (x : Raw goal) → Walk d (start goal) front s → raw s (Some t) ≡ x →
+      ((n : State goal) → judge d x ≡ Go n → ⊥) → IsOpen goal d (front ++ t ∷ []) → ⊥
   dead_not_open d s front t x w e h = not_open d t w (dead_steps d s t (judge d x) (judged d s (Some t) ∙ ap (judge d) e) h)
 
-  determined_expected : (s : State goal) (front : List Token) (t : Token) (behind tokens : List Token) (x : Raw goal) → tokens ≡ front ++ t ∷ behind → Walk all (start goal) front s → raw s (Some t) ≡ x →
+  determined_expected : (s : State goal) (front : List Token) (t : Token) (behind tokens : List Token) (x : Raw goal) → tokens ≡ front ++ t ∷ behind →
+      Walk all (start goal) front s → raw s (Some t) ≡ x →
       (IsOpen goal none (front ++ t ∷ []) → ⊥) → run all tokens (start goal) ≡ Failed (wanted s) (suc (length behind))
   determined_expected s front t behind tokens Dead whole w e n = outcome_at front t behind tokens Dead whole w e
   determined_expected s front t behind tokens (Accepts c) whole w e n = outcome_at front t behind tokens (Accepts c) whole w e
   determined_expected s front t behind tokens (Enters b m) whole w e n = absurd (n (goes_open none s m front t (Enters b m) (walk_fewer none w) e refl refl))
   determined_expected s front t behind tokens (Takes b m) whole w e n = absurd (n (goes_open none s m front t (Takes b m) (walk_fewer none w) e refl refl))
 
-  determined_nested : (s : State goal) (front : List Token) (t : Token) (behind tokens : List Token) (x : Raw goal) → tokens ≡ front ++ t ∷ behind → Walk all (start goal) front s → raw s (Some t) ≡ x →
+  determined_nested : (s : State goal) (front : List Token) (t : Token) (behind tokens : List Token) (x : Raw goal) → tokens ≡ front ++ t ∷ behind →
+      Walk all (start goal) front s → raw s (Some t) ≡ x →
       IsOpen goal but_limits (front ++ t ∷ []) → (IsOpen goal all (front ++ t ∷ []) → ⊥) → run all tokens (start goal) ≡ Nested (suc (length behind))
   determined_nested s front t behind tokens Dead whole w e o n = absurd (dead_not_open but_limits s front t Dead (walk_fewer but_limits w) e (λ n h. cc) o)
-  determined_nested s front t behind tokens (Accepts c) whole w e o n = absurd (dead_not_open but_limits s front t (Accepts c) (walk_fewer but_limits w) e (λ n h. cc) o)
+  determined_nested s front t behind tokens (Accepts c) whole w e o n =
+      absurd (dead_not_open but_limits s front t (Accepts c) (walk_fewer but_limits w) e (λ n h. cc) o)
   determined_nested s front t behind tokens (Enters true m) whole w e o n = absurd (n (goes_open all s m front t (Enters true m) w e refl refl))
   determined_nested s front t behind tokens (Enters false m) whole w e o n = outcome_at front t behind tokens (Enters false m) whole w e
   determined_nested s front t behind tokens (Takes true m) whole w e o n = absurd (n (goes_open all s m front t (Takes true m) w e refl refl))
-  determined_nested s front t behind tokens (Takes false m) whole w e o n = absurd (dead_not_open but_limits s front t (Takes false m) (walk_fewer but_limits w) e (λ n h. cc) o)
+  determined_nested s front t behind tokens (Takes false m) whole w e o n =
+      absurd (dead_not_open but_limits s front t (Takes false m) (walk_fewer but_limits w) e (λ n h. cc) o)
 
-  determined_differs : (s : State goal) (front : List Token) (t : Token) (behind tokens : List Token) (x : Raw goal) → tokens ≡ front ++ t ∷ behind → Walk all (start goal) front s → raw s (Some t) ≡ x →
+  determined_differs : (s : State goal) (front : List Token) (t : Token) (behind tokens : List Token) (x : Raw goal) → tokens ≡ front ++ t ∷ behind →
+      Walk all (start goal) front s → raw s (Some t) ≡ x →
       IsOpen goal but_agreement (front ++ t ∷ []) → (IsOpen goal all (front ++ t ∷ []) → ⊥) → run all tokens (start goal) ≡ Unlike (suc (length behind))
-  determined_differs s front t behind tokens Dead whole w e o n = absurd (dead_not_open but_agreement s front t Dead (walk_fewer but_agreement w) e (λ n h. cc) o)
-  determined_differs s front t behind tokens (Accepts c) whole w e o n = absurd (dead_not_open but_agreement s front t (Accepts c) (walk_fewer but_agreement w) e (λ n h. cc) o)
+  determined_differs s front t behind tokens Dead whole w e o n =
+      absurd (dead_not_open but_agreement s front t Dead (walk_fewer but_agreement w) e (λ n h. cc) o)
+  determined_differs s front t behind tokens (Accepts c) whole w e o n =
+      absurd (dead_not_open but_agreement s front t (Accepts c) (walk_fewer but_agreement w) e (λ n h. cc) o)
   determined_differs s front t behind tokens (Enters true m) whole w e o n = absurd (n (goes_open all s m front t (Enters true m) w e refl refl))
-  determined_differs s front t behind tokens (Enters false m) whole w e o n = absurd (dead_not_open but_agreement s front t (Enters false m) (walk_fewer but_agreement w) e (λ n h. cc) o)
+  determined_differs s front t behind tokens (Enters false m) whole w e o n =
+      absurd (dead_not_open but_agreement s front t (Enters false m) (walk_fewer but_agreement w) e (λ n h. cc) o)
   determined_differs s front t behind tokens (Takes true m) whole w e o n = absurd (n (goes_open all s m front t (Takes true m) w e refl refl))
   determined_differs s front t behind tokens (Takes false m) whole w e o n = outcome_at front t behind tokens (Takes false m) whole w e
 
-  determined_end : (s : State goal) (tokens : List Token) (x : Step goal) → Walk all (start goal) tokens s → step all s None ≡ x → ((c : Tree goal) → IsTree goal all c tokens → ⊥) → run all tokens (start goal) ≡ at_end (wanted s) x
+  determined_end : (s : State goal) (tokens : List Token) (x : Step goal) → Walk all (start goal) tokens s → step all s None ≡ x →
+      ((c : Tree goal) → IsTree goal all c tokens → ⊥) → run all tokens (start goal) ≡ at_end (wanted s) x
   determined_end s tokens x w e n = ap (λ ts. run all ts (start goal)) (sym (append_nothing tokens)) ∙ walk_run w [] ∙ ap (at_end (wanted s)) e
 
-  no_cell : (s : State goal) (tokens : List Token) (x : Step goal) → Walk all (start goal) tokens s → step all s None ≡ x → ((c : Tree goal) → IsTree goal all c tokens → ⊥) → at_end (wanted s) x ≡ Ended None (wanted s)
+  no_cell : (s : State goal) (tokens : List Token) (x : Step goal) → Walk all (start goal) tokens s → step all s None ≡ x →
+      ((c : Tree goal) → IsTree goal all c tokens → ⊥) → at_end (wanted s) x ≡ Ended None (wanted s)
   no_cell s tokens (Accept c) w e n = absurd (n c (finished all s tokens c w e))
   no_cell s tokens (Go m) w e n = refl
   no_cell s tokens Stuck w e n = refl
@@ -108,7 +123,8 @@ parts_append [] behind more t = refl
 parts_append (u ∷ front) behind more t = ap (λ r. u ∷ r) (parts_append front behind more t)
 
 module _ {goal : Part} where
-  wants_ending : (d : Demands) (front : List Token) (out : Outcome goal) → Ending d (start goal) front out → IsOpen goal d front → (w : What) × Wants goal d w front
+  wants_ending : (d : Demands) (front : List Token) (out : Outcome goal) → Ending d (start goal) front out → IsOpen goal d front → (w : What) ×
+      Wants goal d w front
   wants_ending d front out (at_the_end {s'} w) o = (wanted s', wants_front d w)
   wants_ending d front out (at_a_token {s'} f t behind whole w n) (more, c, is) =
       absurd (not_open d t w n (behind ++ more, c, subst (λ ts. IsTree goal d c ts) (ap (λ ts. ts ++ more) whole ∙ sym (parts_append f behind more t)) is))

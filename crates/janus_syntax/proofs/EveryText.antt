@@ -1,5 +1,6 @@
 -- Each text has tokens, or a refusal that comes before all others.
-use Rattle.std.proofs.Common.{◌≡◌, ℕ, zero, suc, ◌+◌, ◌<◌, ◌≤◌, ◌⊎◌, inl, inr, List, [], ◌∷◌, ◌++◌, length, length-drop, length-append, get_or, take, drop, true, false, Option, Some, None, refl, ap, sym, ◌∙◌, arith, IsUtf8}
+use Rattle.std.proofs.Common.{◌≡◌, ℕ, zero, suc, ◌+◌, ◌<◌, ◌≤◌, ◌⊎◌, inl, inr, List, [], ◌∷◌, ◌++◌, length, length-drop, length-append, get_or, take, drop}
+use Rattle.std.proofs.Common.{true, false, Option, Some, None, refl, ap, sym, ◌∙◌, arith, IsUtf8}
 use Rattle.std.specs.Prelude.{nat_eq, nat_le, encode_utf8, encode_utf8_all}
 use Rattle.std.specs.List.{prefix_len, starts_with}
 use Rattle.std.specs.Str.{bytes_eq, IsCharBoundary}
@@ -22,12 +23,14 @@ use Rattle.janus_syntax.specs.declared.fault.SyntaxFault.TheVariants as fault
 use Rattle.janus_syntax.specs.Spelling.{sign_text, keyword_text}
 use Rattle.janus_syntax.specs.Tokens.{Token, Name, Number, Sign_of, Keyword_of}
 use Rattle.janus_syntax.specs.Forms.{Part}
-use Rattle.janus_syntax.specs.Lexical.{class_of, of_name, of_number, in_line, decimal, IsNoKeyword, Item, Gap, A_name, A_number, A_sign, A_keyword, IsSpelled, IsToken, NoItem, AreTokens, largest_number}
+use Rattle.janus_syntax.specs.Lexical.{class_of, of_name, of_number, in_line, decimal, IsNoKeyword, Item, Gap, A_name, A_number, A_sign, A_keyword, IsSpelled}
+use Rattle.janus_syntax.specs.Lexical.{IsToken, NoItem, AreTokens, largest_number}
 use Rattle.janus_syntax.specs.Scan.{IsLongestSign, IsFrontText, IsFrontOf, IsFirstChar}
 use Rattle.janus_syntax.specs.Text.{IsRefusalOf}
 use Rattle.janus_syntax.specs.declared.token.TheConstants.{KEYWORDS}
 use Rattle.janus_syntax.proofs.Scanning.{signs, first_is_longest, no_sign, begins_with, is_no_keyword}
-use Rattle.janus_syntax.proofs.Fronts.{letters_front, digits_front, space_front, comment_front, sign_front, underscore_none, other_none, letters_cut, digits_cut, space_cut, line_cut, sign_cut, slashes, no_slashes}
+use Rattle.janus_syntax.proofs.Fronts.{letters_front, digits_front, space_front, comment_front, sign_front, underscore_none, other_none, letters_cut}
+use Rattle.janus_syntax.proofs.Fronts.{digits_cut, space_cut, line_cut, sign_cut, slashes, no_slashes}
 use Rattle.janus_syntax.proofs.Lexing.{IsLexedTo, lexed_start, lexed_gap, lexed_one, bad_token, too_large, place}
 
 -- ---- the item at the front
@@ -60,7 +63,8 @@ longest_sign text (suc left) k e none =
 abbrev NoKeywordOf : List ℕ → ℕ → Type 0
 NoKeywordOf text k = (j : ℕ) (w : Keyword) → j < k → text ≡ keyword_text (get_or KEYWORDS j w) → ⊥
 
-one_keyword_more : (text : List ℕ) (k : ℕ) → k < 22 → NoKeywordOf text k → bytes_eq text (keyword_text (get_or KEYWORDS k keyword.Nil)) ≡ false → NoKeywordOf text (suc k)
+one_keyword_more : (text : List ℕ) (k : ℕ) → k < 22 → NoKeywordOf text k → bytes_eq text (keyword_text (get_or KEYWORDS k keyword.Nil)) ≡ false →
+    NoKeywordOf text (suc k)
 one_keyword_more text k few none not_here j w h e =
     elim (order j k) [
       | inl before ↦ none j w before e
@@ -87,7 +91,8 @@ record Begins (xs : List ℕ) : Type 0 where
   front_of : IsFrontOf kind size xs
   cut : IsCharBoundary xs size
 
-other : (xs : List ℕ) → IsUtf8 xs → class_of (get_or xs 0 0) ≡ class.Other → ((ds : List ℕ) → xs ≡ 47 ∷ 47 ∷ ds → ⊥) → (o : Option Sign) → IsLongestSign xs o → Begins xs ⊎ NoItem xs
+other : (xs : List ℕ) → IsUtf8 xs → class_of (get_or xs 0 0) ≡ class.Other → ((ds : List ℕ) → xs ≡ 47 ∷ 47 ∷ ds → ⊥) → (o : Option Sign) → IsLongestSign xs o →
+    Begins xs ⊎ NoItem xs
 other xs u e apart None longest = inr (other_none xs e longest apart)
 other xs u e apart (Some s) longest =
     let f = sign_front s xs (length (sign_text s)) refl longest apart in
@@ -137,8 +142,11 @@ first_char : (xs : List ℕ) → IsUtf8 xs → 0 < length xs → (n : ℕ) × Is
 first_char xs ([], (s, e)) some = absurd (omega (arith, ap length e, some))
 first_char xs (c ∷ cs, (s, e)) some =
     let n = length (encode_utf8 c) in
-    let rest : drop n xs ≡ encode_utf8_all cs = ap (drop n) (sym e) ∙ drop_at (encode_utf8 c) (encode_utf8_all cs) n refl in
-    (n, record { character = c; first = sym e ∙ ap (λ r. encode_utf8 c ++ r) (sym rest) }, omega (arith, ap length e, length-append (encode_utf8 c) (encode_utf8_all cs)))
+    let rest : drop n xs ≡ encode_utf8_all cs = ap (drop n) (sym e) ∙ drop_at (encode_utf8 c) (encode_utf8_all cs) n refl in (
+      n,
+      record { character = c; first = sym e ∙ ap (λ r. encode_utf8 c ++ r) (sym rest) },
+      omega (arith, ap length e, length-append (encode_utf8 c) (encode_utf8_all cs)),
+    )
 
 number_token : (n : ℕ) (at : Span) → ((t : Token) × IsToken (A_number n) at t) ⊎ (largest_number < n)
 number_token n at =
@@ -154,33 +162,44 @@ GoesOn goal text left = (ts : List Token) (rest : List ℕ) (start : ℕ) → le
 shorter : (rest : List ℕ) (n left : ℕ) → 0 < n → length rest ≤ suc left → length (drop n rest) ≤ left
 shorter rest n left some le = omega (arith, some, le, length-drop n rest)
 
-one_item : (goal : Part) (text : List ℕ) (ts : List Token) (rest : List ℕ) (start left : ℕ) → IsLexedTo text ts rest start → length rest ≤ suc left → (b : Begins rest) → (i : Item) → IsSpelled i (take b.size rest) → GoesOn goal text left → Lexed goal text
+one_item : (goal : Part) (text : List ℕ) (ts : List Token) (rest : List ℕ) (start left : ℕ) → IsLexedTo text ts rest start → length rest ≤ suc left →
+    (b : Begins rest) → (i : Item) → IsSpelled i (take b.size rest) → GoesOn goal text left → Lexed goal text
 one_item goal text ts rest start left k le b Gap s go =
-    go ts (drop b.size rest) (start + b.size) (shorter rest b.size left b.front_of.nonempty le) (lexed_gap text ts rest (take b.size rest) (drop b.size rest) start b.size b.kind k b.front_of b.cut refl refl s)
+    go ts (drop b.size rest) (start + b.size) (shorter rest b.size left b.front_of.nonempty le)
+    (lexed_gap text ts rest (take b.size rest) (drop b.size rest) start b.size b.kind k b.front_of b.cut refl refl s)
 one_item goal text ts rest start left k le b (A_name x) s go =
     go (ts ++ Name x (place start (start + b.size)) ∷ []) (drop b.size rest) (start + b.size) (shorter rest b.size left b.front_of.nonempty le)
-    (lexed_one text ts (Name x (place start (start + b.size))) rest (take b.size rest) (drop b.size rest) start b.size b.kind (A_name x) k b.front_of b.cut refl refl s refl)
+    (lexed_one text ts (Name x (place start (start + b.size))) rest (take b.size rest) (drop b.size rest) start b.size b.kind
+    (A_name x) k b.front_of b.cut refl refl s refl)
 one_item goal text ts rest start left k le b (A_number n) s go =
     elim (number_token n (place start (start + b.size))) [
       | inl (t, is) ↦
           go (ts ++ t ∷ []) (drop b.size rest) (start + b.size) (shorter rest b.size left b.front_of.nonempty le)
           (lexed_one text ts t rest (take b.size rest) (drop b.size rest) start b.size b.kind (A_number n) k b.front_of b.cut refl refl s is)
-      | inr large ↦ inr (fault.NumberTooLarge (place start (start + b.size)), too_large text ts rest (take b.size rest) (drop b.size rest) start b.size b.kind (place start (start + b.size)) k b.front_of refl refl (n, s, large, refl))
+      | inr large ↦ inr (
+        fault.NumberTooLarge (place start (start + b.size)),
+        too_large text ts rest (take b.size rest) (drop b.size rest) start b.size b.kind
+            (place start (start + b.size)) k b.front_of refl refl (n, s, large, refl),
+      )
     ]
 one_item goal text ts rest start left k le b (A_sign x) s go =
     go (ts ++ Sign_of x (place start (start + b.size)) ∷ []) (drop b.size rest) (start + b.size) (shorter rest b.size left b.front_of.nonempty le)
-    (lexed_one text ts (Sign_of x (place start (start + b.size))) rest (take b.size rest) (drop b.size rest) start b.size b.kind (A_sign x) k b.front_of b.cut refl refl s refl)
+    (lexed_one text ts (Sign_of x (place start (start + b.size))) rest (take b.size rest) (drop b.size rest) start b.size b.kind
+    (A_sign x) k b.front_of b.cut refl refl s refl)
 one_item goal text ts rest start left k le b (A_keyword x) s go =
     go (ts ++ Keyword_of x (place start (start + b.size)) ∷ []) (drop b.size rest) (start + b.size) (shorter rest b.size left b.front_of.nonempty le)
-    (lexed_one text ts (Keyword_of x (place start (start + b.size))) rest (take b.size rest) (drop b.size rest) start b.size b.kind (A_keyword x) k b.front_of b.cut refl refl s refl)
+    (lexed_one text ts (Keyword_of x (place start (start + b.size))) rest (take b.size rest) (drop b.size rest) start b.size b.kind (A_keyword x)
+    k b.front_of b.cut refl refl s refl)
 
 lexed_from : (goal : Part) (text : List ℕ) (left : ℕ) → GoesOn goal text left
 lexed_from goal text left ts [] start le k = inl (ts, k.lexes)
 lexed_from goal text zero ts (x ∷ xs) start le k = absurd (omega (arith, le))
 lexed_from goal text (suc left) ts (x ∷ xs) start le k =
     elim (begins (x ∷ xs) k.utf8 (omega arith) (class_of x) refl) [
-      | inl b ↦ let i = item_of b.kind (take b.size (x ∷ xs)) b.front_of.is in one_item goal text ts (x ∷ xs) start left k le b i.0 i.1 (lexed_from goal text left)
-      | inr none ↦ let c = first_char (x ∷ xs) k.utf8 (omega arith) in inr (fault.BadToken (place start (start + c.0)), bad_token text ts (x ∷ xs) start c.0 k none c.1 c.2)
+      | inl b ↦ let i = item_of b.kind (take b.size (x ∷ xs)) b.front_of.is in
+          one_item goal text ts (x ∷ xs) start left k le b i.0 i.1 (lexed_from goal text left)
+      | inr none ↦ let c = first_char (x ∷ xs) k.utf8 (omega arith) in
+          inr (fault.BadToken (place start (start + c.0)), bad_token text ts (x ∷ xs) start c.0 k none c.1 c.2)
     ]
 
 pub lexed : (goal : Part) (text : List ℕ) → IsUtf8 text → Lexed goal text

@@ -9,7 +9,8 @@ use Rattle.janus_syntax.specs.declared.tree.Operator.TheVariants as operator
 use Rattle.janus_syntax.specs.declared.tree.Update.TheVariants as update
 use Rattle.janus_syntax.specs.declared.fault.What.TheVariants as what
 use Rattle.janus_syntax.specs.Tokens.{Token, Name, Number, Sign_of, Keyword_of}
-use Rattle.janus_syntax.specs.Tree.{Name as Named, named, Num, Var, EmptyOf, TopOf, Neg, Bin, Skip, Assign, Push, Pop, Swap, If, LocalInt, LocalStack, Call, Empty, More, Int, StackOf, ArrayParameter, StackParameter, procedure_of, cell_of}
+use Rattle.janus_syntax.specs.Tree.{Name as Named, named, Num, Var, EmptyOf, TopOf, Neg, Bin, Skip, Assign, Push, Pop, Swap, If, LocalInt, LocalStack, Call}
+use Rattle.janus_syntax.specs.Tree.{Empty, More, Int, StackOf, ArrayParameter, StackParameter, procedure_of, cell_of}
 use Rattle.janus_syntax.specs.Forms.{A_cell}
 use Rattle.janus_syntax.specs.Grammar.{all}
 use Rattle.janus_syntax.specs.Reader.{Outcome, Ended, Failed, Nested, Unlike, run, start}
@@ -122,13 +123,19 @@ stack_wants_end : answer (w keyword.Stack ∷ y ∷ s sign.OpenIndex ∷ []) ≡
 stack_wants_end = refl
 
 -- stack y int x push(x, y) x += top(y) - empty(y) pop(x, y)
-stacks : answer (w keyword.Stack ∷ y ∷ w keyword.Int ∷ x ∷ w keyword.Push ∷ s sign.Open ∷ x ∷ s sign.Comma ∷ y ∷ s sign.Close ∷ x ∷ s sign.PlusEquals ∷ w keyword.Top ∷ s sign.Open ∷ y ∷ s sign.Close ∷ s sign.Minus ∷ w keyword.Empty ∷ s sign.Open ∷ y ∷ s sign.Close ∷ w keyword.Pop ∷ s sign.Open ∷ x ∷ s sign.Comma ∷ y ∷ s sign.Close ∷ []) ≡
-    Ended (Some (cell_of (StackOf Y ∷ Int X ∷ []) (More (Push X Y) (More (Assign X update.Add (Bin operator.Subtract (TopOf Y) (EmptyOf Y))) (More (Pop X Y) Empty))) [])) what.End
+stacks : answer
+    (w keyword.Stack ∷ y ∷ w keyword.Int ∷ x ∷ w keyword.Push ∷ s sign.Open ∷ x ∷ s sign.Comma ∷ y ∷ s sign.Close ∷ x ∷ s sign.PlusEquals ∷ w keyword.Top ∷ s
+    sign.Open ∷ y ∷ s sign.Close ∷ s sign.Minus ∷ w keyword.Empty ∷ s sign.Open ∷ y ∷ s sign.Close ∷ w keyword.Pop ∷ s sign.Open ∷ x ∷ s sign.Comma ∷ y ∷ s
+    sign.Close ∷ []) ≡
+    Ended (Some (cell_of (StackOf Y ∷ Int X ∷ [])
+    (More (Push X Y) (More (Assign X update.Add (Bin operator.Subtract (TopOf Y) (EmptyOf Y))) (More (Pop X Y) Empty))) [])) what.End
 stacks = refl
 
 -- x += 1 - 2 * -x - 3
 left_to_right : answer (x ∷ s sign.PlusEquals ∷ n 1 ∷ s sign.Minus ∷ n 2 ∷ s sign.Times ∷ s sign.Minus ∷ x ∷ s sign.Minus ∷ n 3 ∷ []) ≡
-    Ended (Some (cell_of [] (More (Assign X update.Add (Bin operator.Subtract (Bin operator.Subtract (Num 1 at) (Bin operator.Multiply (Num 2 at) (Neg (Var X)))) (Num 3 at))) Empty) [])) what.End
+    Ended (Some (cell_of []
+    (More (Assign X update.Add (Bin operator.Subtract (Bin operator.Subtract (Num 1 at) (Bin operator.Multiply (Num 2 at) (Neg (Var X)))) (Num 3 at)))
+    Empty) [])) what.End
 left_to_right = refl
 
 -- if x then x += (1) fi x
@@ -137,11 +144,13 @@ left_out_else : answer (w keyword.If ∷ x ∷ w keyword.Then ∷ x ∷ s sign.P
 left_out_else = refl
 
 -- 64 nested `(` are read, the 65th is refused; so the 65th prefix minus, and the 257th operator
-deep : answer (x ∷ s sign.PlusEquals ∷ times 64 (s sign.Open ∷ []) ++ n 1 ∷ times 64 (s sign.Close ∷ [])) ≡ Ended (Some (cell_of [] (More (Assign X update.Add (Num 1 at)) Empty) [])) what.End
+deep : answer (x ∷ s sign.PlusEquals ∷ times 64 (s sign.Open ∷ []) ++ n 1 ∷ times 64 (s sign.Close ∷ [])) ≡ Ended
+    (Some (cell_of [] (More (Assign X update.Add (Num 1 at)) Empty) [])) what.End
 deep = refl
 
 -- the `(` of a stack's name does not count
-deep_top : answer (x ∷ s sign.PlusEquals ∷ times 64 (s sign.Open ∷ []) ++ w keyword.Top ∷ s sign.Open ∷ y ∷ s sign.Close ∷ times 64 (s sign.Close ∷ [])) ≡ Ended (Some (cell_of [] (More (Assign X update.Add (TopOf Y)) Empty) [])) what.End
+deep_top : answer (x ∷ s sign.PlusEquals ∷ times 64 (s sign.Open ∷ []) ++ w keyword.Top ∷ s sign.Open ∷ y ∷ s sign.Close ∷ times 64 (s sign.Close ∷ [])) ≡ Ended
+    (Some (cell_of [] (More (Assign X update.Add (TopOf Y)) Empty) [])) what.End
 deep_top = refl
 
 too_deep : answer (x ∷ s sign.PlusEquals ∷ times 65 (s sign.Open ∷ []) ++ n 1 ∷ []) ≡ Nested 2
@@ -202,11 +211,15 @@ delocal_wants_equals : answer (local_front ++ w keyword.Int ∷ x ∷ n 1 ∷ []
 delocal_wants_equals = refl
 
 -- the first `=` is no relation, a second one is
-local_number : answer (w keyword.Local ∷ w keyword.Int ∷ x ∷ s sign.Equals ∷ n 1 ∷ s sign.Equals ∷ n 2 ∷ w keyword.Skip ∷ w keyword.Delocal ∷ w keyword.Int ∷ x ∷ s sign.Equals ∷ n 0 ∷ []) ≡
+local_number : answer
+    (w keyword.Local ∷ w keyword.Int ∷ x ∷ s sign.Equals ∷ n 1 ∷ s sign.Equals ∷ n 2 ∷ w keyword.Skip ∷ w keyword.Delocal ∷ w keyword.Int ∷ x ∷ s
+    sign.Equals ∷ n 0 ∷ []) ≡
     Ended (Some (cell_of [] (More (LocalInt X (Bin operator.Equal (Num 1 at) (Num 2 at)) (More Skip Empty) X (Num 0 at)) Empty) [])) what.End
 local_number = refl
 
-local_stack : answer (w keyword.Local ∷ w keyword.Stack ∷ x ∷ s sign.Equals ∷ w keyword.Nil ∷ w keyword.Skip ∷ w keyword.Delocal ∷ w keyword.Stack ∷ x ∷ s sign.Equals ∷ w keyword.Nil ∷ []) ≡ Ended (Some (cell_of [] (More (LocalStack X (More Skip Empty) X) Empty) [])) what.End
+local_stack : answer
+    (w keyword.Local ∷ w keyword.Stack ∷ x ∷ s sign.Equals ∷ w keyword.Nil ∷ w keyword.Skip ∷ w keyword.Delocal ∷ w keyword.Stack ∷ x ∷ s sign.Equals ∷ w
+    keyword.Nil ∷ []) ≡ Ended (Some (cell_of [] (More (LocalStack X (More Skip Empty) X) Empty) [])) what.End
 local_stack = refl
 
 -- the 65th of locals in one another is refused at its `local`; of what stands in one, 63 may be open
@@ -224,7 +237,8 @@ too_deep_in_a_local = refl
 
 -- ---- calls and procedures
 
-call_two : answer (w keyword.Call ∷ x ∷ s sign.Open ∷ x ∷ s sign.Comma ∷ y ∷ s sign.Close ∷ []) ≡ Ended (Some (cell_of [] (More (Call X (X ∷ Y ∷ [])) Empty) [])) what.End
+call_two : answer (w keyword.Call ∷ x ∷ s sign.Open ∷ x ∷ s sign.Comma ∷ y ∷ s sign.Close ∷ []) ≡ Ended
+    (Some (cell_of [] (More (Call X (X ∷ Y ∷ [])) Empty) [])) what.End
 call_two = refl
 
 call_open : answer (w keyword.Uncall ∷ x ∷ s sign.Open ∷ x ∷ []) ≡ Ended None (what.Sign sign.Close)
@@ -233,7 +247,8 @@ call_open = refl
 -- a procedure, and `main` behind it
 program :
     answer
-    (w keyword.Procedure ∷ x ∷ s sign.Open ∷ w keyword.Int ∷ x ∷ s sign.OpenIndex ∷ s sign.CloseIndex ∷ s sign.Comma ∷ w keyword.Stack ∷ y ∷ s sign.Close ∷ w keyword.Skip ∷ w keyword.Procedure ∷ w keyword.Main ∷ s sign.Open ∷ s sign.Close ∷ w keyword.Int ∷ y ∷ w keyword.Skip ∷ []) ≡
+    (w keyword.Procedure ∷ x ∷ s sign.Open ∷ w keyword.Int ∷ x ∷ s sign.OpenIndex ∷ s sign.CloseIndex ∷ s sign.Comma ∷ w keyword.Stack ∷ y ∷ s sign.Close ∷ w
+    keyword.Skip ∷ w keyword.Procedure ∷ w keyword.Main ∷ s sign.Open ∷ s sign.Close ∷ w keyword.Int ∷ y ∷ w keyword.Skip ∷ []) ≡
     Ended (Some (cell_of (Int Y ∷ []) (More Skip Empty) (procedure_of X (ArrayParameter X ∷ StackParameter Y ∷ []) (More Skip Empty) ∷ []))) what.End
 program = refl
 

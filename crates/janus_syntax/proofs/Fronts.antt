@@ -1,5 +1,6 @@
 -- What stands at the front of a text, and that no longer item fits there.
-use Rattle.std.proofs.Common.{◌≡◌, ℕ, ◌+◌, ◌-◌, ◌<◌, ◌≤◌, ◌==◌, ◌⊎◌, inl, inr, List, [], ◌∷◌, ◌++◌, length, get_or, take, drop, Bool, true, false, Some, None, cond, refl, ap, sym, subst, ◌∙◌, arith, append_assoc, IsUtf8, length-append}
+use Rattle.std.proofs.Common.{◌≡◌, ℕ, ◌+◌, ◌-◌, ◌<◌, ◌≤◌, ◌==◌, ◌⊎◌, inl, inr, List, [], ◌∷◌, ◌++◌, length, get_or, take, drop, Bool, true, false, Some, None}
+use Rattle.std.proofs.Common.{cond, refl, ap, sym, subst, ◌∙◌, arith, append_assoc, IsUtf8, length-append}
 use Rattle.std.specs.Prelude.{nat_lt, nat_eq}
 use Rattle.std.specs.List.{prefix_len, starts_with}
 use Rattle.std.proofs.lemmas.Slice.Eq.{starts_is}
@@ -20,7 +21,8 @@ use Rattle.janus_syntax.specs.declared.lexer.Class.{Class}
 use Rattle.janus_syntax.specs.declared.lexer.Class.TheVariants as class
 use Rattle.janus_syntax.specs.declared.lexer.Front.TheVariants as front
 use Rattle.janus_syntax.specs.Spelling.{sign_text, keyword_text}
-use Rattle.janus_syntax.specs.Lexical.{class_of, goes_on_name, goes_on_number, AllPass, of_name, of_number, in_line, Item, Gap, A_name, A_number, A_sign, A_keyword, IsSpelled, NoLonger, NoItem}
+use Rattle.janus_syntax.specs.Lexical.{class_of, goes_on_name, goes_on_number, AllPass, of_name, of_number, in_line, Item, Gap, A_name, A_number, A_sign}
+use Rattle.janus_syntax.specs.Lexical.{A_keyword, IsSpelled, NoLonger, NoItem}
 use Rattle.janus_syntax.specs.Scan.{IsLongestSign, IsFrontText, IsFrontOf}
 
 -- the first octet
@@ -304,7 +306,8 @@ run_none : (p : ℕ → Bool) (x : ℕ) (xs : List ℕ) → p x ≡ false → Is
 run_none p x xs e = record { front = []; rest = x ∷ xs; whole = refl; len = refl; all = tt; stops = e }
 
 run_more : (p : ℕ → Bool) (x : ℕ) (xs : List ℕ) (n : ℕ) → p x ≡ true → IsRun p xs n → IsRun p (x ∷ xs) (1 + n)
-run_more p x xs n e r = record { front = x ∷ r.front; rest = r.rest; whole = ap (λ l. x ∷ l) r.whole; len = omega (arith, r.len); all = (e, r.all); stops = r.stops }
+run_more p x xs n e r =
+    record { front = x ∷ r.front; rest = r.rest; whole = ap (λ l. x ∷ l) r.whole; len = omega (arith, r.len); all = (e, r.all); stops = r.stops }
 
 pub run_of : (p : ℕ → Bool) (xs : List ℕ) → IsRun p xs (prefix_len p xs)
 run_of p [] = record { front = []; rest = []; whole = refl; len = refl; all = tt; stops = tt }
@@ -346,7 +349,8 @@ space_longest c rest k i more others e s = space_ends i c more k s
 comment_longest : (cs rest : List ℕ) → StopsAt in_line rest → NoLonger (47 ∷ 47 ∷ cs) rest
 comment_longest cs rest stops i more others e s = run_ends in_line cs rest more others stops e (comment_goes_on i (cs ++ more) s)
 
-letters_of_run : (c : ℕ) (cs run rest : List ℕ) (n : ℕ) → class_of c ≡ class.Letter → c ∷ cs ≡ run ++ rest → n ≡ length run → AllPass of_name run → StopsAt of_name rest → IsFrontOf front.Letters n (c ∷ cs)
+letters_of_run : (c : ℕ) (cs run rest : List ℕ) (n : ℕ) → class_of c ≡ class.Letter → c ∷ cs ≡ run ++ rest → n ≡ length run → AllPass of_name run →
+    StopsAt of_name rest → IsFrontOf front.Letters n (c ∷ cs)
 letters_of_run c cs [] rest n k e l h stops =
     let a : of_name c ≡ true = ap goes_on_name k in
     let b : of_name c ≡ false = subst (λ m. StopsAt of_name m) (sym e) stops in
@@ -360,7 +364,8 @@ pub letters_front : (xs : List ℕ) (n : ℕ) → 0 < length xs → class_of (ge
 letters_front [] n some k e = absurd (omega (arith, some))
 letters_front (c ∷ cs) n some k e = let r = run_of of_name (c ∷ cs) in letters_of_run c cs r.front r.rest n k r.whole (e ∙ r.len) r.all r.stops
 
-digits_of_run : (c : ℕ) (cs run rest : List ℕ) (n : ℕ) → class_of c ≡ class.Digit → c ∷ cs ≡ run ++ rest → n ≡ length run → AllPass of_number run → StopsAt of_number rest → IsFrontOf front.Digits n (c ∷ cs)
+digits_of_run : (c : ℕ) (cs run rest : List ℕ) (n : ℕ) → class_of c ≡ class.Digit → c ∷ cs ≡ run ++ rest → n ≡ length run → AllPass of_number run →
+    StopsAt of_number rest → IsFrontOf front.Digits n (c ∷ cs)
 digits_of_run c cs [] rest n k e l h stops =
     let a : of_number c ≡ true = ap goes_on_number k in
     let b : of_number c ≡ false = subst (λ m. StopsAt of_number m) (sym e) stops in
@@ -377,7 +382,8 @@ pub space_front : (xs : List ℕ) → 0 < length xs → class_of (get_or xs 0 0)
 space_front [] some k = absurd (omega (arith, some))
 space_front (c ∷ cs) some k = front_from front.Gap (c ∷ cs) (c ∷ []) cs 1 refl refl (omega arith) (inl (c, refl, k)) (space_longest c cs k)
 
-comment_of_run : (xs cs run rest : List ℕ) (n : ℕ) → xs ≡ 47 ∷ 47 ∷ cs → xs ≡ run ++ rest → n ≡ length run → AllPass in_line run → StopsAt in_line rest → IsFrontOf front.Gap n xs
+comment_of_run : (xs cs run rest : List ℕ) (n : ℕ) → xs ≡ 47 ∷ 47 ∷ cs → xs ≡ run ++ rest → n ≡ length run → AllPass in_line run → StopsAt in_line rest →
+    IsFrontOf front.Gap n xs
 comment_of_run xs cs [] rest n k e l h stops = let b : in_line 47 ≡ false = subst (λ m. StopsAt in_line m) (sym e ∙ k) stops in absurd cc
 comment_of_run xs cs (d ∷ []) rest n k e l h stops =
     let same : rest ≡ 47 ∷ cs = cc in
@@ -393,7 +399,8 @@ comment_front xs cs n k e = let r = run_of in_line xs in comment_of_run xs cs r.
 -- signs
 
 -- an item that begins with an octet of the other kind is a sign or a comment
-other_is : (i : Item) (c : ℕ) (cs : List ℕ) → class_of c ≡ class.Other → IsSpelled i (c ∷ cs) → ((s : Sign) × (c ∷ cs ≡ sign_text s)) ⊎ ((ds : List ℕ) × (c ∷ cs ≡ 47 ∷ 47 ∷ ds))
+other_is : (i : Item) (c : ℕ) (cs : List ℕ) → class_of c ≡ class.Other → IsSpelled i (c ∷ cs) → ((s : Sign) × (c ∷ cs ≡ sign_text s)) ⊎
+    ((ds : List ℕ) × (c ∷ cs ≡ 47 ∷ 47 ∷ ds))
 other_is Gap c cs k (inl (d, e, q)) = let h = ap (λ l. class_of (head l)) e in absurd cc
 other_is Gap c cs k (inr (ds, e, q)) = inr (ds, e)
 other_is (A_name x) c cs k s = let h = head_is (A_name x) c cs s in absurd cc
@@ -405,16 +412,20 @@ none_left : (more : List ℕ) → length more ≤ 0 → more ≡ []
 none_left [] h = refl
 none_left (c ∷ cs) h = absurd (omega (arith, h))
 
-sign_longest : (s : Sign) (xs text rest : List ℕ) → xs ≡ text ++ rest → text ≡ sign_text s → ((t : Sign) (others : List ℕ) → xs ≡ sign_text t ++ others → length (sign_text t) ≤ length (sign_text s)) → ((ds : List ℕ) → xs ≡ 47 ∷ 47 ∷ ds → ⊥) → NoLonger text rest
+sign_longest : (s : Sign) (xs text rest : List ℕ) → xs ≡ text ++ rest → text ≡ sign_text s →
+    ((t : Sign) (others : List ℕ) → xs ≡ sign_text t ++ others → length (sign_text t) ≤ length (sign_text s)) → ((ds : List ℕ) → xs ≡ 47 ∷ 47 ∷ ds → ⊥) →
+    NoLonger text rest
 sign_longest s xs [] rest e is best apart i more others f q = absurd (empty_sign s is)
 sign_longest s xs (c ∷ cs) rest e is best apart i more others f q =
     let whole : xs ≡ (c ∷ (cs ++ more)) ++ others = e ∙ ap (λ l. (c ∷ cs) ++ l) f ∙ sym (append_assoc (c ∷ cs) more others) in
     elim (other_is i c (cs ++ more) (sign_is_head s c cs is) q) [
-      | inl (t, r) ↦ none_left more (let h = best t others (whole ∙ ap (λ l. l ++ others) r) in omega (arith, h, ap length is, ap length r, length-append cs more))
+      | inl (t, r) ↦ none_left more
+          (let h = best t others (whole ∙ ap (λ l. l ++ others) r) in omega (arith, h, ap length is, ap length r, length-append cs more))
       | inr (ds, r) ↦ absurd (apart (ds ++ others) (whole ∙ ap (λ l. l ++ others) r))
     ]
 
-pub sign_front : (s : Sign) (xs : List ℕ) (n : ℕ) → n ≡ length (sign_text s) → IsLongestSign xs (Some s) → ((ds : List ℕ) → xs ≡ 47 ∷ 47 ∷ ds → ⊥) → IsFrontOf (front.Sign s) n xs
+pub sign_front : (s : Sign) (xs : List ℕ) (n : ℕ) → n ≡ length (sign_text s) → IsLongestSign xs (Some s) → ((ds : List ℕ) → xs ≡ 47 ∷ 47 ∷ ds → ⊥) →
+    IsFrontOf (front.Sign s) n xs
 sign_front s xs n k ((rest, e), best) apart =
     let h = ltb-true 0 (length (sign_text s)) (sign_some s) in
     front_from (front.Sign s) xs (sign_text s) rest n e k (omega (arith, k, h)) refl (sign_longest s xs (sign_text s) rest e refl best apart)
@@ -423,7 +434,8 @@ sign_front s xs n k ((rest, e), best) apart =
 
 pub underscore_none : (xs : List ℕ) → class_of (get_or xs 0 0) ≡ class.Underscore → NoItem xs
 underscore_none xs k i [] rest e s = some_octets i s
-underscore_none xs k Gap (c ∷ cs) rest e s = let q = sym k ∙ ap (λ l. class_of (get_or l 0 0)) e in elim (head_is Gap c cs s) [ inl h ↦ absurd cc | inr h ↦ absurd cc ]
+underscore_none xs k Gap (c ∷ cs) rest e s = let q = sym k ∙ ap (λ l. class_of (get_or l 0 0)) e in
+    elim (head_is Gap c cs s) [ inl h ↦ absurd cc | inr h ↦ absurd cc ]
 underscore_none xs k (A_name x) (c ∷ cs) rest e s = let q = sym k ∙ ap (λ l. class_of (get_or l 0 0)) e in let h = head_is (A_name x) c cs s in absurd cc
 underscore_none xs k (A_number n) (c ∷ cs) rest e s = let q = sym k ∙ ap (λ l. class_of (get_or l 0 0)) e in let h = head_is (A_number n) c cs s in absurd cc
 underscore_none xs k (A_sign t) (c ∷ cs) rest e s = let q = sym k ∙ ap (λ l. class_of (get_or l 0 0)) e in let h = head_is (A_sign t) c cs s in absurd cc
@@ -459,10 +471,12 @@ cut_behind xs n u some within low =
     subst (λ m. IsCharBoundary xs m) k (IsCharBoundary-after_ascii xs (n - 1) u (omega (arith, some, within)) low)
 
 pub letters_cut : (xs : List ℕ) (n : ℕ) → IsUtf8 xs → IsFrontOf front.Letters n xs → n ≡ prefix_len of_name xs → IsCharBoundary xs n
-letters_cut xs n u f e = cut_behind xs n u f.nonempty f.in_range (ascii_name (get_or xs (n - 1) 0) (prefix_len_passes of_name xs (n - 1) 0 (omega (arith, e, f.nonempty))))
+letters_cut xs n u f e =
+    cut_behind xs n u f.nonempty f.in_range (ascii_name (get_or xs (n - 1) 0) (prefix_len_passes of_name xs (n - 1) 0 (omega (arith, e, f.nonempty))))
 
 pub digits_cut : (xs : List ℕ) (n : ℕ) → IsUtf8 xs → IsFrontOf front.Digits n xs → n ≡ prefix_len of_number xs → IsCharBoundary xs n
-digits_cut xs n u f e = cut_behind xs n u f.nonempty f.in_range (ascii_number (get_or xs (n - 1) 0) (prefix_len_passes of_number xs (n - 1) 0 (omega (arith, e, f.nonempty))))
+digits_cut xs n u f e =
+    cut_behind xs n u f.nonempty f.in_range (ascii_number (get_or xs (n - 1) 0) (prefix_len_passes of_number xs (n - 1) 0 (omega (arith, e, f.nonempty))))
 
 pub space_cut : (xs : List ℕ) → IsUtf8 xs → 0 < length xs → class_of (get_or xs 0 0) ≡ class.Space → IsCharBoundary xs 1
 space_cut xs u some k = cut_behind xs 1 u (omega arith) (omega (arith, some)) (ascii (get_or xs 0 0) (λ h. absurd cc))
@@ -473,14 +487,18 @@ line_end c e = grind (arith, nat_tests)
 pub line_cut : (xs : List ℕ) (n : ℕ) → n ≡ prefix_len in_line xs → IsCharBoundary xs n
 line_cut xs n e =
     elim (order n (length xs)) [
-      | inl before ↦ IsCharBoundary-before_ascii xs n before (line_end (get_or xs n 0) (ap (λ m. in_line (get_or xs m 0)) e ∙ prefix_len_stops in_line xs 0 (omega (arith, before, e))))
-      | inr behind ↦ let same : length xs ≡ n = omega (arith, behind, e, prefix_len-le-length in_line xs) in subst (λ m. IsCharBoundary xs m) same (IsCharBoundary-end xs)
+      | inl before ↦ IsCharBoundary-before_ascii xs n before
+          (line_end (get_or xs n 0) (ap (λ m. in_line (get_or xs m 0)) e ∙ prefix_len_stops in_line xs 0 (omega (arith, before, e))))
+      | inr behind ↦ let same : length xs ≡ n = omega (arith, behind, e, prefix_len-le-length in_line xs) in
+          subst (λ m. IsCharBoundary xs m) same (IsCharBoundary-end xs)
     ]
 
-pub sign_cut : (s : Sign) (xs : List ℕ) (n : ℕ) → IsUtf8 xs → n ≡ length (sign_text s) → IsLongestSign xs (Some s) → IsFrontOf (front.Sign s) n xs → IsCharBoundary xs n
+pub sign_cut : (s : Sign) (xs : List ℕ) (n : ℕ) → IsUtf8 xs → n ≡ length (sign_text s) → IsLongestSign xs (Some s) → IsFrontOf (front.Sign s) n xs →
+    IsCharBoundary xs n
 sign_cut s xs n u k ((rest, e), best) f =
     let low = ltb-true _ 128 (sign_last s rest) in
-    let same : get_or xs (n - 1) 0 ≡ get_or (sign_text s ++ rest) (length (sign_text s) - 1) 0 = ap (λ m. get_or xs (m - 1) 0) k ∙ ap (λ l. get_or l (length (sign_text s) - 1) 0) e in
+    let same : get_or xs (n - 1) 0 ≡ get_or (sign_text s ++ rest) (length (sign_text s) - 1) 0 = ap (λ m. get_or xs (m - 1) 0) k
+    ∙ ap (λ l. get_or l (length (sign_text s) - 1) 0) e in
     cut_behind xs n u f.nonempty f.in_range (omega (arith, low, same))
 
 -- whether a text begins with two slashes

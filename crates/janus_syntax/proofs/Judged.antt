@@ -48,29 +48,36 @@ module _ {goal : Part} where
   abbrev pub raw : State goal → Option Token → Raw goal
   raw (at f S m) t = raw_form f S m t (raw_hand S t)
 
-  taken_judged : (d : Demands) {p : Part} (c : Class) (o : Option (Seen c)) (k : Seen c → Form p) (S : Stack goal p) (m : Count) → taken c d o k S m ≡ judge d (raw_taken c o k S m)
+  taken_judged : (d : Demands) {p : Part} (c : Class) (o : Option (Seen c)) (k : Seen c → Form p) (S : Stack goal p) (m : Count) →
+      taken c d o k S m ≡ judge d (raw_taken c o k S m)
   taken_judged d c (Some s) k S m = refl
   taken_judged d c None k S m = refl
 
-  skip_judged : (d : Demands) {T : Type 0} (o : Option T) (next : T → Step goal) (raw_next : T → Raw goal) → ((u : T) → next u ≡ judge d (raw_next u)) → skip o next ≡ judge d (raw_skip o raw_next)
+  skip_judged : (d : Demands) {T : Type 0} (o : Option T) (next : T → Step goal) (raw_next : T → Raw goal) → ((u : T) → next u ≡ judge d (raw_next u)) →
+      skip o next ≡ judge d (raw_skip o raw_next)
   skip_judged d (Some u) next raw_next h = h u
   skip_judged d None next raw_next h = refl
 
-  enter_judged : (d : Demands) {p : Part} (q : Part) (o : Option (Rule q)) (k : Tree q → Form p) (S : Stack goal p) (m : Count) (x : Step goal) (y : Raw goal) → x ≡ judge d y → enter d o k S m x ≡ judge d (raw_enter o k S m y)
+  enter_judged : (d : Demands) {p : Part} (q : Part) (o : Option (Rule q)) (k : Tree q → Form p) (S : Stack goal p) (m : Count) (x : Step goal) (y : Raw goal) →
+      x ≡ judge d y → enter d o k S m x ≡ judge d (raw_enter o k S m y)
   enter_judged d q (Some r) k S m x y h = refl
   enter_judged d q None k S m x y h = h
 
-  form_judged : (d : Demands) {p : Part} (f : Form p) (S : Stack goal p) (m : Count) (t : Option Token) (rest : Tree p → Count → Step goal) (raw_rest : Tree p → Count → Raw goal) →
+  form_judged : (d : Demands) {p : Part} (f : Form p) (S : Stack goal p) (m : Count) (t : Option Token) (rest : Tree p → Count → Step goal)
+      (raw_rest : Tree p → Count → Raw goal) →
       ((v : Tree p) (n : Count) → rest v n ≡ judge d (raw_rest v n)) → at_form d f S m t rest ≡ judge d (raw_form f S m t raw_rest)
   form_judged d (done v) S m t rest raw_rest h = h v m
   form_judged d (close f) S m t rest raw_rest h = form_judged d f S (closed m) t rest raw_rest h
   form_judged d (take c k) S m None rest raw_rest h = refl
   form_judged d (take c k) S m (Some t) rest raw_rest h = taken_judged d c (seen c t) k S m
   form_judged d (part q k) S m None rest raw_rest h =
-      skip_judged d (left_out q) (λ u. at_form d (k u) S m None rest) (λ u. raw_form (k u) S m None raw_rest) (λ u. form_judged d (k u) S m None rest raw_rest h)
+      skip_judged d (left_out q) (λ u. at_form d (k u) S m None rest) (λ u. raw_form (k u) S m None raw_rest)
+      (λ u. form_judged d (k u) S m None rest raw_rest h)
   form_judged d (part q k) S m (Some t) rest raw_rest h =
-      enter_judged d q (rule q t) k S m (skip (left_out q) (λ u. at_form d (k u) S m (Some t) rest)) (raw_skip (left_out q) (λ u. raw_form (k u) S m (Some t) raw_rest))
-      (skip_judged d (left_out q) (λ u. at_form d (k u) S m (Some t) rest) (λ u. raw_form (k u) S m (Some t) raw_rest) (λ u. form_judged d (k u) S m (Some t) rest raw_rest h))
+      enter_judged d q (rule q t) k S m (skip (left_out q) (λ u. at_form d (k u) S m (Some t) rest))
+      (raw_skip (left_out q) (λ u. raw_form (k u) S m (Some t) raw_rest))
+      (skip_judged d (left_out q) (λ u. at_form d (k u) S m (Some t) rest) (λ u. raw_form (k u) S m (Some t) raw_rest)
+      (λ u. form_judged d (k u) S m (Some t) rest raw_rest h))
 
   hand_judged : (d : Demands) {p : Part} (S : Stack goal p) (t : Option Token) (v : Tree p) (m : Count) → hand d S t v m ≡ judge d (raw_hand S t v m)
   hand_judged d bottom None v m = refl
@@ -88,7 +95,8 @@ module _ {goal : Part} where
   Keeps b (Accepts c) = Unit {0}
   Keeps b Dead = Unit {0}
 
-  keeps_taken : (b : Bool) {p : Part} (c : Class) (o : Option (Seen c)) (k : Seen c → Form p) (S : Stack goal p) (m : Count) → Within b m → Keeps b (raw_taken c o k S m)
+  keeps_taken : (b : Bool) {p : Part} (c : Class) (o : Option (Seen c)) (k : Seen c → Form p) (S : Stack goal p) (m : Count) → Within b m →
+      Keeps b (raw_taken c o k S m)
   keeps_taken b c (Some s) k S m h = h
   keeps_taken b c None k S m h = tt
 
@@ -96,7 +104,8 @@ module _ {goal : Part} where
   keeps_skip b (Some u) next h = h u
   keeps_skip b None next h = tt
 
-  keeps_enter : (b : Bool) {p : Part} (q : Part) (o : Option (Rule q)) (k : Tree q → Form p) (S : Stack goal p) (m : Count) (y : Raw goal) → Keeps b y → Keeps b (raw_enter o k S m y)
+  keeps_enter : (b : Bool) {p : Part} (q : Part) (o : Option (Rule q)) (k : Tree q → Form p) (S : Stack goal p) (m : Count) (y : Raw goal) → Keeps b y →
+      Keeps b (raw_enter o k S m y)
   keeps_enter b q (Some r) k S m y h = refl
   keeps_enter b q None k S m y h = h
 

@@ -88,18 +88,22 @@ ends_chain m n e t r h is =
     and_from (no_index t) (weaker_than m (operator_at t)) (operator_no_index t c.0 c.1)
     (ap (weaker_than m) c.1 ∙ lt-ltb m (c.0.level) (let k = c.2 in omega (arith, k, h)))
 
-pub may_chains : {p : Part} (l n : ℕ) (e : Exp) (k : Exp → Form p) → ((f : Exp) (t : Token) → May (k f) t → ends_at (l + n) t ≡ true) → (t : Token) → May (chains l n e k) t → ends_at l t ≡ true
+pub may_chains : {p : Part} (l n : ℕ) (e : Exp) (k : Exp → Form p) → ((f : Exp) (t : Token) → May (k f) t → ends_at (l + n) t ≡ true) → (t : Token) →
+    May (chains l n e k) t → ends_at l t ≡ true
 may_chains l zero e k ends t m = ends_weaker l (l + zero) t (omega arith) (ends e t m)
 may_chains l (suc n) e k ends t m =
     elim m [
       | inl (r, is) ↦ ends_chain l (suc l) e t r (omega arith) is
-      | inr (u, is, m) ↦ ends_weaker l (suc l) t (omega arith) (may_chains (suc l) n u k (λ f t m. ends_weaker (suc l + n) (l + suc n) t (omega arith) (ends f t m)) t m)
+      | inr (u, is, m) ↦ ends_weaker l (suc l) t (omega arith)
+          (may_chains (suc l) n u k (λ f t m. ends_weaker (suc l + n) (l + suc n) t (omega arith) (ends f t m)) t m)
     ]
 
-pub proper_chains : {p : Part} (l n : ℕ) (e : Exp) (k : Exp → Form p) → ((f : Exp) → Proper (k f)) → ((f : Exp) (t : Token) → May (k f) t → ends_at (l + n) t ≡ true) → Proper (chains l n e k)
+pub proper_chains : {p : Part} (l n : ℕ) (e : Exp) (k : Exp → Form p) → ((f : Exp) → Proper (k f)) →
+    ((f : Exp) (t : Token) → May (k f) t → ends_at (l + n) t ≡ true) → Proper (chains l n e k)
 proper_chains l zero e k h ends = h e
 proper_chains l (suc n) e k h ends =
-    let later : (f : Exp) (t : Token) → May (k f) t → ends_at (suc l + n) t ≡ true = λ f t m. ends_weaker (suc l + n) (l + suc n) t (omega arith) (ends f t m) in
+    let later : (f : Exp) (t : Token) → May (k f) t → ends_at (suc l + n) t ≡ true =
+    λ f t m. ends_weaker (suc l + n) (l + suc n) t (omega arith) (ends f t m) in
     λ f. (proper_chains (suc l) n f k h later, λ t m. may_chains (suc l) n f k later t m)
 
 abbrev pub positive : Option Infix → Bool

@@ -11,7 +11,8 @@ use Rattle.janus_syntax.specs.Tree.{Stm, Declaration, Cell}
 use Rattle.janus_syntax.specs.Operators.{weakest, operator_at, update_at}
 use Rattle.janus_syntax.specs.Forms.{Part, Procedures, More_parameters, Else_part, Do_part, Loop_part, Target_index, Tree, The_keyword, seen, Form, Rule}
 use Rattle.janus_syntax.specs.Table.{rule, left_out, statement, declaration}
-use Rattle.janus_syntax.proofs.Follow.{is_keyword, is_sign, no_swap, no_index, weaker_than, ends_at, after_statement, after_body, after_declarations, after_parameter, may_follow}
+use Rattle.janus_syntax.proofs.Follow.{is_keyword, is_sign, no_swap, no_index, weaker_than, ends_at, after_statement, after_body, after_declarations}
+use Rattle.janus_syntax.proofs.Follow.{after_parameter, may_follow}
 use Rattle.janus_syntax.proofs.Keeps.{seen_keyword, ends_statement, keyword_after}
 
 -- Tokens that follow.
@@ -185,9 +186,11 @@ loop_follows t m =
     ]
 
 -- the `do` part, the `loop` part or `until`
-pub do_follows : (t : Token) → ((r : Rule Do_part) × (rule Do_part t ≡ Some r)) ⊎ ((u : Tree Do_part) × (left_out Do_part ≡ Some u) × MayLoop t) → ends_at weakest t ≡ true
+pub do_follows : (t : Token) → ((r : Rule Do_part) × (rule Do_part t ≡ Some r)) ⊎ ((u : Tree Do_part) × (left_out Do_part ≡ Some u) × MayLoop t) →
+    ends_at weakest t ≡ true
 do_follows t m =
     elim m [
       | inl (r, is) ↦ ends_statement t (do_keyword t r is)
-      | inr (u, is, m) ↦ elim m [ inl (r, is) ↦ ends_statement t (keyword_after keyword.Loop t (loop_keyword t r is)) | inr (u, is, m) ↦ ends_keyword keyword.Until t m ]
+      | inr (u, is, m)
+          ↦ elim m [ inl (r, is) ↦ ends_statement t (keyword_after keyword.Loop t (loop_keyword t r is)) | inr (u, is, m) ↦ ends_keyword keyword.Until t m ]
     ]

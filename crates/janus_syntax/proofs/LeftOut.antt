@@ -8,9 +8,12 @@ use Rattle.janus_syntax.specs.declared.operator.Infix.{Infix}
 use Rattle.janus_syntax.specs.Tokens.{Token, Name, Number, Sign_of, Keyword_of}
 use Rattle.janus_syntax.specs.Tree.{Exp, Stm, Declaration, Parameter}
 use Rattle.janus_syntax.specs.Operators.{joined, operator_at}
-use Rattle.janus_syntax.specs.Forms.{Part, A_cell, Declarations, Bound, Procedures, A_procedure, Parameters, More_parameters, A_parameter, Brackets, Body, Statements, Else_part, Do_part, Loop_part, Local, Names, More_names, Swap_partner, Target_index, Whole, Level, Chain, Index, Tree, Form, done, part}
+use Rattle.janus_syntax.specs.Forms.{Part, A_cell, Declarations, Bound, Procedures, A_procedure, Parameters, More_parameters, A_parameter, Brackets, Body}
+use Rattle.janus_syntax.specs.Forms.{Statements, Else_part, Do_part, Loop_part, Local, Names, More_names, Swap_partner, Target_index, Whole, Level, Chain}
+use Rattle.janus_syntax.specs.Forms.{Index, Tree, Form, done, part}
 use Rattle.janus_syntax.specs.Table.{rule, left_out, counts, chain_rule, statement, declaration, a_parameter}
-use Rattle.janus_syntax.proofs.Follow.{is_keyword, is_sign, no_swap, no_index, weaker_than, after_statement, after_body, after_declarations, after_parameter, may_follow}
+use Rattle.janus_syntax.proofs.Follow.{is_keyword, is_sign, no_swap, no_index, weaker_than, after_statement, after_body, after_declarations, after_parameter}
+use Rattle.janus_syntax.proofs.Follow.{may_follow}
 
 no_statement : {p : Part} → (t : Token) (k : Stm → Form p) → after_body t ≡ true → statement t k ≡ None
 no_statement (Keyword_of keyword.If at) k e = absurd cc
@@ -58,7 +61,8 @@ no_chain : (o : Option Infix) (n : ℕ) (e : Exp) → weaker_than n o ≡ true �
 no_chain None n e h = refl
 no_chain (Some op) n e h =
     let k : n < op.level = ltb-true n op.level h in
-    ap (λ b. cond b (counts (part (Level (n - 1)) (λ r. part (Chain n (joined op.joint e r)) done))) None) (ne_eqb op.level n (λ q. absurd (omega (arith, q, k))))
+    ap (λ b. cond b (counts (part (Level (n - 1)) (λ r. part (Chain n (joined op.joint e r)) done))) None)
+    (ne_eqb op.level n (λ q. absurd (omega (arith, q, k))))
 
 no_bound : (t : Token) → after_statement t ≡ true → rule Bound t ≡ None
 no_bound (Sign_of s at) e = absurd cc

@@ -5,7 +5,8 @@ use Rattle.janus_syntax.specs.declared.token.Sign.TheVariants as sign
 use Rattle.janus_syntax.specs.declared.token.Keyword.{Keyword}
 use Rattle.janus_syntax.specs.declared.lexer.Class.TheVariants as class
 use Rattle.janus_syntax.specs.Spelling.{sign_text, keyword_text}
-use Rattle.janus_syntax.specs.Lexical.{class_of, goes_on_number, of_name, of_number, IsNameText, IsNumberText, Item, Gap, A_name, A_number, A_sign, A_keyword, IsSpelled, NoLonger}
+use Rattle.janus_syntax.specs.Lexical.{class_of, goes_on_number, of_name, of_number, IsNameText, IsNumberText, Item, Gap, A_name, A_number, A_sign, A_keyword}
+use Rattle.janus_syntax.specs.Lexical.{IsSpelled, NoLonger}
 use Rattle.janus_syntax.proofs.Fronts.{head, second, head_is, keyword_head, StopsAt, letters_longest, digits_longest, space_longest}
 
 pub name_longest : (x rest : List ℕ) → IsNameText x → StopsAt of_name rest → NoLonger x rest
@@ -54,19 +55,41 @@ record IsLonger (a b : ℕ) (cs : List ℕ) : Type 0 where
   last : (cs ≡ []) ⊎ (cs ≡ 62 ∷ [])
 
 longer_sign : (t : Sign) (a b : ℕ) (cs : List ℕ) → a ∷ b ∷ cs ≡ sign_text t → IsLonger a b cs
-longer_sign sign.PlusEquals a b cs e = record { ends = ap (λ l. extends (second l)) e; begins = ap (λ l. extended (head l)) e; minus = λ m. ap (λ l. second l == 61) e; last = inl cc }
-longer_sign sign.MinusEquals a b cs e = record { ends = ap (λ l. extends (second l)) e; begins = ap (λ l. extended (head l)) e; minus = λ m. ap (λ l. second l == 61) e; last = inl cc }
-longer_sign sign.XorEquals a b cs e = record { ends = ap (λ l. extends (second l)) e; begins = ap (λ l. extended (head l)) e; minus = λ m. ap (λ l. second l == 61) e; last = inl cc }
-longer_sign sign.Swap a b cs e = record { ends = ap (λ l. extends (second l)) e; begins = ap (λ l. extended (head l)) e; minus = λ m. ap (λ l. second l == 61) e; last = inr cc }
-longer_sign sign.And a b cs e = record { ends = ap (λ l. extends (second l)) e; begins = ap (λ l. extended (head l)) e; minus = λ m. let n = ap (λ l. head l == 45) e in absurd cc; last = inl cc }
-longer_sign sign.Or a b cs e = record { ends = ap (λ l. extends (second l)) e; begins = ap (λ l. extended (head l)) e; minus = λ m. let n = ap (λ l. head l == 45) e in absurd cc; last = inl cc }
-longer_sign sign.Differs a b cs e = record { ends = ap (λ l. extends (second l)) e; begins = ap (λ l. extended (head l)) e; minus = λ m. ap (λ l. second l == 61) e; last = inl cc }
-longer_sign sign.AtMost a b cs e = record { ends = ap (λ l. extends (second l)) e; begins = ap (λ l. extended (head l)) e; minus = λ m. ap (λ l. second l == 61) e; last = inl cc }
-longer_sign sign.AtLeast a b cs e = record { ends = ap (λ l. extends (second l)) e; begins = ap (λ l. extended (head l)) e; minus = λ m. ap (λ l. second l == 61) e; last = inl cc }
+longer_sign sign.PlusEquals a b cs e =
+    record { ends = ap (λ l. extends (second l)) e; begins = ap (λ l. extended (head l)) e; minus = λ m. ap (λ l. second l == 61) e; last = inl cc }
+longer_sign sign.MinusEquals a b cs e =
+    record { ends = ap (λ l. extends (second l)) e; begins = ap (λ l. extended (head l)) e; minus = λ m. ap (λ l. second l == 61) e; last = inl cc }
+longer_sign sign.XorEquals a b cs e =
+    record { ends = ap (λ l. extends (second l)) e; begins = ap (λ l. extended (head l)) e; minus = λ m. ap (λ l. second l == 61) e; last = inl cc }
+longer_sign sign.Swap a b cs e =
+    record { ends = ap (λ l. extends (second l)) e; begins = ap (λ l. extended (head l)) e; minus = λ m. ap (λ l. second l == 61) e; last = inr cc }
+longer_sign sign.And a b cs e =
+    record {
+      ends = ap (λ l. extends (second l)) e;
+      begins = ap (λ l. extended (head l)) e;
+      minus = λ m. let n = ap (λ l. head l == 45) e in
+          absurd cc;
+      last = inl cc;
+    }
+longer_sign sign.Or a b cs e =
+    record {
+      ends = ap (λ l. extends (second l)) e;
+      begins = ap (λ l. extended (head l)) e;
+      minus = λ m. let n = ap (λ l. head l == 45) e in
+          absurd cc;
+      last = inl cc;
+    }
+longer_sign sign.Differs a b cs e =
+    record { ends = ap (λ l. extends (second l)) e; begins = ap (λ l. extended (head l)) e; minus = λ m. ap (λ l. second l == 61) e; last = inl cc }
+longer_sign sign.AtMost a b cs e =
+    record { ends = ap (λ l. extends (second l)) e; begins = ap (λ l. extended (head l)) e; minus = λ m. ap (λ l. second l == 61) e; last = inl cc }
+longer_sign sign.AtLeast a b cs e =
+    record { ends = ap (λ l. extends (second l)) e; begins = ap (λ l. extended (head l)) e; minus = λ m. ap (λ l. second l == 61) e; last = inl cc }
 longer_sign _ a b cs e = absurd cc
 
 -- an item of two octets or more that begins as a sign is such a sign, or a comment
-sign_goes_on : (i : Item) (a b : ℕ) (cs : List ℕ) → class_of a ≡ class.Other → IsSpelled i (a ∷ b ∷ cs) → IsLonger a b cs ⊎ ((a == 47) ≡ true) × ((b == 47) ≡ true)
+sign_goes_on : (i : Item) (a b : ℕ) (cs : List ℕ) → class_of a ≡ class.Other → IsSpelled i (a ∷ b ∷ cs) → IsLonger a b cs ⊎ ((a == 47) ≡ true) ×
+    ((b == 47) ≡ true)
 sign_goes_on Gap a b cs k (inl (d, e, q)) = absurd cc
 sign_goes_on Gap a b cs k (inr (ds, e, q)) = inr (ap (λ l. head l == 47) e, ap (λ l. second l == 47) e)
 sign_goes_on (A_name x) a b cs k s = let h = head_is (A_name x) a (b ∷ cs) s in absurd cc

@@ -6,7 +6,8 @@ use Rattle.janus_syntax.specs.Tokens.{Token}
 use Rattle.janus_syntax.specs.Lexical.{Gap, A_number, IsFront, IsToken, between, Lexes, none, gap, token, NoItem, IsBadToken, IsTooLarge, largest_number}
 use Rattle.janus_syntax.proofs.OneLexing.{same_front}
 
-either_goes : {text from p q : List ℕ} {us vs : List Token} → Lexes text from us p → Lexes text from vs q → ((ws : List Token) × Lexes text p ws q) ⊎ ((ws : List Token) × Lexes text q ws p)
+either_goes : {text from p q : List ℕ} {us vs : List Token} → Lexes text from us p → Lexes text from vs q → ((ws : List Token) × Lexes text p ws q) ⊎
+    ((ws : List Token) × Lexes text q ws p)
 either_goes {vs = vs} none m = inl (vs, m)
 either_goes {us = us} l none = inr (us, l)
 either_goes {text} {q = q} (gap f l) (gap {ts = ts} g m) = let s = same_front f g in either_goes l (subst (λ r. Lexes text r ts q) (sym s.rests) m)
@@ -36,11 +37,13 @@ bad_bad text a b x y =
 
 pub large_large : (text : List ℕ) (a b : Span) → IsTooLarge text a → IsTooLarge text b → a ≡ b
 large_large text a b x y =
-    let here : x.from ≡ y.from = elim (either_goes x.before y.before) [ inl (ws, l) ↦ large_stays x.front x.large l | inr (ws, l) ↦ sym (large_stays y.front y.large l) ] in
+    let here : x.from ≡ y.from =
+    elim (either_goes x.before y.before) [ inl (ws, l) ↦ large_stays x.front x.large l | inr (ws, l) ↦ sym (large_stays y.front y.large l) ] in
     let s = same_front (subst (λ f. IsFront (A_number x.number) f x.digits x.rest) here x.front) y.front in
     x.place ∙ ap (λ l. between text l x.rest) here ∙ ap (λ l. between text y.from l) s.rests ∙ sym y.place
 
 pub bad_large : (text : List ℕ) (a b : Span) → IsBadToken text a → IsTooLarge text b → ⊥
 bad_large text a b x y =
-    let here : x.from ≡ y.from = elim (either_goes x.before y.before) [ inl (ws, l) ↦ bad_stays x.none l | inr (ws, l) ↦ sym (large_stays y.front y.large l) ] in
+    let here : x.from ≡ y.from =
+    elim (either_goes x.before y.before) [ inl (ws, l) ↦ bad_stays x.none l | inr (ws, l) ↦ sym (large_stays y.front y.large l) ] in
     x.none (A_number y.number) y.digits y.rest (here ∙ y.front.whole) y.front.spelled

@@ -11,7 +11,8 @@ use Rattle.janus_syntax.specs.declared.token.Keyword.{Keyword}
 use Rattle.janus_syntax.specs.declared.token.Keyword.TheVariants as keyword
 use Rattle.janus_syntax.specs.Spelling.{sign_text, keyword_text}
 use Rattle.janus_syntax.specs.Tokens.{Token}
-use Rattle.janus_syntax.specs.Lexical.{class_of, Item, Gap, A_name, A_number, A_sign, A_keyword, IsSpelled, IsFront, IsToken, between, Lexes, none, gap, token, AreTokens, NoItem, IsBadToken, IsTooLarge, largest_number}
+use Rattle.janus_syntax.specs.Lexical.{class_of, Item, Gap, A_name, A_number, A_sign, A_keyword, IsSpelled, IsFront, IsToken, between, Lexes, none, gap, token}
+use Rattle.janus_syntax.specs.Lexical.{AreTokens, NoItem, IsBadToken, IsTooLarge, largest_number}
 use Rattle.janus_syntax.proofs.Fronts.{head, second, head_is, some_octets, no_comment}
 
 abbrev keyword_from : List ℕ → Keyword
@@ -170,7 +171,8 @@ same_token (A_sign s) at t u p q = p ∙ sym q
 same_token (A_keyword w) at t u p q = p ∙ sym q
 
 -- of two fronts of a list one begins the other
-pub two_fronts : {A : Type 0} (a b r s : List A) → a ++ r ≡ b ++ s → ((more : List A) × (b ≡ a ++ more) × (r ≡ more ++ s)) ⊎ ((more : List A) × (a ≡ b ++ more) × (s ≡ more ++ r))
+pub two_fronts : {A : Type 0} (a b r s : List A) → a ++ r ≡ b ++ s → ((more : List A) × (b ≡ a ++ more) × (r ≡ more ++ s)) ⊎
+    ((more : List A) × (a ≡ b ++ more) × (s ≡ more ++ r))
 two_fronts [] b r s e = inl (b, refl, e)
 two_fronts (x ∷ a) [] r s e = inr (x ∷ a, refl, sym e)
 two_fronts (x ∷ a) (y ∷ b) r s e =
@@ -221,7 +223,8 @@ lexes_same {text} {from} (token {middle = middle} {t = t} f h l) e (gap g m) d =
     absurd (subst (λ i. IsToken i (between text from middle) t) s.item h)
 lexes_same {text} {from} {end' = end'} (token {i = i} {middle = middle} {t = t} f h l) e (token {i = j} {middle = middle'} {t = u} {ts = us} g k m) d =
     let s = same_front f g in
-    let k2 : IsToken i (between text from middle) u = subst (λ r. IsToken i (between text from r) u) (sym s.rests) (subst (λ x. IsToken x (between text from middle') u) (sym s.item) k) in
+    let k2 : IsToken i (between text from middle) u =
+    subst (λ r. IsToken i (between text from r) u) (sym s.rests) (subst (λ x. IsToken x (between text from middle') u) (sym s.item) k) in
     let first : t ≡ u = same_token i (between text from middle) t u h k2 in
     let others = lexes_same l e (subst (λ r. Lexes text r us end') (sym s.rests) m) d in
     (λ n. first n ∷ others n)
@@ -230,14 +233,19 @@ pub only_tokens : (text : List ℕ) (ts us : List Token) → AreTokens text ts �
 only_tokens text ts us p q = lexes_same p refl q refl
 
 -- a text with tokens has tokens behind each of its places
-goes_through : {text from end stop : List ℕ} {ts us : List Token} → Lexes text from ts end → end ≡ [] → Lexes text from us stop → (vs : List Token) × Lexes text stop vs end
+goes_through : {text from end stop : List ℕ} {ts us : List Token} → Lexes text from ts end → end ≡ [] → Lexes text from us stop → (vs : List Token) ×
+    Lexes text stop vs end
 goes_through {ts = ts} l e none = (ts, l)
 goes_through none e (gap g m) = absurd (no_front g e)
 goes_through none e (token g k m) = absurd (no_front g e)
-goes_through {text} {stop = stop} (gap f l) e (gap {ts = us} g m) = let s = same_front f g in goes_through l e (subst (λ r. Lexes text r us stop) (sym s.rests) m)
-goes_through {text} {stop = stop} (gap f l) e (token {ts = us} g k m) = let s = same_front f g in goes_through l e (subst (λ r. Lexes text r us stop) (sym s.rests) m)
-goes_through {text} {stop = stop} (token f h l) e (gap {ts = us} g m) = let s = same_front f g in goes_through l e (subst (λ r. Lexes text r us stop) (sym s.rests) m)
-goes_through {text} {stop = stop} (token f h l) e (token {ts = us} g k m) = let s = same_front f g in goes_through l e (subst (λ r. Lexes text r us stop) (sym s.rests) m)
+goes_through {text} {stop = stop} (gap f l) e (gap {ts = us} g m) = let s = same_front f g in
+    goes_through l e (subst (λ r. Lexes text r us stop) (sym s.rests) m)
+goes_through {text} {stop = stop} (gap f l) e (token {ts = us} g k m) = let s = same_front f g in
+    goes_through l e (subst (λ r. Lexes text r us stop) (sym s.rests) m)
+goes_through {text} {stop = stop} (token f h l) e (gap {ts = us} g m) = let s = same_front f g in
+    goes_through l e (subst (λ r. Lexes text r us stop) (sym s.rests) m)
+goes_through {text} {stop = stop} (token f h l) e (token {ts = us} g k m) = let s = same_front f g in
+    goes_through l e (subst (λ r. Lexes text r us stop) (sym s.rests) m)
 
 no_item_behind : {text from end : List ℕ} {ts : List Token} → Lexes text from ts end → end ≡ [] → NoItem from → from ≡ []
 no_item_behind none e n = e
@@ -252,7 +260,8 @@ not_bad text at ts b l =
     let r = goes_through l refl b.before in
     some_char b.character b.rest (sym b.first ∙ no_item_behind r.1 refl b.none)
 
-small_behind : {text from end octets rest : List ℕ} {ts : List Token} {n : ℕ} → Lexes text from ts end → end ≡ [] → IsFront (A_number n) from octets rest → largest_number < n → ⊥
+small_behind : {text from end octets rest : List ℕ} {ts : List Token} {n : ℕ} → Lexes text from ts end → end ≡ [] → IsFront (A_number n) from octets rest →
+    largest_number < n → ⊥
 small_behind none e g large = no_front g e
 small_behind (gap f l) e g large = let s = same_front f g in let k = s.item in absurd cc
 small_behind {text} {from} {n = n} (token {middle = middle} {t = t} f h l) e g large =

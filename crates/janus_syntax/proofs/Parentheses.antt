@@ -10,7 +10,8 @@ use Rattle.janus_syntax.specs.Reading.{TokenGoes, TokenFails, IsStack, FailsStac
 
 -- ---- a stack
 
-pub stack_is : {s : Named} {from r1 r2 rest : List Token} → TokenGoes (The_sign sign.Open) tt from r1 → TokenGoes A_name s r1 r2 → TokenGoes (The_sign sign.Close) tt r2 rest → IsStack s from rest
+pub stack_is : {s : Named} {from r1 r2 rest : List Token} → TokenGoes (The_sign sign.Open) tt from r1 → TokenGoes A_name s r1 r2 →
+    TokenGoes (The_sign sign.Close) tt r2 rest → IsStack s from rest
 stack_is {s} o i c =
     record {
       goes = λ g p k S m.
@@ -26,7 +27,8 @@ stack_stops_open from e f g p k S m = f g p (λ v. take A_name (λ y. sign_then 
 pub stack_stops_name : {from r1 : List Token} (e : Refusal) → TokenGoes (The_sign sign.Open) tt from r1 → TokenFails A_name r1 e → FailsStack from e
 stack_stops_name e o f g p k S m = o.goes g p (λ v. take A_name (λ y. sign_then sign.Close (k y))) S m ∙ f g p (λ y. sign_then sign.Close (k y)) S m
 
-pub stack_stops_close : {s : Named} {from r1 r2 : List Token} (e : Refusal) → TokenGoes (The_sign sign.Open) tt from r1 → TokenGoes A_name s r1 r2 → TokenFails (The_sign sign.Close) r2 e → FailsStack from e
+pub stack_stops_close : {s : Named} {from r1 r2 : List Token} (e : Refusal) → TokenGoes (The_sign sign.Open) tt from r1 → TokenGoes A_name s r1 r2 →
+    TokenFails (The_sign sign.Close) r2 e → FailsStack from e
 stack_stops_close {s} e o i f g p k S m =
     o.goes g p (λ v. take A_name (λ y. sign_then sign.Close (k y))) S m
     ∙ i.goes g p (λ y. sign_then sign.Close (k y)) S m
@@ -47,7 +49,8 @@ behind_comma k x = take A_name (λ s. sign_then sign.Close (k x s))
 abbrev behind_stack : {p : _} → (Named → Named → Form p) → Named → Named → Form p
 behind_stack k x s = sign_then sign.Close (k x s)
 
-pub pair_is : {x s : Named} {from r1 r2 r3 r4 rest : List Token} → TokenGoes (The_sign sign.Open) tt from r1 → TokenGoes A_name x r1 r2 → TokenGoes (The_sign sign.Comma) tt r2 r3 → TokenGoes A_name s r3 r4 → TokenGoes (The_sign sign.Close) tt r4 rest →
+pub pair_is : {x s : Named} {from r1 r2 r3 r4 rest : List Token} → TokenGoes (The_sign sign.Open) tt from r1 → TokenGoes A_name x r1 r2 →
+    TokenGoes (The_sign sign.Comma) tt r2 r3 → TokenGoes A_name s r3 r4 → TokenGoes (The_sign sign.Close) tt r4 rest →
     IsVariableAndStack x s from rest
 pair_is {x} {s} o i m j c =
     record {
@@ -63,20 +66,24 @@ pair_is {x} {s} o i m j c =
 pub pair_stops_open : (from : List Token) (e : Refusal) → TokenFails (The_sign sign.Open) from e → FailsVariableAndStack from e
 pair_stops_open from e f g p k S n = f g p (λ v. behind_open k) S n
 
-pub pair_stops_variable : {from r1 : List Token} (e : Refusal) → TokenGoes (The_sign sign.Open) tt from r1 → TokenFails A_name r1 e → FailsVariableAndStack from e
+pub pair_stops_variable : {from r1 : List Token} (e : Refusal) → TokenGoes (The_sign sign.Open) tt from r1 → TokenFails A_name r1 e →
+    FailsVariableAndStack from e
 pair_stops_variable e o f g p k S n = o.goes g p (λ v. behind_open k) S n ∙ f g p (behind_variable k) S n
 
-pub pair_stops_comma : {x : Named} {from r1 r2 : List Token} (e : Refusal) → TokenGoes (The_sign sign.Open) tt from r1 → TokenGoes A_name x r1 r2 → TokenFails (The_sign sign.Comma) r2 e → FailsVariableAndStack from e
+pub pair_stops_comma : {x : Named} {from r1 r2 : List Token} (e : Refusal) → TokenGoes (The_sign sign.Open) tt from r1 → TokenGoes A_name x r1 r2 →
+    TokenFails (The_sign sign.Comma) r2 e → FailsVariableAndStack from e
 pair_stops_comma {x} e o i f g p k S n = o.goes g p (λ v. behind_open k) S n ∙ i.goes g p (behind_variable k) S n ∙ f g p (λ v. behind_comma k x) S n
 
-pub pair_stops_stack : {x : Named} {from r1 r2 r3 : List Token} (e : Refusal) → TokenGoes (The_sign sign.Open) tt from r1 → TokenGoes A_name x r1 r2 → TokenGoes (The_sign sign.Comma) tt r2 r3 → TokenFails A_name r3 e → FailsVariableAndStack from e
+pub pair_stops_stack : {x : Named} {from r1 r2 r3 : List Token} (e : Refusal) → TokenGoes (The_sign sign.Open) tt from r1 → TokenGoes A_name x r1 r2 →
+    TokenGoes (The_sign sign.Comma) tt r2 r3 → TokenFails A_name r3 e → FailsVariableAndStack from e
 pair_stops_stack {x} e o i m f g p k S n =
     o.goes g p (λ v. behind_open k) S n
     ∙ i.goes g p (behind_variable k) S n
     ∙ m.goes g p (λ v. behind_comma k x) S n
     ∙ f g p (behind_stack k x) S n
 
-pub pair_stops_close : {x s : Named} {from r1 r2 r3 r4 : List Token} (e : Refusal) → TokenGoes (The_sign sign.Open) tt from r1 → TokenGoes A_name x r1 r2 → TokenGoes (The_sign sign.Comma) tt r2 r3 → TokenGoes A_name s r3 r4 → TokenFails (The_sign sign.Close) r4 e →
+pub pair_stops_close : {x s : Named} {from r1 r2 r3 r4 : List Token} (e : Refusal) → TokenGoes (The_sign sign.Open) tt from r1 → TokenGoes A_name x r1 r2 →
+    TokenGoes (The_sign sign.Comma) tt r2 r3 → TokenGoes A_name s r3 r4 → TokenFails (The_sign sign.Close) r4 e →
     FailsVariableAndStack from e
 pair_stops_close {x} {s} e o i m j f g p k S n =
     o.goes g p (λ v. behind_open k) S n

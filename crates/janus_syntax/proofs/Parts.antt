@@ -16,7 +16,8 @@ use Rattle.janus_syntax.proofs.Chains.{go_if_runs, fits_count}
 
 -- ---- one behind the other
 
-pub moves_on : {p : Part} (d : ℕ) (f f1 f2 : Form p) (from middle rest : List Token) → Moves d f from f1 middle → Moves d f1 middle f2 rest → Moves d f from f2 rest
+pub moves_on : {p : Part} (d : ℕ) (f f1 f2 : Form p) (from middle rest : List Token) → Moves d f from f1 middle → Moves d f1 middle f2 rest →
+    Moves d f from f2 rest
 moves_on d f f1 f2 from middle rest x y g S u h =
     let a = x g S u h in
     let b = y g S a.0 a.1 in
@@ -27,7 +28,8 @@ moves_stop d f f1 from middle e x y g S u h =
     let a = x g S u h in
     a.2 ∙ y g S a.0 a.1
 
-pub token_moves : {p : Part} (d : ℕ) (c : Class) (k : Seen c → Form p) (v : Seen c) (from rest : List Token) → TokenGoes c v from rest → Moves d (take c k) from (k v) rest
+pub token_moves : {p : Part} (d : ℕ) (c : Class) (k : Seen c → Form p) (v : Seen c) (from rest : List Token) → TokenGoes c v from rest →
+    Moves d (take c k) from (k v) rest
 token_moves {p} d c k v from rest t g S u h = (u, h, t.goes g p k S (count d u))
 
 pub token_stops : {p : Part} (d : ℕ) (c : Class) (k : Seen c → Form p) (from : List Token) (e : Refusal) → TokenFails c from e → Stops d (take c k) from e
@@ -42,22 +44,27 @@ same_count d u = ap (λ x. count x (u + 0)) (omega arith) ∙ ap (λ x. count d 
 one_deeper : (d u : ℕ) → count (d + 1) (u + 0) ≡ count (d + 1) u
 one_deeper d u = ap (λ x. count (d + 1) x) (omega arith)
 
-pub begins_part : {goal p : Part} (q : Part) (k : Tree q → Form p) (S : Stack goal p) (d u : ℕ) (t : Token) (rest : List Token) (f : Form q) → rule q t ≡ begins f → d ≤ depth_limit → u ≤ operator_limit →
+pub begins_part : {goal p : Part} (q : Part) (k : Tree q → Form p) (S : Stack goal p) (d u : ℕ) (t : Token) (rest : List Token) (f : Form q) →
+    rule q t ≡ begins f → d ≤ depth_limit → u ≤ operator_limit →
     run all (t ∷ rest) (at (part q k) S (count d u)) ≡ run all rest (at f (waits k S) (count d u))
 begins_part q k S d u t rest f is h i =
     run_goes all t rest (at (part q k) S (count d u)) (at f (waits k S) (count (d + 0) (u + 0)))
-    (steps_part all k S (count d u) t (record { opens = 0; counts = 0; is_whole = false; form = f }) is (fits_count (d + 0) (u + 0) (omega (arith, h)) (omega (arith, i))))
+    (steps_part all k S (count d u) t (record { opens = 0; counts = 0; is_whole = false; form = f }) is
+    (fits_count (d + 0) (u + 0) (omega (arith, h)) (omega (arith, i))))
     ∙ ap (λ c. run all rest (at f (waits k S) c)) (same_count d u)
 
-pub opens_part : {goal p : Part} (q : Part) (k : Tree q → Form p) (S : Stack goal p) (d u : ℕ) (t : Token) (rest : List Token) (f : Form q) → rule q t ≡ opens f → d < depth_limit → u ≤ operator_limit →
+pub opens_part : {goal p : Part} (q : Part) (k : Tree q → Form p) (S : Stack goal p) (d u : ℕ) (t : Token) (rest : List Token) (f : Form q) →
+    rule q t ≡ opens f → d < depth_limit → u ≤ operator_limit →
     run all (t ∷ rest) (at (part q k) S (count d u)) ≡ run all rest (at f (waits k S) (count (d + 1) u))
 opens_part q k S d u t rest f is h i =
     run_goes all t rest (at (part q k) S (count d u)) (at f (waits k S) (count (d + 1) (u + 0)))
-    (steps_part all k S (count d u) t (record { opens = 1; counts = 0; is_whole = false; form = f }) is (fits_count (d + 1) (u + 0) (omega (arith, h)) (omega (arith, i))))
+    (steps_part all k S (count d u) t (record { opens = 1; counts = 0; is_whole = false; form = f }) is
+    (fits_count (d + 1) (u + 0) (omega (arith, h)) (omega (arith, i))))
     ∙ ap (λ c. run all rest (at f (waits k S) c)) (one_deeper d u)
 
 -- a 65th construct
-pub part_too_deep : {goal p : Part} (q : Part) (k : Tree q → Form p) (S : Stack goal p) (d u : ℕ) (t : Token) (rest : List Token) (f : Form q) → rule q t ≡ opens f → d ≡ depth_limit →
+pub part_too_deep : {goal p : Part} (q : Part) (k : Tree q → Form p) (S : Stack goal p) (d u : ℕ) (t : Token) (rest : List Token) (f : Form q) →
+    rule q t ≡ opens f → d ≡ depth_limit →
     run all (t ∷ rest) (at (part q k) S (count d u)) ≡ Nested (suc (length rest))
 part_too_deep {goal} q k S d u t rest f is h =
     let w = wanted (at (part q k) S (count d u)) in
@@ -68,7 +75,8 @@ part_too_deep {goal} q k S d u t rest f is h =
     (and_left (nat_le (d + 1) depth_limit) (nat_le (u + 0) operator_limit) (lt-leb (d + 1) depth_limit (omega (arith, h))))
 
 -- behind the end of a construct
-pub ends_construct : {goal p : Part} (f : Form p) (S : Stack goal p) (d u : ℕ) (rest : List Token) → run all rest (at (close f) S (count (d + 1) u)) ≡ run all rest (at f S (count d u))
+pub ends_construct : {goal p : Part} (f : Form p) (S : Stack goal p) (d u : ℕ) (rest : List Token) →
+    run all rest (at (close f) S (count (d + 1) u)) ≡ run all rest (at f S (count d u))
 ends_construct f S d u rest = run_closes all f S (count (d + 1) u) rest ∙ ap (λ x. run all rest (at f S (count x u))) (omega arith)
 
 -- ---- whole expressions
@@ -78,20 +86,24 @@ nothing_used true = refl
 nothing_used false = refl
 
 whole_begun : {goal p : Part} (k : Exp → Form p) (S : Stack goal p) (d u : ℕ) (rest : List Token) (o : Option (Rule Whole)) →
-    follow (λ s. run all rest s) what.Expression (suc (length rest)) (enter all (whole o) k S (count d u) Stuck) ≡ begun what.Expression o rest (waits {q = Whole} k S) (count d 0)
+    follow (λ s. run all rest s) what.Expression (suc (length rest)) (enter all (whole o) k S (count d u) Stuck) ≡ begun what.Expression o rest
+    (waits {q = Whole} k S) (count d 0)
 whole_begun k S d u rest None = refl
 whole_begun k S d u rest (Some r) =
     go_if_runs (fits (count (d + r.opens) (0 + r.counts))) (at r.form (waits {q = Whole} k S) (count (d + r.opens) (0 + r.counts))) rest what.Expression
-    ∙ ap (λ n. cond (fits (count (d + r.opens) (n + r.counts))) (run all rest (at r.form (waits {q = Whole} k S) (count (d + r.opens) (n + r.counts)))) (Nested (suc (length rest)))) (nothing_used r.is_whole)
+    ∙ ap (λ n. cond (fits (count (d + r.opens) (n + r.counts))) (run all rest (at r.form (waits {q = Whole} k S) (count (d + r.opens) (n + r.counts))))
+    (Nested (suc (length rest)))) (nothing_used r.is_whole)
 
-begin_whole : {goal p : Part} (k : Exp → Form p) (S : Stack goal p) (d u : ℕ) (ts : List Token) → run all ts (at (part Whole k) S (count d u)) ≡ begin ts (λ x. chains 0 weakest x done) (waits {q = Whole} k S) (count d 0)
+begin_whole : {goal p : Part} (k : Exp → Form p) (S : Stack goal p) (d u : ℕ) (ts : List Token) →
+    run all ts (at (part Whole k) S (count d u)) ≡ begin ts (λ x. chains 0 weakest x done) (waits {q = Whole} k S) (count d 0)
 begin_whole k S d u [] = refl
 begin_whole k S d u (t ∷ rest) = whole_begun k S d u rest (operand t (λ x. chains 0 weakest x done))
 
 pub whole_is : {d : ℕ} {e : Exp} {total : ℕ} {from rest : List Token} → IsExp weakest d 0 e total from rest → IsPart Whole d e from rest
 whole_is {d} {e} {total} {from} {rest} i =
     record {
-      goes = λ p k g S u h. (total, i.within, begin_whole k S d u from ∙ i.goes g Whole done (waits {q = Whole} k S) ∙ run_hands all Whole k S (count d total) e rest);
+      goes = λ p k g S u h.
+          (total, i.within, begin_whole k S d u from ∙ i.goes g Whole done (waits {q = Whole} k S) ∙ run_hands all Whole k S (count d total) e rest);
       shorter = let s = i.shorter in omega (arith, s);
     }
 

@@ -14,7 +14,8 @@ span_of_kind (kinds.Number n) at = refl
 span_of_kind (kinds.Sign s) at = refl
 span_of_kind (kinds.Keyword w) at = refl
 
-pub place_at : (tokens : List code_token.TextToken) (i end : ℕ) (t : code_token.TextToken) → i < length tokens → t ≡ get_or tokens i t → t.span ≡ place_before end (drop i (views tokens))
+pub place_at : (tokens : List code_token.TextToken) (i end : ℕ) (t : code_token.TextToken) → i < length tokens → t ≡ get_or tokens i t →
+    t.span ≡ place_before end (drop i (views tokens))
 place_at tokens i end t h e =
     sym (span_of_kind t.kind t.span)
     ∙ ap (λ u. span_of (token_view u)) e

@@ -1,5 +1,6 @@
 -- Keywords, signs and numbers as the lexer finds them.
-use Rattle.std.proofs.Common.{◌≡◌, ℕ, ◌+◌, ◌*◌, ◌-◌, ◌<◌, ◌≤◌, inl, inr, List, [], ◌∷◌, ◌++◌, length, get_or, drop, drop-cons, suc, Bool, true, cond, refl, ap, sym, ◌∙◌, arith}
+use Rattle.std.proofs.Common.{◌≡◌, ℕ, ◌+◌, ◌*◌, ◌-◌, ◌<◌, ◌≤◌, inl, inr, List, [], ◌∷◌, ◌++◌, length, get_or, drop, drop-cons, suc, Bool, true, cond, refl, ap}
+use Rattle.std.proofs.Common.{sym, ◌∙◌, arith}
 use Rattle.std.specs.Prelude.{nat_lt, nat_eq}
 use Rattle.std.proofs.lemmas.Bool.{ltb-true, eqb-true, agree_below_at}
 use Rattle.std.proofs.str.Laws.{order}
@@ -104,7 +105,9 @@ is_no_keyword text n h none w e =
     none (keyword_index w) w (omega (arith, b, h)) (e ∙ ap keyword_text (sym (keyword_listed w)))
 
 abbrev pub signs : List Sign
-signs = sign.Swap ∷ sign.PlusEquals ∷ sign.MinusEquals ∷ sign.XorEquals ∷ sign.And ∷ sign.Or ∷ sign.Differs ∷ sign.AtMost ∷ sign.AtLeast ∷ sign.Plus ∷ sign.Minus ∷ sign.Times ∷ sign.Divide ∷ sign.Remainder ∷ sign.Xor ∷ sign.BitAnd ∷ sign.BitOr ∷ sign.Equals ∷ sign.Less ∷ sign.Greater ∷ sign.Open ∷ sign.Close ∷ sign.OpenIndex ∷ sign.CloseIndex ∷ sign.Comma ∷ []
+signs = sign.Swap ∷ sign.PlusEquals ∷ sign.MinusEquals ∷ sign.XorEquals ∷ sign.And ∷ sign.Or ∷ sign.Differs ∷ sign.AtMost ∷ sign.AtLeast ∷ sign.Plus
+    ∷ sign.Minus ∷ sign.Times ∷ sign.Divide ∷ sign.Remainder ∷ sign.Xor ∷ sign.BitAnd ∷ sign.BitOr ∷ sign.Equals ∷ sign.Less ∷ sign.Greater ∷ sign.Open
+    ∷ sign.Close ∷ sign.OpenIndex ∷ sign.CloseIndex ∷ sign.Comma ∷ []
 
 abbrev sign_index : Sign → ℕ
 sign_index sign.Swap = 0
@@ -226,10 +229,12 @@ listed_length : (k : ℕ) (d : Sign) → k < 25 → length (sign_text (get_or si
 listed_length k d h =
     let same : get_or signs k d ≡ get_or signs k sign.Plus = get_or_default signs k d sign.Plus (omega (arith, h)) in
     ap (λ s. length (sign_text s)) same
-    ∙ eqb-true (length (sign_text (get_or signs k sign.Plus))) (length_at k) (agree_below_at (λ i. nat_eq (length (sign_text (get_or signs i sign.Plus))) (length_at i)) (λ i. true) 25 k refl h)
+    ∙ eqb-true (length (sign_text (get_or signs k sign.Plus))) (length_at k)
+    (agree_below_at (λ i. nat_eq (length (sign_text (get_or signs i sign.Plus))) (length_at i)) (λ i. true) 25 k refl h)
 
 -- the first sign in the list with which the text begins is the longest
-pub first_is_longest : (text : List ℕ) (n k : ℕ) (d : Sign) → n ≡ k → ((j : ℕ) (s : Sign) (rest : List ℕ) → j < k → text ≡ sign_text (get_or signs j s) ++ rest → ⊥) →
+pub first_is_longest : (text : List ℕ) (n k : ℕ) (d : Sign) → n ≡ k →
+    ((j : ℕ) (s : Sign) (rest : List ℕ) → j < k → text ≡ sign_text (get_or signs j s) ++ rest → ⊥) →
     (t : Sign) (rest : List ℕ) → text ≡ sign_text t ++ rest → length (sign_text t) ≤ length (sign_text (get_or signs n d))
 first_is_longest text n k d same none t rest e =
     let i = ltb-true (sign_index t) 25 (sign_in_range t) in
@@ -241,18 +246,21 @@ first_is_longest text n k d same none t rest e =
     ]
 
 -- a text that begins with none of the listed signs begins with no sign
-pub no_sign : (text : List ℕ) (n : ℕ) → 25 ≤ n → ((j : ℕ) (s : Sign) (rest : List ℕ) → j < n → text ≡ sign_text (get_or signs j s) ++ rest → ⊥) → (s : Sign) (rest : List ℕ) → text ≡ sign_text s ++ rest → ⊥
+pub no_sign : (text : List ℕ) (n : ℕ) → 25 ≤ n → ((j : ℕ) (s : Sign) (rest : List ℕ) → j < n → text ≡ sign_text (get_or signs j s) ++ rest → ⊥) →
+    (s : Sign) (rest : List ℕ) → text ≡ sign_text s ++ rest → ⊥
 no_sign text n h none s rest e =
     let b = ltb-true (sign_index s) 25 (sign_in_range s) in
     none (sign_index s) s rest (omega (arith, b, h)) (e ∙ ap (λ t. sign_text t ++ rest) (sym (sign_listed s)))
 
 -- the digits that are left only make a number larger
-pub past_largest : (digits : List ℕ) (n i largest : ℕ) → i < length digits → decimal_behind n (drop i digits) ≡ decimal digits → largest < n * 10 + (get_or digits i 0 - 48) → largest < decimal digits
+pub past_largest : (digits : List ℕ) (n i largest : ℕ) → i < length digits → decimal_behind n (drop i digits) ≡ decimal digits →
+    largest < n * 10 + (get_or digits i 0 - 48) → largest < decimal digits
 past_largest digits n i largest h e over =
     let next = ap (decimal_behind n) (drop-cons digits i 0 h) in
     omega (arith, decimal_grows (n * 10 + (get_or digits i 0 - 48)) (drop (suc i) digits), e, next)
 
-pub begins_with : (text needle keyword : List ℕ) (r : Bool) → needle ≡ keyword → r ≡ starts_with nat_eq text needle → r ≡ true → (rest : List ℕ) × (text ≡ keyword ++ rest)
+pub begins_with : (text needle keyword : List ℕ) (r : Bool) → needle ≡ keyword → r ≡ starts_with nat_eq text needle → r ≡ true → (rest : List ℕ) ×
+    (text ≡ keyword ++ rest)
 begins_with text needle keyword r e is holds =
     let s = starts_is Decides-eqb text needle r is in
     (drop (length needle) text, s.0 holds ∙ ap (λ w. w ++ drop (length needle) text) e)

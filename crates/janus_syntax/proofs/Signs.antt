@@ -1,5 +1,6 @@
 -- Signs as the lexer finds them.
-use Rattle.std.proofs.Common.{◌≡◌, ◌≢◌, ℕ, ◌≤◌, ◌==◌, ◌⊎◌, inl, inr, List, [], ◌∷◌, ◌++◌, length, get_or, drop, Bool, true, false, Option, Some, None, refl, ap, sym, ◌∙◌, arith}
+use Rattle.std.proofs.Common.{◌≡◌, ◌≢◌, ℕ, ◌≤◌, ◌==◌, ◌⊎◌, inl, inr, List, [], ◌∷◌, ◌++◌, length, get_or, drop, Bool, true, false, Option, Some, None, refl, ap}
+use Rattle.std.proofs.Common.{sym, ◌∙◌, arith}
 use Rattle.std.specs.Prelude.{IfSome}
 use Rattle.std.proofs.lemmas.Bool.Decides.{nat_tests}
 use Rattle.janus_syntax.specs.declared.token.Sign.{Sign}
@@ -67,7 +68,8 @@ kind_of sign.OpenIndex = inr (inr (record { size = refl; seen = refl; found = λ
 kind_of sign.CloseIndex = inr (inr (record { size = refl; seen = refl; found = λ rest. refl }))
 kind_of sign.Comma = inr (inr (record { size = refl; seen = refl; found = λ rest. refl }))
 
-pub swap_seen : (xs : List ℕ) (a b c : ℕ) (r : Bool) → a ≡ get_or xs 0 0 → b ≡ get_or xs 1 0 → c ≡ get_or xs 2 0 → is_swap a b c ≡ r → is_swap (get_or xs 0 0) (get_or xs 1 0) (get_or xs 2 0) ≡ r
+pub swap_seen : (xs : List ℕ) (a b c : ℕ) (r : Bool) → a ≡ get_or xs 0 0 → b ≡ get_or xs 1 0 → c ≡ get_or xs 2 0 → is_swap a b c ≡ r →
+    is_swap (get_or xs 0 0) (get_or xs 1 0) (get_or xs 2 0) ≡ r
 swap_seen xs a b c r e f g h = rw (sym e, sym f, sym g) h
 
 at_most_three : (s : Sign) → length (sign_text s) ≤ 3
@@ -83,7 +85,8 @@ swap_is_longest xs h = ((drop 3 xs, three_octets xs h), λ t rest e. at_most_thr
 no_swap : (xs rest : List ℕ) → is_swap (get_or xs 0 0) (get_or xs 1 0) (get_or xs 2 0) ≡ false → xs ≡ 60 ∷ 61 ∷ 62 ∷ rest → ⊥
 no_swap xs rest h e = let k = ap (λ l. is_swap (get_or l 0 0) (get_or l 1 0) (get_or l 2 0)) e in absurd cc
 
-pub pair_is_longest : (xs : List ℕ) (s : Sign) → is_swap (get_or xs 0 0) (get_or xs 1 0) (get_or xs 2 0) ≡ false → sign_text s ≡ get_or xs 0 0 ∷ get_or xs 1 0 ∷ [] → IsLongestSign xs (Some s)
+pub pair_is_longest : (xs : List ℕ) (s : Sign) → is_swap (get_or xs 0 0) (get_or xs 1 0) (get_or xs 2 0) ≡ false →
+    sign_text s ≡ get_or xs 0 0 ∷ get_or xs 1 0 ∷ [] → IsLongestSign xs (Some s)
 pair_is_longest xs s h text =
     let size = ap length text in
     let second : get_or (sign_text s) 1 0 ≡ get_or xs 1 0 = ap (λ l. get_or l 1 0) text in
@@ -103,16 +106,19 @@ pair_is_longest xs s h text =
 no_pair : (xs rest : List ℕ) (t : Sign) → IsPair t → pair_of (get_or xs 0 0) (get_or xs 1 0) ≡ None → xs ≡ sign_text t ++ rest → ⊥
 no_pair xs rest t pair none e =
     let k = pair.found rest in
-    let n : pair_of (get_or (sign_text t ++ rest) 0 0) (get_or (sign_text t ++ rest) 1 0) ≡ None = ap (λ l. pair_of (get_or l 0 0) (get_or l 1 0)) (sym e) ∙ none in
+    let n : pair_of (get_or (sign_text t ++ rest) 0 0) (get_or (sign_text t ++ rest) 1 0) ≡ None = ap (λ l. pair_of (get_or l 0 0) (get_or l 1 0)) (sym e)
+    ∙ none in
     absurd cc
 
 -- the sign of one octet, or none, where no longer one begins the text
-pub single_is_longest : (xs : List ℕ) (o : Option Sign) → is_swap (get_or xs 0 0) (get_or xs 1 0) (get_or xs 2 0) ≡ false → pair_of (get_or xs 0 0) (get_or xs 1 0) ≡ None →
+pub single_is_longest : (xs : List ℕ) (o : Option Sign) → is_swap (get_or xs 0 0) (get_or xs 1 0) (get_or xs 2 0) ≡ false →
+    pair_of (get_or xs 0 0) (get_or xs 1 0) ≡ None →
     o ≡ single_of (get_or xs 0 0) → IfSome o (λ s. sign_text s ≡ get_or xs 0 0 ∷ []) → IsLongestSign xs o
 single_is_longest xs None h none is text = λ t rest e. elim (kind_of t) [
   | inl swap ↦ no_swap xs rest h (e ∙ ap (λ u. sign_text u ++ rest) swap)
   | inr (inl pair) ↦ no_pair xs rest t pair none e
-  | inr (inr single) ↦ let k = single.found rest in let n : None ≡ single_of (get_or (sign_text t ++ rest) 0 0) = is ∙ ap (λ l. single_of (get_or l 0 0)) e in absurd cc
+  | inr (inr single) ↦ let k = single.found rest in let n : None ≡ single_of (get_or (sign_text t ++ rest) 0 0) = is ∙ ap (λ l. single_of (get_or l 0 0)) e in
+      absurd cc
 ]
 single_is_longest xs (Some s) h none is text =
     let size = ap length text in

@@ -23,7 +23,8 @@ use Rattle.janus_syntax.proofs.Follow.{no_swap, no_index}
 use Rattle.janus_syntax.proofs.Keeps.{cond_some}
 
 -- The premise on the lengths is std's, in the fact that 'split_first' gives.
-pub first_token : (tokens rest : List code_token.TextToken) (first : code_token.TextToken) (k : TextKind) → (tokens ≡ first ∷ rest) × (length rest + 1 ≡ length tokens) → first.kind ≡ k → views tokens ≡ token_of k first.span ∷ views rest
+pub first_token : (tokens rest : List code_token.TextToken) (first : code_token.TextToken) (k : TextKind) → (tokens ≡ first ∷ rest) ×
+    (length rest + 1 ≡ length tokens) → first.kind ≡ k → views tokens ≡ token_of k first.span ∷ views rest
 first_token tokens rest first k h e = ap views h.0 ∙ ap (λ x. token_of x first.span ∷ views rest) e
 
 -- a failure of a part is a failure of the whole, at the same place; want of memory says nothing
@@ -36,7 +37,8 @@ passes_on fails whole_fails problem.Memory h f = tt
 -- ---- tokens of a class
 
 pub token_goes : (c : Class) (v : Seen c) (t : Token) (rest : List Token) → seen c t ≡ Some v → agrees c v ≡ true → TokenGoes c v (t ∷ rest) rest
-token_goes c v t rest is fit = record { goes = λ g p k S m. run_goes all t rest (at (take c k) S m) (at (k v) S m) (steps_token all c k S m t v is fit); shorter = omega arith }
+token_goes c v t rest is fit =
+    record { goes = λ g p k S m. run_goes all t rest (at (take c k) S m) (at (k v) S m) (steps_token all c k S m t v is fit); shorter = omega arith }
 
 pub token_fails : (c : Class) (t : Token) (rest : List Token) → seen c t ≡ None → TokenFails c (t ∷ rest) (Expected (what_of c) (suc (length rest)))
 token_fails c t rest is g p k S m = ap (λ o. follow (λ n. run all rest n) (what_of c) (suc (length rest)) (taken c all o k S m)) is
@@ -48,11 +50,15 @@ end_fails c g p k S m = refl
 
 abbrev signs : List Sign
 signs =
-    sign.PlusEquals ∷ sign.MinusEquals ∷ sign.XorEquals ∷ sign.Plus ∷ sign.Minus ∷ sign.Times ∷ sign.Divide ∷ sign.Remainder ∷ sign.Xor ∷ sign.BitAnd ∷ sign.And ∷ sign.BitOr ∷ sign.Or ∷ sign.Equals ∷ sign.Differs ∷ sign.Less ∷ sign.Greater ∷ sign.AtMost ∷ sign.AtLeast ∷ sign.Open ∷ sign.Close ∷ sign.OpenIndex ∷ sign.CloseIndex ∷ sign.Comma ∷ sign.Swap ∷ []
+    sign.PlusEquals ∷ sign.MinusEquals ∷ sign.XorEquals ∷ sign.Plus ∷ sign.Minus ∷ sign.Times ∷ sign.Divide ∷ sign.Remainder ∷ sign.Xor ∷ sign.BitAnd ∷ sign.And
+    ∷ sign.BitOr ∷ sign.Or ∷ sign.Equals ∷ sign.Differs ∷ sign.Less ∷ sign.Greater ∷ sign.AtMost ∷ sign.AtLeast ∷ sign.Open ∷ sign.Close ∷ sign.OpenIndex
+    ∷ sign.CloseIndex ∷ sign.Comma ∷ sign.Swap ∷ []
 
 abbrev keywords : List Keyword
 keywords =
-    keyword.Call ∷ keyword.Delocal ∷ keyword.Do ∷ keyword.Else ∷ keyword.Empty ∷ keyword.Fi ∷ keyword.From ∷ keyword.If ∷ keyword.Int ∷ keyword.Local ∷ keyword.Loop ∷ keyword.Main ∷ keyword.Nil ∷ keyword.Pop ∷ keyword.Procedure ∷ keyword.Push ∷ keyword.Skip ∷ keyword.Stack ∷ keyword.Then ∷ keyword.Top ∷ keyword.Uncall ∷ keyword.Until ∷ []
+    keyword.Call ∷ keyword.Delocal ∷ keyword.Do ∷ keyword.Else ∷ keyword.Empty ∷ keyword.Fi ∷ keyword.From ∷ keyword.If ∷ keyword.Int ∷ keyword.Local
+    ∷ keyword.Loop ∷ keyword.Main ∷ keyword.Nil ∷ keyword.Pop ∷ keyword.Procedure ∷ keyword.Push ∷ keyword.Skip ∷ keyword.Stack ∷ keyword.Then ∷ keyword.Top
+    ∷ keyword.Uncall ∷ keyword.Until ∷ []
 
 numbered_sign : (s : Sign) → get_or signs (sign_number s) sign.Comma ≡ s
 numbered_sign sign.PlusEquals = refl
@@ -83,33 +89,51 @@ seen_or_not (Some v) h = absurd (h v refl)
 
 other_sign : (s : Sign) (t : Token) (rest : List Token) → ((behind : List Token) → BeginsWithSign s (t ∷ rest) behind → ⊥) → seen (The_sign s) t ≡ None
 other_sign s (Sign_of r place) rest h =
-    seen_or_not (seen (The_sign s) (Sign_of r place)) (λ v e. h rest (record { at = place; is = ap (λ x. Sign_of x place ∷ rest) (same_sign r s (sym (eqb-true (sign_number s) (sign_number r) (cond_some (nat_eq (sign_number s) (sign_number r)) tt v e)))) }))
+    seen_or_not (seen (The_sign s) (Sign_of r place))
+    (λ v e. h rest
+    (record {
+      at = place;
+      is = ap (λ x. Sign_of x place ∷ rest)
+          (same_sign r s (sym (eqb-true (sign_number s) (sign_number r) (cond_some (nat_eq (sign_number s) (sign_number r)) tt v e))));
+    }))
 other_sign s (Name x place) rest h = refl
 other_sign s (Number n place) rest h = refl
 other_sign s (Keyword_of w place) rest h = refl
 
 other_keyword : (w : Keyword) (t : Token) (rest : List Token) → ((behind : List Token) → BeginsWith w (t ∷ rest) behind → ⊥) → seen (The_keyword w) t ≡ None
 other_keyword w (Keyword_of v place) rest h =
-    seen_or_not (seen (The_keyword w) (Keyword_of v place)) (λ u e. h rest (record { at = place; is = ap (λ x. Keyword_of x place ∷ rest) (same_keyword v w (sym (eqb-true (keyword_number w) (keyword_number v) (cond_some (nat_eq (keyword_number w) (keyword_number v)) tt u e)))) }))
+    seen_or_not (seen (The_keyword w) (Keyword_of v place))
+    (λ u e. h rest
+    (record {
+      at = place;
+      is = ap (λ x. Keyword_of x place ∷ rest)
+          (same_keyword v w (sym (eqb-true (keyword_number w) (keyword_number v) (cond_some (nat_eq (keyword_number w) (keyword_number v)) tt u e))));
+    }))
 other_keyword w (Name x place) rest h = refl
 other_keyword w (Number n place) rest h = refl
 other_keyword w (Sign_of s place) rest h = refl
 
 pub sign_goes : (s : Sign) (from rest : List Token) → BeginsWithSign s from rest → TokenGoes (The_sign s) tt from rest
-sign_goes s from rest b = subst (λ ts. TokenGoes (The_sign s) tt ts rest) (sym b.is) (token_goes (The_sign s) tt (Sign_of s b.at) rest (seen_the_sign s b.at) refl)
+sign_goes s from rest b =
+    subst (λ ts. TokenGoes (The_sign s) tt ts rest) (sym b.is) (token_goes (The_sign s) tt (Sign_of s b.at) rest (seen_the_sign s b.at) refl)
 
 pub keyword_goes : (w : Keyword) (from rest : List Token) → BeginsWith w from rest → TokenGoes (The_keyword w) tt from rest
-keyword_goes w from rest b = subst (λ ts. TokenGoes (The_keyword w) tt ts rest) (sym b.is) (token_goes (The_keyword w) tt (Keyword_of w b.at) rest (seen_the_keyword w b.at) refl)
+keyword_goes w from rest b =
+    subst (λ ts. TokenGoes (The_keyword w) tt ts rest) (sym b.is) (token_goes (The_keyword w) tt (Keyword_of w b.at) rest (seen_the_keyword w b.at) refl)
 
-pub sign_fails : (s : Sign) (from : List Token) (left : ℕ) → left ≡ length from → ((behind : List Token) → BeginsWithSign s from behind → ⊥) → TokenFails (The_sign s) from (Expected (what.Sign s) left)
+pub sign_fails : (s : Sign) (from : List Token) (left : ℕ) → left ≡ length from → ((behind : List Token) → BeginsWithSign s from behind → ⊥) →
+    TokenFails (The_sign s) from (Expected (what.Sign s) left)
 sign_fails s [] left e h = subst (λ n. TokenFails (The_sign s) [] (Expected (what.Sign s) n)) (sym e) (end_fails (The_sign s))
 sign_fails s (t ∷ rest) left e h =
-    subst (λ n. TokenFails (The_sign s) (t ∷ rest) (Expected (what.Sign s) n)) (let k : suc (length rest) ≡ left = sym e in k) (token_fails (The_sign s) t rest (other_sign s t rest h))
+    subst (λ n. TokenFails (The_sign s) (t ∷ rest) (Expected (what.Sign s) n)) (let k : suc (length rest) ≡ left = sym e in k)
+    (token_fails (The_sign s) t rest (other_sign s t rest h))
 
-pub keyword_fails : (w : Keyword) (from : List Token) (left : ℕ) → left ≡ length from → ((behind : List Token) → BeginsWith w from behind → ⊥) → TokenFails (The_keyword w) from (Expected (what.Keyword w) left)
+pub keyword_fails : (w : Keyword) (from : List Token) (left : ℕ) → left ≡ length from → ((behind : List Token) → BeginsWith w from behind → ⊥) →
+    TokenFails (The_keyword w) from (Expected (what.Keyword w) left)
 keyword_fails w [] left e h = subst (λ n. TokenFails (The_keyword w) [] (Expected (what.Keyword w) n)) (sym e) (end_fails (The_keyword w))
 keyword_fails w (t ∷ rest) left e h =
-    subst (λ n. TokenFails (The_keyword w) (t ∷ rest) (Expected (what.Keyword w) n)) (let k : suc (length rest) ≡ left = sym e in k) (token_fails (The_keyword w) t rest (other_keyword w t rest h))
+    subst (λ n. TokenFails (The_keyword w) (t ∷ rest) (Expected (what.Keyword w) n)) (let k : suc (length rest) ≡ left = sym e in k)
+    (token_fails (The_keyword w) t rest (other_keyword w t rest h))
 
 -- no `<=>` at the front
 pub no_swapping : (from : List Token) → ((behind : List Token) → BeginsWithSign sign.Swap from behind → ⊥) → (t : Token) → next from ≡ Some t → no_swap t ≡ true
@@ -121,7 +145,8 @@ no_swapping (Number n place ∷ rest) h t e = let same : Number n place ≡ t = 
 no_swapping (Keyword_of w place ∷ rest) h t e = let same : Keyword_of w place ≡ t = cc in subst (λ x. no_swap x ≡ true) same refl
 
 -- no `[` at the front
-pub no_opening : (from : List Token) → ((behind : List Token) → BeginsWithSign sign.OpenIndex from behind → ⊥) → (t : Token) → next from ≡ Some t → no_index t ≡ true
+pub no_opening : (from : List Token) → ((behind : List Token) → BeginsWithSign sign.OpenIndex from behind → ⊥) → (t : Token) → next from ≡ Some t →
+    no_index t ≡ true
 no_opening [] h t e = absurd cc
 no_opening (Sign_of sign.OpenIndex place ∷ rest) h t e = absurd (h rest (record { at = place; is = refl }))
 no_opening (Sign_of r place ∷ rest) h t e = let same : Sign_of r place ≡ t = cc in subst (λ x. no_index x ≡ true) same refl

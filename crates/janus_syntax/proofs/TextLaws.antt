@@ -9,7 +9,8 @@ use Rattle.janus_syntax.specs.Tokens.{Token}
 use Rattle.janus_syntax.specs.Forms.{Part, Tree}
 use Rattle.janus_syntax.specs.Grammar.{all, IsTree, Refusal, Expected, TooNested, DelocalName, IsRefused, expected, expected_at_end, too_nested, delocal_name}
 use Rattle.janus_syntax.specs.Lexical.{AreTokens}
-use Rattle.janus_syntax.specs.Text.{place_before, HasTreeOf, IsUnexpectedAt, IsTooNestedAt, IsDelocalNameAt, IsRefusalOf, OneRefusal, OneTree, TreeOrRefusal, NotBoth}
+use Rattle.janus_syntax.specs.Text.{place_before, HasTreeOf, IsUnexpectedAt, IsTooNestedAt, IsDelocalNameAt, IsRefusalOf, OneRefusal, OneTree, TreeOrRefusal}
+use Rattle.janus_syntax.specs.Text.{NotBoth}
 use Rattle.janus_syntax.proofs.OneLexing.{only_tokens, not_bad, not_large}
 use Rattle.janus_syntax.proofs.OneBad.{bad_bad, large_large, bad_large}
 use Rattle.janus_syntax.proofs.EveryText.{lexed}
@@ -47,10 +48,13 @@ rest_is tokens front rest left whole l =
 
 pub one_tree : OneTree
 one_tree goal text v u p q =
-    determined.one_tree goal all q.tokens v u (subst (λ ts. IsTree goal all v ts) (only_tokens text p.tokens q.tokens p.are_tokens q.are_tokens) p.is_tree) q.is_tree
+    determined.one_tree goal all q.tokens v u (subst (λ ts. IsTree goal all v ts) (only_tokens text p.tokens q.tokens p.are_tokens q.are_tokens) p.is_tree)
+    q.is_tree
 
-no_tree : (goal : Part) (text : List ℕ) (v : Tree goal) (tokens : List Token) (e : Refusal) → HasTreeOf goal text v → AreTokens text tokens → IsRefused goal tokens e → ⊥
-no_tree goal text v tokens e p l q = determined.not_both goal tokens v e (subst (λ ts. IsTree goal all v ts) (only_tokens text p.tokens tokens p.are_tokens l) p.is_tree) q
+no_tree : (goal : Part) (text : List ℕ) (v : Tree goal) (tokens : List Token) (e : Refusal) → HasTreeOf goal text v → AreTokens text tokens →
+    IsRefused goal tokens e → ⊥
+no_tree goal text v tokens e p l q =
+    determined.not_both goal tokens v e (subst (λ ts. IsTree goal all v ts) (only_tokens text p.tokens tokens p.are_tokens l) p.is_tree) q
 
 pub not_both : NotBoth
 not_both goal text v (fault.BadToken at) p q = not_bad text at p.tokens q p.are_tokens
@@ -61,20 +65,24 @@ not_both goal text v (fault.DelocalName at) p q = no_tree goal text v q.tokens (
 not_both goal text v fault.Memory p q = absurd q
 
 -- two refusals of the tokens are the same
-same_refused : (goal : Part) (text : List ℕ) (ts us : List Token) (e f : Refusal) → AreTokens text ts → AreTokens text us → IsRefused goal ts e → IsRefused goal us f → e ≡ f
+same_refused : (goal : Part) (text : List ℕ) (ts us : List Token) (e f : Refusal) → AreTokens text ts → AreTokens text us → IsRefused goal ts e →
+    IsRefused goal us f → e ≡ f
 same_refused goal text ts us e f l m p q = determined.one_refusal goal us e f (subst (λ vs. IsRefused goal vs e) (only_tokens text ts us l m) p) q
 
-same_place : (text : List ℕ) (a b : Span) (ts us front front' rest rest' : List Token) → AreTokens text ts → AreTokens text us → ts ≡ front ++ rest → us ≡ front' ++ rest' → length rest ≡ length rest' →
+same_place : (text : List ℕ) (a b : Span) (ts us front front' rest rest' : List Token) → AreTokens text ts → AreTokens text us → ts ≡ front ++ rest →
+    us ≡ front' ++ rest' → length rest ≡ length rest' →
     a ≡ place_before (length text) rest → b ≡ place_before (length text) rest' → a ≡ b
 same_place text a b ts us front front' rest rest' l m w w' e p q =
     p ∙ ap (place_before (length text)) (same_rest front front' rest rest' (sym w ∙ only_tokens text ts us l m ∙ w') e) ∙ sym q
 
-unexpected_unexpected : (goal : Part) (text : List ℕ) (v w : What) (a b : Span) → IsUnexpectedAt goal text v a → IsUnexpectedAt goal text w b → fault.Expected v a ≡ fault.Expected w b
+unexpected_unexpected : (goal : Part) (text : List ℕ) (v w : What) (a b : Span) → IsUnexpectedAt goal text v a → IsUnexpectedAt goal text w b →
+    fault.Expected v a ≡ fault.Expected w b
 unexpected_unexpected goal text v w a b x y =
     let e = same_refused goal text x.tokens y.tokens (Expected v (length x.rest)) (Expected w (length y.rest)) x.are_tokens y.are_tokens x.refused y.refused in
     let item : v ≡ w = cc in
     ap (λ i. fault.Expected i a) item
-    ∙ ap (λ i. fault.Expected w i) (same_place text a b x.tokens y.tokens x.front y.front x.rest y.rest x.are_tokens y.are_tokens x.whole y.whole (ap left_of e) x.place y.place)
+    ∙ ap (λ i. fault.Expected w i)
+    (same_place text a b x.tokens y.tokens x.front y.front x.rest y.rest x.are_tokens y.are_tokens x.whole y.whole (ap left_of e) x.place y.place)
 
 nested_nested : (goal : Part) (text : List ℕ) (a b : Span) → IsTooNestedAt goal text a → IsTooNestedAt goal text b → a ≡ b
 nested_nested goal text a b x y =
@@ -88,7 +96,8 @@ unexpected_nested goal text v a b x y =
 
 delocal_delocal : (goal : Part) (text : List ℕ) (a b : Span) → IsDelocalNameAt goal text a → IsDelocalNameAt goal text b → a ≡ b
 delocal_delocal goal text a b x y =
-    let e = same_refused goal text x.tokens y.tokens (DelocalName (length x.rest)) (DelocalName (length y.rest)) x.are_tokens y.are_tokens x.refused y.refused in
+    let e = same_refused goal text x.tokens y.tokens (DelocalName (length x.rest)) (DelocalName (length y.rest))
+    x.are_tokens y.are_tokens x.refused y.refused in
     same_place text a b x.tokens y.tokens x.front y.front x.rest y.rest x.are_tokens y.are_tokens x.whole y.whole (ap left_of e) x.place y.place
 
 unexpected_delocal : (goal : Part) (text : List ℕ) (v : What) (a b : Span) → IsUnexpectedAt goal text v a → IsDelocalNameAt goal text b → ⊥
@@ -136,13 +145,47 @@ one_refusal goal text fault.Memory f p q = absurd p
 
 -- ---- each text
 
-refused_at : (goal : Part) (text : List ℕ) (ts : List Token) (e : Refusal) → AreTokens text ts → IsRefused goal ts e → Before e ts → (f : SyntaxFault) × IsRefusalOf goal text f
-refused_at goal text ts (Expected w left) l q (before front rest whole n) =
-    (fault.Expected w (place_before (length text) rest), record { tokens = ts; front = front; rest = rest; are_tokens = l; whole = whole; refused = subst (λ i. IsRefused goal ts (Expected w i)) n q; place = refl })
-refused_at goal text ts (TooNested left) l q (before front rest whole n) =
-    (fault.TooNested (place_before (length text) rest), record { tokens = ts; front = front; rest = rest; are_tokens = l; whole = whole; refused = subst (λ i. IsRefused goal ts (TooNested i)) n q; place = refl })
-refused_at goal text ts (DelocalName left) l q (before front rest whole n) =
-    (fault.DelocalName (place_before (length text) rest), record { tokens = ts; front = front; rest = rest; are_tokens = l; whole = whole; refused = subst (λ i. IsRefused goal ts (DelocalName i)) n q; place = refl })
+refused_at : (goal : Part) (text : List ℕ) (ts : List Token) (e : Refusal) → AreTokens text ts → IsRefused goal ts e → Before e ts → (f : SyntaxFault) ×
+    IsRefusalOf goal text f
+refused_at goal text ts (Expected w left) l q (before front rest whole n) = (
+  fault.Expected w (place_before (length text) rest),
+  record {
+    tokens = ts;
+    front = front;
+    rest = rest;
+    are_tokens = l;
+    whole = whole;
+    refused = subst (λ i. IsRefused goal ts (Expected w i))
+        n q;
+    place = refl;
+  },
+)
+refused_at goal text ts (TooNested left) l q (before front rest whole n) = (
+  fault.TooNested (place_before (length text) rest),
+  record {
+    tokens = ts;
+    front = front;
+    rest = rest;
+    are_tokens = l;
+    whole = whole;
+    refused = subst (λ i. IsRefused goal ts (TooNested i))
+        n q;
+    place = refl;
+  },
+)
+refused_at goal text ts (DelocalName left) l q (before front rest whole n) = (
+  fault.DelocalName (place_before (length text) rest),
+  record {
+    tokens = ts;
+    front = front;
+    rest = rest;
+    are_tokens = l;
+    whole = whole;
+    refused = subst (λ i. IsRefused goal ts (DelocalName i))
+        n q;
+    place = refl;
+  },
+)
 
 pub tree_or_refusal : TreeOrRefusal
 tree_or_refusal goal text u =

@@ -35,14 +35,16 @@ is_refused goal ts e h =
       | inr (f, is) ↦ subst (λ x. IsRefused goal ts x) (determined.same_refusal {goal = goal} f e (sym (determined.determined ts f is) ∙ h)) is
     ]
 
-pub refusal : {X : Type 0} (goal : Part) (view : X → Tree goal) (ts : List Token) (r : Result X Problem) → Reads (λ x. IsTree goal all (view x) ts) (Refused goal ts) r → Reads (λ x. IsTree goal all (view x) ts) (IsRefused goal ts) r
+pub refusal : {X : Type 0} (goal : Part) (view : X → Tree goal) (ts : List Token) (r : Result X Problem) →
+    Reads (λ x. IsTree goal all (view x) ts) (Refused goal ts) r → Reads (λ x. IsTree goal all (view x) ts) (IsRefused goal ts) r
 refusal goal view ts (Ok x) h = h
 refusal goal view ts (Err (problem.Expected w left)) h = is_refused goal ts (Expected w left) h
 refusal goal view ts (Err (problem.TooNested left)) h = is_refused goal ts (TooNested left) h
 refusal goal view ts (Err (problem.DelocalName left)) h = is_refused goal ts (DelocalName left) h
 refusal goal view ts (Err problem.Memory) h = tt
 
-pub only_answer : {X : Type 0} (goal : Part) (view : X → Tree goal) (ts : List Token) (r : Result X Problem) → Reads (λ x. IsTree goal all (view x) ts) (Refused goal ts) r → (tree : Tree goal) → IsTree goal all tree ts →
+pub only_answer : {X : Type 0} (goal : Part) (view : X → Tree goal) (ts : List Token) (r : Result X Problem) →
+    Reads (λ x. IsTree goal all (view x) ts) (Refused goal ts) r → (tree : Tree goal) → IsTree goal all tree ts →
     Reads (λ x. view x ≡ tree) (λ e. ⊥) r
 only_answer goal view ts (Ok x) h tree q = determined.one_tree goal all ts (view x) tree h q
 only_answer goal view ts (Err (problem.Expected w left)) h tree q = determined.no_read (Expected w left) tree what.End (sym h ∙ reads_cell all tree ts q)
@@ -61,19 +63,50 @@ within goal ts (problem.TooNested left) h = in_range (TooNested left) ts left (s
 within goal ts (problem.DelocalName left) h = in_range (DelocalName left) ts left (stands_before goal ts (DelocalName left) h) refl
 within goal ts problem.Memory h = tt
 
-refused_before : (goal : Part) (text : List ℕ) (ts : List Token) (w : What) (left : ℕ) → AreTokens text ts → IsRefused goal ts (Expected w left) → Before (Expected w left) ts → Refuses goal text (fault_of (length text) ts (problem.Expected w left))
+refused_before : (goal : Part) (text : List ℕ) (ts : List Token) (w : What) (left : ℕ) → AreTokens text ts → IsRefused goal ts (Expected w left) →
+    Before (Expected w left) ts → Refuses goal text (fault_of (length text) ts (problem.Expected w left))
 refused_before goal text ts w left l q (before front rest whole n) =
-    record { tokens = ts; front = front; rest = rest; are_tokens = l; whole = whole; refused = subst (λ i. IsRefused goal ts (Expected w i)) n q; place = ap (place_before (length text)) (rest_is ts front rest left whole n) }
+    record {
+      tokens = ts;
+      front = front;
+      rest = rest;
+      are_tokens = l;
+      whole = whole;
+      refused = subst (λ i. IsRefused goal ts (Expected w i)) n q;
+      place = ap
+          (place_before (length text)) (rest_is ts front rest left whole n);
+    }
 
-nested_before : (goal : Part) (text : List ℕ) (ts : List Token) (left : ℕ) → AreTokens text ts → IsRefused goal ts (TooNested left) → Before (TooNested left) ts → Refuses goal text (fault_of (length text) ts (problem.TooNested left))
+nested_before : (goal : Part) (text : List ℕ) (ts : List Token) (left : ℕ) → AreTokens text ts → IsRefused goal ts (TooNested left) →
+    Before (TooNested left) ts → Refuses goal text (fault_of (length text) ts (problem.TooNested left))
 nested_before goal text ts left l q (before front rest whole n) =
-    record { tokens = ts; front = front; rest = rest; are_tokens = l; whole = whole; refused = subst (λ i. IsRefused goal ts (TooNested i)) n q; place = ap (place_before (length text)) (rest_is ts front rest left whole n) }
+    record {
+      tokens = ts;
+      front = front;
+      rest = rest;
+      are_tokens = l;
+      whole = whole;
+      refused = subst (λ i. IsRefused goal ts (TooNested i)) n q;
+      place = ap
+          (place_before (length text)) (rest_is ts front rest left whole n);
+    }
 
-delocal_before : (goal : Part) (text : List ℕ) (ts : List Token) (left : ℕ) → AreTokens text ts → IsRefused goal ts (DelocalName left) → Before (DelocalName left) ts → Refuses goal text (fault_of (length text) ts (problem.DelocalName left))
+delocal_before : (goal : Part) (text : List ℕ) (ts : List Token) (left : ℕ) → AreTokens text ts → IsRefused goal ts (DelocalName left) →
+    Before (DelocalName left) ts → Refuses goal text (fault_of (length text) ts (problem.DelocalName left))
 delocal_before goal text ts left l q (before front rest whole n) =
-    record { tokens = ts; front = front; rest = rest; are_tokens = l; whole = whole; refused = subst (λ i. IsRefused goal ts (DelocalName i)) n q; place = ap (place_before (length text)) (rest_is ts front rest left whole n) }
+    record {
+      tokens = ts;
+      front = front;
+      rest = rest;
+      are_tokens = l;
+      whole = whole;
+      refused = subst (λ i. IsRefused goal ts (DelocalName i)) n q;
+      place = ap
+          (place_before (length text)) (rest_is ts front rest left whole n);
+    }
 
-pub refuses : (goal : Part) (text : List ℕ) (ts : List Token) (p : Problem) → AreTokens text ts → FailsAs (IsRefused goal ts) p → Refuses goal text (fault_of (length text) ts p)
+pub refuses : (goal : Part) (text : List ℕ) (ts : List Token) (p : Problem) → AreTokens text ts → FailsAs (IsRefused goal ts) p →
+    Refuses goal text (fault_of (length text) ts p)
 refuses goal text ts (problem.Expected w left) l h = refused_before goal text ts w left l h (stands_before goal ts (Expected w left) h)
 refuses goal text ts (problem.TooNested left) l h = nested_before goal text ts left l h (stands_before goal ts (TooNested left) h)
 refuses goal text ts (problem.DelocalName left) l h = delocal_before goal text ts left l h (stands_before goal ts (DelocalName left) h)

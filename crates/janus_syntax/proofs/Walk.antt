@@ -6,8 +6,10 @@ use Rattle.janus_syntax.specs.Tokens.{Token}
 use Rattle.janus_syntax.specs.Forms.{Part, Tree, Form, done, take, part, close}
 use Rattle.janus_syntax.specs.Table.{left_out, label}
 use Rattle.janus_syntax.specs.Grammar
-use Rattle.janus_syntax.specs.Grammar.{Count, zero_count, closed, fits, Demands, all, met, Spells, Begins, Wants, an_item, the_end, text_form, IsTree, Next, Wanted, Complete, required, passed_over}
-use Rattle.janus_syntax.specs.Reader.{Stack, bottom, waits, State, at, Go, Accept, Stuck, TooMany, Differs, step, wanted_behind, wanted, Outcome, Ended, at_end, follow, run, start}
+use Rattle.janus_syntax.specs.Grammar.{Count, zero_count, closed, fits, Demands, all, met, Spells, Begins, Wants, an_item, the_end, text_form, IsTree, Next}
+use Rattle.janus_syntax.specs.Grammar.{Wanted, Complete, required, passed_over}
+use Rattle.janus_syntax.specs.Reader.{Stack, bottom, waits, State, at, Go, Accept, Stuck, TooMany, Differs, step, wanted_behind, wanted, Outcome, Ended, at_end}
+use Rattle.janus_syntax.specs.Reader.{follow, run, start}
 use Rattle.janus_syntax.proofs.Agrees.{run_goes, reads_cell, wants, at_end_wants}
 use Rattle.janus_syntax.proofs.KeepsTable.{proper_text}
 use Rattle.janus_syntax.proofs.Back.{Behind, At, Goes_back, back, if_goes, many_goes, differs_goes}
@@ -23,7 +25,8 @@ module _ {goal : Part} where
   walk_run stay more = refl
   walk_run {d} (onward {s = s} {s1 = s1} {t = t} {ts = ts} e w) more = run_goes d t (ts ++ more) s s1 e ∙ walk_run w more
 
-  pub walk_back : (d : Demands) (G : (p : Part) → Form p → Count → List Token → Type 0) (g : Goes_back d G) (E : Tree goal → List Token → Type 0) {s s' : State goal} {front : List Token} →
+  pub walk_back : (d : Demands) (G : (p : Part) → Form p → Count → List Token → Type 0) (g : Goes_back d G) (E : Tree goal → List Token → Type 0)
+      {s s' : State goal} {front : List Token} →
       Walk d s front s' → (ts : List Token) → At d G E s' ts → At d G E s (front ++ ts)
   walk_back d G g E stay ts h = h
   walk_back d G g E (onward {s = s} {s1 = s1} {t = t} {ts = us} e w) ts h = back d G g E s s1 t (us ++ ts) e (walk_back d G g E w ts h)
@@ -64,16 +67,19 @@ module _ {goal : Part} where
 
   pub walk_fewer : (d : Demands) {s s' : State goal} {front : List Token} → Walk all s front s' → Walk d s front s'
   walk_fewer d stay = stay
-  walk_fewer d (onward {s = s} {s1 = s1} {t = t} e w) = onward (judged d s (Some t) ∙ judge_fewer d (raw s (Some t)) s1 (sym (judged all s (Some t)) ∙ e)) (walk_fewer d w)
+  walk_fewer d (onward {s = s} {s1 = s1} {t = t} e w) =
+      onward (judged d s (Some t) ∙ judge_fewer d (raw s (Some t)) s1 (sym (judged all s (Some t)) ∙ e)) (walk_fewer d w)
 
   -- where a run comes to a halt
 
   pub data Ending (d : Demands) (s : State goal) (tokens : List Token) : Outcome goal → Type 0 where
     at_the_end : {s' : State goal} → Walk d s tokens s' → Ending d s tokens (at_end (wanted s') (step d s' None))
-    at_a_token : {s' : State goal} (front : List Token) (t : Token) (behind : List Token) → tokens ≡ front ++ t ∷ behind → Walk d s front s' → ((n : State goal) → step d s' (Some t) ≡ Go n → ⊥) →
+    at_a_token : {s' : State goal} (front : List Token) (t : Token) (behind : List Token) → tokens ≡ front ++ t ∷ behind → Walk d s front s' →
+        ((n : State goal) → step d s' (Some t) ≡ Go n → ⊥) →
         Ending d s tokens (follow (λ n. run d behind n) (wanted s') (suc (length behind)) (step d s' (Some t)))
 
-  ending_more : (d : Demands) (s s1 : State goal) (t : Token) (tokens : List Token) (out : Outcome goal) → step d s (Some t) ≡ Go s1 → Ending d s1 tokens out → Ending d s (t ∷ tokens) out
+  ending_more : (d : Demands) (s s1 : State goal) (t : Token) (tokens : List Token) (out : Outcome goal) → step d s (Some t) ≡ Go s1 → Ending d s1 tokens out →
+      Ending d s (t ∷ tokens) out
   ending_more d s s1 t tokens out e (at_the_end w) = at_the_end (onward e w)
   ending_more d s s1 t tokens out e (at_a_token front u behind whole w n) = at_a_token (t ∷ front) u behind (ap (λ ts. t ∷ ts) whole) (onward e w) n
 
@@ -81,7 +87,8 @@ module _ {goal : Part} where
   ending d [] s = at_the_end stay
   ending d (t ∷ rest) s =
       elim (step d s (Some t)) as (λ x. step d s (Some t) ≡ x → Ending d s (t ∷ rest) (run d (t ∷ rest) s)) [
-        | Go s1 ↦ λ e. subst (λ out. Ending d s (t ∷ rest) out) (sym (run_goes d t rest s s1 e)) (ending_more d s s1 t rest (run d rest s1) e (ending d rest s1))
+        | Go s1 ↦ λ e. subst (λ out. Ending d s (t ∷ rest) out) (sym (run_goes d t rest s s1 e))
+            (ending_more d s s1 t rest (run d rest s1) e (ending d rest s1))
         | Accept c ↦ λ e. at_a_token [] t rest refl stay (λ n h. let k = sym e ∙ h in cc)
         | Stuck ↦ λ e. at_a_token [] t rest refl stay (λ n h. let k = sym e ∙ h in cc)
         | TooMany ↦ λ e. at_a_token [] t rest refl stay (λ n h. let k = sym e ∙ h in cc)
@@ -116,7 +123,8 @@ complete_spelled d {p} (part q k) v m e =
     ] refl e
 
 module _ {goal : Part} where
-  wants_hand : (d : Demands) {p : Part} (S : Stack goal p) (v : Tree p) (m : Count) (w : What) → wanted_behind S (Complete v) ≡ w → Behind d (Begun d w) (IsWhole goal w) S v m []
+  wants_hand : (d : Demands) {p : Part} (S : Stack goal p) (v : Tree p) (m : Count) (w : What) → wanted_behind S (Complete v) ≡ w →
+      Behind d (Begun d w) (IsWhole goal w) S v m []
   wants_hand d bottom v m w e = (refl, sym e)
   wants_hand d (waits {p} k S) v m w e =
       elim (required (k v)) as (λ n. required (k v) ≡ n → wanted_behind S n ≡ w → Behind d (Begun d w) (IsWhole goal w) (waits k S) v m []) [
@@ -135,7 +143,8 @@ module _ {goal : Part} where
   wants_start d w ts h =
       elim h [
         | inl a ↦ an_item a
-        | inr (v, m, rest, sp, b) ↦ subst (λ x. Wants goal d x ts) (sym b.1) (the_end (m, subst (λ r. Spells d goal (text_form goal) v zero_count ts m r) b.0 sp))
+        | inr (v, m, rest, sp, b) ↦ subst (λ x. Wants goal d x ts) (sym b.1)
+            (the_end (m, subst (λ r. Spells d goal (text_form goal) v zero_count ts m r) b.0 sp))
       ]
 
   pub wants_front : (d : Demands) {s : State goal} {front : List Token} → Walk d (start goal) front s → Wants goal d (wanted s) front
@@ -149,13 +158,15 @@ module _ {goal : Part} where
   wants_run d w front (an_item b) = wants b (proper_text goal) bottom
   wants_run d w front (the_end {v} is) = (Some v, reads_cell d v front is)
 
-  ended_here : (d : Demands) (s : State goal) (tokens : List Token) (out : Outcome goal) (a : Option (Tree goal)) (w : What) → Ending d s tokens out → out ≡ Ended a w → (n : State goal) × Walk d s tokens n × (wanted n ≡ w)
+  ended_here : (d : Demands) (s : State goal) (tokens : List Token) (out : Outcome goal) (a : Option (Tree goal)) (w : What) → Ending d s tokens out →
+      out ≡ Ended a w → (n : State goal) × Walk d s tokens n × (wanted n ≡ w)
   ended_here d s tokens out a w (at_the_end {s'} k) e =
       let r = at_end_wants (wanted s') (step d s' None) in
       let h = sym r.1 ∙ e in
       (s', k, cc)
   ended_here d s tokens out a w (at_a_token {s'} front t behind whole k n) e =
-      elim (step d s' (Some t)) as (λ x. step d s' (Some t) ≡ x → follow (λ n. run d behind n) (wanted s') (suc (length behind)) x ≡ Ended a w → (n : State goal) × Walk d s tokens n × (wanted n ≡ w)) [
+      elim (step d s' (Some t)) as (λ x. step d s' (Some t) ≡ x → follow (λ n. run d behind n) (wanted s') (suc (length behind)) x ≡ Ended a w →
+      (n : State goal) × Walk d s tokens n × (wanted n ≡ w)) [
         | Go m ↦ λ is h. absurd (n m is)
         | Accept c ↦ λ is h. absurd cc
         | Stuck ↦ λ is h. absurd cc

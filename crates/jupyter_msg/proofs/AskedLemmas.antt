@@ -15,11 +15,13 @@ fitted_or-wrong : {A : Type 0} (wrong : Option Field) (x : A) (e : MsgFault) →
 fitted_or-wrong None x e h = cc
 fitted_or-wrong (Some f) x e h = let s : BadField f ≡ e = cc in ap Err s
 
-asked-content : (m : Octets) (h c : Data) (t : RequestType) → object_of m.header ≡ Some h → type_in h ≡ Ok t → object_of m.content ≡ Some c → asked m ≡ fitted_or (first_wrong (fields_of t) c) (t, c)
+asked-content : (m : Octets) (h c : Data) (t : RequestType) → object_of m.header ≡ Some h → type_in h ≡ Ok t → object_of m.content ≡ Some c →
+    asked m ≡ fitted_or (first_wrong (fields_of t) c) (t, c)
 asked-content m h c t p q r = rw (p, q, r)
 
 -- a wrong content is the refusal, where its error is handed on
-pub refused_content : {R : Type 0} (m : Octets) (h c : Data) (t : RequestType) (e : MsgFault) (r : Result R MsgFault) → object_of m.header ≡ Some h → type_in h ≡ Ok t → object_of m.content ≡ Some c
+pub refused_content : {R : Type 0} (m : Octets) (h c : Data) (t : RequestType) (e : MsgFault) (r : Result R MsgFault) → object_of m.header ≡ Some h →
+    type_in h ≡ Ok t → object_of m.content ≡ Some c
     → (e ≡ Memory) ⊎ (option_map BadField (first_wrong (fields_of t) c) ≡ Some e) → IsErrAnd r (λ f. f ≡ e) → IfErr r (λ f. (f ≡ Memory) ⊎ (asked m ≡ Err f))
 refused_content m h c t e (Ok x) p q s wrong told = tt
 refused_content m h c t e (Err f) p q s wrong told =
@@ -28,6 +30,7 @@ refused_content m h c t e (Err f) p q s wrong told =
     subst (λ (g : MsgFault). (g ≡ Memory) ⊎ (asked m ≡ Err g)) (sym told) here
 
 -- and a content that fits is asked
-pub asked-fits : (m : Octets) (h c : Data) (t u : RequestType) → object_of m.header ≡ Some h → type_in h ≡ Ok t → object_of m.content ≡ Some c → first_wrong (fields_of t) c ≡ None → u ≡ t → asked m ≡ Ok (u, c)
+pub asked-fits : (m : Octets) (h c : Data) (t u : RequestType) → object_of m.header ≡ Some h → type_in h ≡ Ok t → object_of m.content ≡ Some c →
+    first_wrong (fields_of t) c ≡ None → u ≡ t → asked m ≡ Ok (u, c)
 asked-fits m h c t u p q r fits same =
     asked-content m h c t p q r ∙ ap (λ (o : Option Field). fitted_or o (t, c)) fits ∙ ap (λ (v : RequestType). Ok (v, c)) (sym same)

@@ -26,7 +26,8 @@ object_of-read text d u e = when_true (is_utf8 text) (read text) (Some d) (is_ut
 pub object_of-empty : object_of (123 ∷ 125 ∷ []) ≡ Some (object no_members)
 unfolding lex punctuate value members
 object_of-empty =
-    object_of-read (123 ∷ 125 ∷ []) (object no_members) (IsUtf8-from_ascii (123 ∷ 125 ∷ []) (IsAscii-cons 123 (125 ∷ []) (omega arith) (IsAscii-cons 125 [] (omega arith) IsAscii-nil))) refl
+    object_of-read (123 ∷ 125 ∷ []) (object no_members)
+    (IsUtf8-from_ascii (123 ∷ 125 ∷ []) (IsAscii-cons 123 (125 ∷ []) (omega arith) (IsAscii-cons 125 [] (omega arith) IsAscii-nil))) refl
 
 pub object_of-unread : (text : List ℕ) → (IsUtf8 text → read text ≡ None) → object_of text ≡ None
 unfolding object_of

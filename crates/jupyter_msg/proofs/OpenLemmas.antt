@@ -1,5 +1,6 @@
 -- Which frames are a message, and why others are refused.
-use Rattle.std.proofs.Common.{◌≡◌, ◌≢◌, ◌⊎◌, inl, inr, ℕ, List, [], ◌∷◌, ◌++◌, length, ◌≤◌, Bool, true, false, not, cond, Option, Some, None, Result, Ok, Err, IfOk, IfErr, MatchResult, refl, sym, ap, ◌∙◌, subst, arith}
+use Rattle.std.proofs.Common.{◌≡◌, ◌≢◌, ◌⊎◌, inl, inr, ℕ, List, [], ◌∷◌, ◌++◌, length, ◌≤◌, Bool, true, false, not, cond, Option, Some, None, Result, Ok, Err}
+use Rattle.std.proofs.Common.{IfOk, IfErr, MatchResult, refl, sym, ap, ◌∙◌, subst, arith}
 use Rattle.std.specs.List.{AllByRecursion}
 use Rattle.std.proofs.lemmas.List.Elements.{recursion_from_All}
 use Rattle.jupyter_msg.specs.Object.{is_object}
@@ -13,13 +14,15 @@ use Rattle.jupyter_msg.specs.declared.message.Opened.{Opened}
 use Rattle.jupyter_msg.specs.declared.message.ReadParts.{ReadParts}
 use Rattle.jupyter_msg.specs.declared.fault.Part.TheVariants.{Header, Parent, Metadata, Content}
 use Rattle.jupyter_msg.specs.declared.fault.MsgFault.{MsgFault}
-use Rattle.jupyter_msg.specs.declared.fault.MsgFault.TheVariants.{NoDelimiter, ShortMessage, BadSignature, NotJson, BadField, UnknownType, Memory, BadConnection}
+use Rattle.jupyter_msg.specs.declared.fault.MsgFault.TheVariants.{NoDelimiter, ShortMessage, BadSignature, NotJson, BadField, UnknownType, Memory}
+use Rattle.jupyter_msg.specs.declared.fault.MsgFault.TheVariants.{BadConnection}
 
 -- ---- the order of refusals
 
 abbrev judged : Bool → Bool → Bool → Bool → Bool → Option MsgFault
 judged f a b c d =
-    cond f (cond (not a) (Some (NotJson Header)) (cond (not b) (Some (NotJson Parent)) (cond (not c) (Some (NotJson Metadata)) (cond (not d) (Some (NotJson Content)) None)))) (Some BadSignature)
+    cond f (cond (not a) (Some (NotJson Header))
+    (cond (not b) (Some (NotJson Parent)) (cond (not c) (Some (NotJson Metadata)) (cond (not d) (Some (NotJson Content)) None)))) (Some BadSignature)
 
 record AllPassed (f a b c d : Bool) : Type 0 where
   signed : f ≡ true
@@ -48,10 +51,12 @@ five_after key (a ∷ b ∷ []) h = cc
 five_after key (a ∷ b ∷ c ∷ []) h = cc
 five_after key (a ∷ b ∷ c ∷ d ∷ []) h = cc
 
-pub message_of : (key : List ℕ) (frames identities after : List (List ℕ)) (signature : List ℕ) (m : Octets) → IsCut frames identities after → refusal_after key after ≡ None
+pub message_of : (key : List ℕ) (frames identities after : List (List ℕ)) (signature : List ℕ) (m : Octets) → IsCut frames identities after →
+    refusal_after key after ≡ None
     → m.identities ≡ identities → after ≡ after_delimiter signature m → IsMessage key frames m
 message_of key frames identities after signature m cut passed same e =
-    let p = all_passed (fits key signature (text_of m)) (is_object m.header) (is_object m.parent) (is_object m.metadata) (is_object m.content) (ap (refusal_after key) (sym e) ∙ passed) in
+    let p = all_passed (fits key signature (text_of m)) (is_object m.header) (is_object m.parent) (is_object m.metadata) (is_object m.content)
+    (ap (refusal_after key) (sym e) ∙ passed) in
     record {
       signature = signature;
       cut = subst (λ ids. IsCut frames ids (after_delimiter signature m)) (sym same) (subst (IsCut frames identities) e cut);
@@ -61,7 +66,8 @@ message_of key frames identities after signature m cut passed same e =
 
 -- ---- one cut, one message, one refusal
 
-once : {X : Type 0} (x : X) (us bs cs ds : List X) → AllByRecursion (λ y. y ≢ x) us → AllByRecursion (λ y. y ≢ x) cs → us ++ x ∷ bs ≡ cs ++ x ∷ ds → (us ≡ cs) × (bs ≡ ds)
+once : {X : Type 0} (x : X) (us bs cs ds : List X) → AllByRecursion (λ y. y ≢ x) us → AllByRecursion (λ y. y ≢ x) cs → us ++ x ∷ bs ≡ cs ++ x ∷ ds → (us ≡ cs) ×
+    (bs ≡ ds)
 once x [] bs [] ds g h e = (refl, cc)
 once x [] bs (c ∷ cs) ds g h e = let s : c ≡ x = cc in absurd (h.0 s)
 once x (a ∷ us) bs [] ds g h e = let s : a ≡ x = cc in absurd (g.0 s)
@@ -86,15 +92,18 @@ no_cut frames us bs none cut =
 abbrev made : List (List ℕ) → List ℕ → List ℕ → List ℕ → List ℕ → List (List ℕ) → Octets
 made ids h p d c bs = record { identities = ids; header = h; parent = p; metadata = d; content = c; buffers = bs }
 
-same_octets : (m n : Octets) → m.identities ≡ n.identities → m.header ≡ n.header → m.parent ≡ n.parent → m.metadata ≡ n.metadata → m.content ≡ n.content → m.buffers ≡ n.buffers → m ≡ n
+same_octets : (m n : Octets) → m.identities ≡ n.identities → m.header ≡ n.header → m.parent ≡ n.parent → m.metadata ≡ n.metadata → m.content ≡ n.content →
+    m.buffers ≡ n.buffers → m ≡ n
 same_octets m n i h p d c b =
-    let e : made m.identities m.header m.parent m.metadata m.content m.buffers ≡ made n.identities n.header n.parent n.metadata n.content n.buffers = rw (i, h, p, d, c, b) in e
+    let e : made m.identities m.header m.parent m.metadata m.content m.buffers ≡ made n.identities n.header n.parent n.metadata n.content n.buffers =
+    rw (i, h, p, d, c, b) in e
 
 same_message : (key : List ℕ) (frames : List (List ℕ)) (m n : Octets) → IsMessage key frames m → IsMessage key frames n → m ≡ n
 same_message key frames m n p q =
     let u = cut_once frames m.identities _ n.identities _ p.cut q.cut in
     let i : m.identities ≡ n.identities = u.0 in
-    let a : p.signature ∷ m.header ∷ m.parent ∷ m.metadata ∷ m.content ∷ m.buffers ≡ q.signature ∷ n.header ∷ n.parent ∷ n.metadata ∷ n.content ∷ n.buffers = u.1 in
+    let a : p.signature ∷ m.header ∷ m.parent ∷ m.metadata ∷ m.content ∷ m.buffers ≡ q.signature ∷ n.header ∷ n.parent ∷ n.metadata ∷ n.content ∷ n.buffers =
+    u.1 in
     let h : m.header ≡ n.header = cc in
     let g : m.parent ≡ n.parent = cc in
     let d : m.metadata ≡ n.metadata = cc in
@@ -104,7 +113,8 @@ same_message key frames m n p q =
 
 passed_after : (key : List ℕ) (frames : List (List ℕ)) (m : Octets) (p : IsMessage key frames m) → refusal_after key (after_delimiter p.signature m) ≡ None
 passed_after key frames m p =
-    none_refused (fits key p.signature (text_of m)) (is_object m.header) (is_object m.parent) (is_object m.metadata) (is_object m.content) p.signed p.objects.header p.objects.parent p.objects.metadata p.objects.content
+    none_refused (fits key p.signature (text_of m)) (is_object m.header) (is_object m.parent) (is_object m.metadata) (is_object m.content)
+    p.signed p.objects.header p.objects.parent p.objects.metadata p.objects.content
 
 none_some : {A : Type 0} {a : A} → None ≡ Some a → ⊥
 none_some e = cc
@@ -119,7 +129,8 @@ record RefusedAfter (key : List ℕ) (frames : List (List ℕ)) (fault : MsgFaul
   cut : IsCut frames identities after
   refusal : refusal_after key after ≡ Some fault
 
-by_place : (key : List ℕ) (frames : List (List ℕ)) (fault : MsgFault) → IsRefused key frames fault → ((fault ≡ NoDelimiter) × NoneIsDelimiter frames) ⊎ RefusedAfter key frames fault
+by_place : (key : List ℕ) (frames : List (List ℕ)) (fault : MsgFault) → IsRefused key frames fault → ((fault ≡ NoDelimiter) × NoneIsDelimiter frames) ⊎
+    RefusedAfter key frames fault
 by_place key frames NoDelimiter h = inl (refl, h)
 by_place key frames ShortMessage h = inr (record { identities = h.0; after = h.1; cut = h.2; refusal = h.3 })
 by_place key frames BadSignature h = inr (record { identities = h.0; after = h.1; cut = h.2; refusal = h.3 })
@@ -146,7 +157,8 @@ after_is_found key (a ∷ b ∷ c ∷ []) h = cc
 after_is_found key (a ∷ b ∷ c ∷ d ∷ []) h = cc
 
 -- a refusal that `refusal_after` gives is one that comes after a delimiter
-pub refused_after : (key : List ℕ) (frames identities after : List (List ℕ)) (fault : MsgFault) → IsCut frames identities after → refusal_after key after ≡ Some fault → IsRefused key frames fault
+pub refused_after : (key : List ℕ) (frames identities after : List (List ℕ)) (fault : MsgFault) → IsCut frames identities after →
+    refusal_after key after ≡ Some fault → IsRefused key frames fault
 refused_after key frames identities after NoDelimiter cut e = absurd (after_is_found key after e)
 refused_after key frames identities after ShortMessage cut e = (identities, after, cut, e)
 refused_after key frames identities after BadSignature cut e = (identities, after, cut, e)
@@ -177,7 +189,8 @@ same_refusal key frames e fault p q =
     ]
 
 -- what a refusal is, once the frames are cut
-refusal_at : (key : List ℕ) (frames identities after : List (List ℕ)) (fault : MsgFault) → IsCut frames identities after → IsRefused key frames fault → refusal_after key after ≡ Some fault
+refusal_at : (key : List ℕ) (frames identities after : List (List ℕ)) (fault : MsgFault) → IsCut frames identities after → IsRefused key frames fault →
+    refusal_after key after ≡ Some fault
 refusal_at key frames identities after fault cut q =
     elim (by_place key frames fault q) [
       | inl h ↦ absurd (no_cut frames identities after h.1 cut)
@@ -190,42 +203,53 @@ refusal_at key frames identities after fault cut q =
 abbrev seen : Opened → Octets
 seen o = octets_of o.message
 
-pub every_message : (key : List ℕ) (frames : List (List ℕ)) (r : Result Opened MsgFault) → IfOk r (λ m. IsMessage key frames (seen m)) → IfErr r (λ e. (e ≡ Memory) ⊎ IsRefused key frames e)
+pub every_message : (key : List ℕ) (frames : List (List ℕ)) (r : Result Opened MsgFault) → IfOk r (λ m. IsMessage key frames (seen m)) →
+    IfErr r (λ e. (e ≡ Memory) ⊎ IsRefused key frames e)
     → (m : Octets) → IsMessage key frames m → MatchResult r (λ x. seen x ≡ m) (λ e. e ≡ Memory)
 every_message key frames (Ok x) ok err m p = same_message key frames (seen x) m ok p
 every_message key frames (Err e) ok err m p = elim err [ inl h ↦ h | inr h ↦ absurd (message_not_refused key frames m e p h) ]
 
-pub exactly_refused : (key : List ℕ) (frames : List (List ℕ)) (r : Result Opened MsgFault) → IfOk r (λ m. IsMessage key frames (seen m)) → IfErr r (λ e. (e ≡ Memory) ⊎ IsRefused key frames e)
+pub exactly_refused : (key : List ℕ) (frames : List (List ℕ)) (r : Result Opened MsgFault) → IfOk r (λ m. IsMessage key frames (seen m)) →
+    IfErr r (λ e. (e ≡ Memory) ⊎ IsRefused key frames e)
     → (fault : MsgFault) → IsRefused key frames fault → MatchResult r (λ _. ⊥) (λ e. (e ≡ Memory) ⊎ (e ≡ fault))
 exactly_refused key frames (Ok x) ok err fault q = message_not_refused key frames (seen x) fault ok q
 exactly_refused key frames (Err e) ok err fault q = elim err [ inl h ↦ inl h | inr h ↦ inr (same_refusal key frames e fault h q) ]
 
-pub no_delimiter_early : (key : List ℕ) (frames : List (List ℕ)) → NoneIsDelimiter frames → (fault : MsgFault) → IsRefused key frames fault → NoDelimiter ≡ fault
+pub no_delimiter_early : (key : List ℕ) (frames : List (List ℕ)) → NoneIsDelimiter frames → (fault : MsgFault) → IsRefused key frames fault →
+    NoDelimiter ≡ fault
 no_delimiter_early key frames none fault q = same_refusal key frames NoDelimiter fault none q
 
-pub passed_early : (key : List ℕ) (frames identities after : List (List ℕ)) (r : Result Opened MsgFault) → IsCut frames identities after → refusal_after key after ≡ None
+pub passed_early : (key : List ℕ) (frames identities after : List (List ℕ)) (r : Result Opened MsgFault) → IsCut frames identities after →
+    refusal_after key after ≡ None
     → (fault : MsgFault) → IsRefused key frames fault → r ≡ Err fault
 passed_early key frames identities after r cut passed fault q = absurd (none_some (sym passed ∙ refusal_at key frames identities after fault cut q))
 
-pub refused_early : (key : List ℕ) (frames identities after : List (List ℕ)) (r : Result Opened MsgFault) (checked : Result ReadParts MsgFault) (e fault : MsgFault) → IsCut frames identities after → r ≡ Err e
+pub refused_early : (key : List ℕ) (frames identities after : List (List ℕ)) (r : Result Opened MsgFault) (checked : Result ReadParts MsgFault)
+    (e fault : MsgFault) → IsCut frames identities after → r ≡ Err e
     → checked ≡ Err e → (refusal_after key after ≡ Some fault → checked ≡ Err fault) → IsRefused key frames fault → r ≡ Err fault
-refused_early key frames identities after r checked e fault cut s at early q = let t = early (refusal_at key frames identities after fault cut q) in let u : e ≡ fault = cc in s ∙ ap Err u
+refused_early key frames identities after r checked e fault cut s at early q = let t = early (refusal_at key frames identities after fault cut q) in
+    let u : e ≡ fault = cc in s ∙ ap Err u
 
 -- ---- what is taken apart
 
-pub taken_message : (key : List ℕ) (frames identities after : List (List ℕ)) (r : Result Opened MsgFault) → IsCut frames identities after → refusal_after key after ≡ None
-    → IfOk r (λ m. octets m.message.identities.items ≡ identities) → IfOk r (λ m. (signature : List ℕ) × (after ≡ after_delimiter signature (seen m))) → IfOk r (λ m. IsMessage key frames (seen m))
+pub taken_message : (key : List ℕ) (frames identities after : List (List ℕ)) (r : Result Opened MsgFault) → IsCut frames identities after →
+    refusal_after key after ≡ None
+    → IfOk r (λ m. octets m.message.identities.items ≡ identities) → IfOk r (λ m. (signature : List ℕ) × (after ≡ after_delimiter signature (seen m))) →
+    IfOk r (λ m. IsMessage key frames (seen m))
 taken_message key frames identities after (Ok m) cut passed same e = message_of key frames identities after e.0 (seen m) cut passed same e.1
 taken_message key frames identities after (Err fault) cut passed same e = tt
 
-pub memory_refused : (key : List ℕ) (frames : List (List ℕ)) (r : Result Opened MsgFault) → IfErr r (λ e. e ≡ Memory) → IfErr r (λ e. (e ≡ Memory) ⊎ IsRefused key frames e)
+pub memory_refused : (key : List ℕ) (frames : List (List ℕ)) (r : Result Opened MsgFault) → IfErr r (λ e. e ≡ Memory) →
+    IfErr r (λ e. (e ≡ Memory) ⊎ IsRefused key frames e)
 memory_refused key frames (Ok m) h = tt
 memory_refused key frames (Err e) h = inl h
 
-pub judged_refused : (key : List ℕ) (frames identities after : List (List ℕ)) (e : MsgFault) → IsCut frames identities after → (e ≡ Memory) ⊎ (refusal_after key after ≡ Some e) → (e ≡ Memory) ⊎ IsRefused key frames e
+pub judged_refused : (key : List ℕ) (frames identities after : List (List ℕ)) (e : MsgFault) → IsCut frames identities after → (e ≡ Memory) ⊎
+    (refusal_after key after ≡ Some e) → (e ≡ Memory) ⊎ IsRefused key frames e
 judged_refused key frames identities after e cut h = elim h [ inl m ↦ inl m | inr r ↦ inr (refused_after key frames identities after e cut r) ]
 
-pub refused_at : (key : List ℕ) (frames : List (List ℕ)) (r : Result Opened MsgFault) (e : MsgFault) → r ≡ Err e → (e ≡ Memory) ⊎ IsRefused key frames e → IfErr r (λ e. (e ≡ Memory) ⊎ IsRefused key frames e)
+pub refused_at : (key : List ℕ) (frames : List (List ℕ)) (r : Result Opened MsgFault) (e : MsgFault) → r ≡ Err e → (e ≡ Memory) ⊎ IsRefused key frames e →
+    IfErr r (λ e. (e ≡ Memory) ⊎ IsRefused key frames e)
 refused_at key frames r e s h = subst (λ r. IfErr r (λ e. (e ≡ Memory) ⊎ IsRefused key frames e)) (sym s) h
 
 pub not_message : (key : List ℕ) (frames : List (List ℕ)) (r : Result Opened MsgFault) (e : MsgFault) → r ≡ Err e → IfOk r (λ m. IsMessage key frames (seen m))
@@ -233,7 +257,8 @@ not_message key frames r e s = subst (λ r. IfOk r (λ m. IsMessage key frames (
 
 -- what was read from the frames is what was read of the message
 pub taken_read : (after : List (List ℕ)) (p : ReadParts) (r : Result Opened MsgFault) → AreReadAfter p after
-    → IfOk r (λ o. (signature : List ℕ) × (after ≡ after_delimiter signature (seen o))) → IfOk r (λ o. (o.header ≡ p.header) × (o.content ≡ p.content)) → IfOk r IsRead
+    → IfOk r (λ o. (signature : List ℕ) × (after ≡ after_delimiter signature (seen o))) → IfOk r (λ o. (o.header ≡ p.header) × (o.content ≡ p.content)) →
+    IfOk r IsRead
 taken_read after p (Ok o) from e same =
     let here = subst (AreReadAfter p) e.1 from in
     record { header = here.header_is ∙ ap (λ v. Some (view v)) (sym same.0); content = here.content_is ∙ ap (λ v. Some (view v)) (sym same.1) }
@@ -248,7 +273,8 @@ fits_itself : (key text : List ℕ) → fits key (signature_of key text) text �
 fits_itself [] text = refl
 fits_itself (k ∷ ks) text = (bytes_eq-Decides (signature_of (k ∷ ks) text) (signature_of (k ∷ ks) text)).1 refl
 
-pub sealed_is_message : (key : List ℕ) (m : Octets) (frames : List (List ℕ)) → frames ≡ frames_of key m → AreObjects m → NoneIsDelimiter m.identities → IsMessage key frames m
+pub sealed_is_message : (key : List ℕ) (m : Octets) (frames : List (List ℕ)) → frames ≡ frames_of key m → AreObjects m → NoneIsDelimiter m.identities →
+    IsMessage key frames m
 sealed_is_message key m frames e objects none = record {
   signature = signature_of key (text_of m);
   cut = record { frames_are = e; first = none };

@@ -5,7 +5,8 @@ use Rattle.std.specs.Str.{bytes_eq}
 use Rattle.std.proofs.lemmas.Slice.Eq.{bytes_eq-Decides}
 use Rattle.jupyter_msg.specs.RequestType.{type_name, all_types, type_named}
 use Rattle.jupyter_msg.specs.declared.request_type.RequestType.{RequestType}
-use Rattle.jupyter_msg.specs.declared.request_type.RequestType.TheVariants.{KernelInfo, Execute, Complete, Inspect, IsComplete, History, CommInfo, Interrupt, Shutdown, CommOpen, CommMessage, CommClose}
+use Rattle.jupyter_msg.specs.declared.request_type.RequestType.TheVariants.{KernelInfo, Execute, Complete, Inspect, IsComplete, History, CommInfo, Interrupt}
+use Rattle.jupyter_msg.specs.declared.request_type.RequestType.TheVariants.{Shutdown, CommOpen, CommMessage, CommClose}
 
 type_named-type_name : (t : RequestType) → type_named (type_name t) ≡ Some t
 unfolding type_named

@@ -8,11 +8,13 @@
 //! | Request | Fields | Not looked at |
 //! |---|---|---|
 //! | `kernel_info_request` | none | |
-//! | `execute_request` | `code`: text; `silent`: truth value (false); `store_history`: truth value (true, false if silent); `user_expressions`: object of texts (none) | `allow_stdin`, `stop_on_error` |
+//! | `execute_request` | `code`: text; `silent`: truth value (false); `store_history`: truth value (true, false if silent); | `allow_stdin`, `stop_on_error` |
+//! | | `user_expressions`: object of texts (none) | |
 //! | `complete_request` | `code`: text; `cursor_pos`: count (the end) | |
 //! | `inspect_request` | `code`: text; `cursor_pos`: count (the end) | `detail_level` |
 //! | `is_complete_request` | `code`: text | |
-//! | `history_request` | `hist_access_type`: `range`, `tail` or `search`; `output`: truth value (false); `session`: whole number (0); `start`: count (1); `stop`: count (none); `n`: count (10) | `raw`, `pattern`, `unique` |
+//! | `history_request` | `hist_access_type`: `range`, `tail` or `search`; `output`: truth value (false); `session`: whole number (0); | `raw`, `pattern`, |
+//! | | `start`: count (1); `stop`: count (none); `n`: count (10) | `unique` |
 //! | `comm_info_request` | `target_name`: text (all) | |
 //! | `interrupt_request` | none | |
 //! | `shutdown_request` | `restart`: truth value (false) | |

@@ -8,7 +8,8 @@ use Rattle.kernel_ask.specs.Added.{with_match, with_matches}
 
 -- ---- what the code puts in
 
-pub with_matches_more : (prefix : List ℕ) (known names : List (List ℕ)) (name : List ℕ) → with_matches prefix known (names ++ name ∷ []) ≡ with_match prefix (with_matches prefix known names) name
+pub with_matches_more : (prefix : List ℕ) (known names : List (List ℕ)) (name : List ℕ) → with_matches prefix known (names ++ name ∷ []) ≡ with_match prefix
+    (with_matches prefix known names) name
 with_matches_more prefix known [] name = refl
 with_matches_more prefix known (n ∷ ns) name = with_matches_more prefix (with_match prefix known n) ns name
 
@@ -31,19 +32,22 @@ pub matches_kept : (prefix : List ℕ) (known names : List (List ℕ)) (x : List
 matches_kept prefix known [] x h = h
 matches_kept prefix known (n ∷ ns) x h = matches_kept prefix (with_match prefix known n) ns x (match_kept (starts_with nat_eq n prefix) known n x h)
 
-pub matches_from : (prefix : List ℕ) (known names : List (List ℕ)) (x : List ℕ) → Contains (with_matches prefix known names) x → Contains known x ⊎ (Contains names x × IsTrue (starts_with nat_eq x prefix))
+pub matches_from : (prefix : List ℕ) (known names : List (List ℕ)) (x : List ℕ) → Contains (with_matches prefix known names) x → Contains known x ⊎
+    (Contains names x × IsTrue (starts_with nat_eq x prefix))
 matches_from prefix known [] x h = inl h
 matches_from prefix known (n ∷ ns) x h =
     elim (matches_from prefix (with_match prefix known n) ns x h) as (λ _. Contains known x ⊎ (Contains (n ∷ ns) x × IsTrue (starts_with nat_eq x prefix))) [
       | inl first ↦
-          elim (match_from (starts_with nat_eq n prefix) known n x first) as (λ _. Contains known x ⊎ (Contains (n ∷ ns) x × IsTrue (starts_with nat_eq x prefix))) [
+          elim (match_from (starts_with nat_eq n prefix) known n x first) as (λ _. Contains known x ⊎
+          (Contains (n ∷ ns) x × IsTrue (starts_with nat_eq x prefix))) [
             | inl old ↦ inl old
             | inr new ↦ inr (contains_first ns n x new.0, subst (λ (y : List ℕ). IsTrue (starts_with nat_eq y prefix)) new.0 new.1)
           ]
       | inr later ↦ inr (contains_later ns n x later.0, later.1)
     ]
 
-pub matches_there : (prefix : List ℕ) (known names : List (List ℕ)) (x : List ℕ) → Contains names x → IsTrue (starts_with nat_eq x prefix) → Contains (with_matches prefix known names) x
+pub matches_there : (prefix : List ℕ) (known names : List (List ℕ)) (x : List ℕ) → Contains names x → IsTrue (starts_with nat_eq x prefix) →
+    Contains (with_matches prefix known names) x
 matches_there prefix known [] x h fits = absurd (contains_none x h)
 matches_there prefix known (n ∷ ns) x h fits =
     elim (contains_cases ns n x h) as (λ _. Contains (with_matches prefix (with_match prefix known n) ns) x) [

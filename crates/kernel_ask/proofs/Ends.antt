@@ -1,5 +1,6 @@
 -- The name and the run at the end of code points, after one more of them.
-use Rattle.std.proofs.Common.{◌≡◌, ℕ, Bool, true, false, ◌&&◌, ◌||◌, ◌==◌, List, [], ◌∷◌, ◌++◌, length, take, get_or, ◌<◌, ◌≤◌, ◌+◌, refl, sym, ap, ◌∙◌, arith, if◌then◌else◌}
+use Rattle.std.proofs.Common.{◌≡◌, ℕ, Bool, true, false, ◌&&◌, ◌||◌, ◌==◌, List, [], ◌∷◌, ◌++◌, length, take, get_or, ◌<◌, ◌≤◌, ◌+◌, refl, sym, ap, ◌∙◌, arith}
+use Rattle.std.proofs.Common.{if◌then◌else◌}
 use Rattle.std.specs.List.{list_all}
 use Rattle.std.proofs.lemmas.List.{take_more}
 use Rattle.kernel_ask.specs.Cursor.{is_letter, is_digit, goes_on, is_name, longest_end}
@@ -40,7 +41,8 @@ name_by_cases false g x xs c rest more e h = h
 name_end_more : (xs : List ℕ) (c : ℕ) → longest_end is_name (xs ++ c ∷ []) ≡ grown_name (longest_end is_name xs) c
 name_end_more [] c = alone (is_letter c) c
 name_end_more (x ∷ xs) c =
-    ap (λ b. if b then x ∷ (xs ++ c ∷ []) else longest_end is_name (xs ++ c ∷ [])) (ap (λ b. is_letter x && b) (all_more goes_on xs c) ∙ and_assoc (is_letter x) (list_all goes_on xs) (goes_on c))
+    ap (λ b. if b then x ∷ (xs ++ c ∷ []) else longest_end is_name (xs ++ c ∷ []))
+    (ap (λ b. is_letter x && b) (all_more goes_on xs c) ∙ and_assoc (is_letter x) (list_all goes_on xs) (goes_on c))
     ∙ name_by_cases (is_name (x ∷ xs)) (goes_on c) x xs c (longest_end is_name xs) (longest_end is_name (xs ++ c ∷ [])) refl (name_end_more xs c)
 
 pub name_end_step : (cs : List ℕ) (i : ℕ) → i < length cs → longest_end is_name (take (i + 1) cs) ≡ grown_name (longest_end is_name (take i cs)) (get_or cs i 0)
@@ -60,10 +62,13 @@ run_by_cases false g x xs c rest more e h = h
 run_end_more : (xs : List ℕ) (c : ℕ) → longest_end (list_all goes_on) (xs ++ c ∷ []) ≡ grown_run (longest_end (list_all goes_on) xs) c
 run_end_more [] c = alone (goes_on c) c
 run_end_more (x ∷ xs) c =
-    ap (λ b. if b then x ∷ (xs ++ c ∷ []) else longest_end (list_all goes_on) (xs ++ c ∷ [])) (ap (λ b. goes_on x && b) (all_more goes_on xs c) ∙ and_assoc (goes_on x) (list_all goes_on xs) (goes_on c))
-    ∙ run_by_cases (list_all goes_on (x ∷ xs)) (goes_on c) x xs c (longest_end (list_all goes_on) xs) (longest_end (list_all goes_on) (xs ++ c ∷ [])) refl (run_end_more xs c)
+    ap (λ b. if b then x ∷ (xs ++ c ∷ []) else longest_end (list_all goes_on) (xs ++ c ∷ []))
+    (ap (λ b. goes_on x && b) (all_more goes_on xs c) ∙ and_assoc (goes_on x) (list_all goes_on xs) (goes_on c))
+    ∙ run_by_cases (list_all goes_on (x ∷ xs)) (goes_on c) x xs c (longest_end (list_all goes_on) xs) (longest_end (list_all goes_on) (xs ++ c ∷ [])) refl
+    (run_end_more xs c)
 
-pub run_end_step : (cs : List ℕ) (i : ℕ) → i < length cs → longest_end (list_all goes_on) (take (i + 1) cs) ≡ grown_run (longest_end (list_all goes_on) (take i cs)) (get_or cs i 0)
+pub run_end_step : (cs : List ℕ) (i : ℕ) → i < length cs →
+    longest_end (list_all goes_on) (take (i + 1) cs) ≡ grown_run (longest_end (list_all goes_on) (take i cs)) (get_or cs i 0)
 run_end_step cs i h = ap (longest_end (list_all goes_on)) (take_more cs i 0 h) ∙ run_end_more (take i cs) (get_or cs i 0)
 
 -- ---- lengths

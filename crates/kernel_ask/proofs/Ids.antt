@@ -16,10 +16,12 @@ pub open_octets : (ks : List (String Global)) (id : List ℕ) → list_any (at_t
 open_octets [] id = refl
 open_octets (k ∷ ks) id = ap (λ b. is_same id (string_bytes k) || b) (open_octets ks id)
 
-removed : (b : Bool) (k : String Global) (ks rest : List (String Global)) (rest' : List (List ℕ)) → map string_bytes rest ≡ rest' → map string_bytes (if b then ks else k ∷ rest) ≡ (if b then map string_bytes ks else string_bytes k ∷ rest')
+removed : (b : Bool) (k : String Global) (ks rest : List (String Global)) (rest' : List (List ℕ)) → map string_bytes rest ≡ rest' →
+    map string_bytes (if b then ks else k ∷ rest) ≡ (if b then map string_bytes ks else string_bytes k ∷ rest')
 removed true k ks rest rest' e = refl
 removed false k ks rest rest' e = ap (λ xs. string_bytes k ∷ xs) e
 
 pub removed_octets : (ks : List (String Global)) (id : List ℕ) → map string_bytes (remove_key (at_text id) ks) ≡ without_id (map string_bytes ks) id
 removed_octets [] id = refl
-removed_octets (k ∷ ks) id = removed (is_same id (string_bytes k)) k ks (remove_key (at_text id) ks) (without_id (map string_bytes ks) id) (removed_octets ks id)
+removed_octets (k ∷ ks) id = removed (is_same id (string_bytes k)) k ks (remove_key (at_text id) ks) (without_id (map string_bytes ks) id)
+    (removed_octets ks id)

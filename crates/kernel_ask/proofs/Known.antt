@@ -39,7 +39,8 @@ known_from : (w : World) (prefix x : List ℕ) → Contains (all_matches w prefi
 known_from w prefix x h =
     elim (matches_from prefix (of_world w prefix) (map keyword_text KEYWORDS) x h) as (λ _. IsKnown w x × IsTrue (starts_with nat_eq x prefix)) [
       | inl world ↦
-          elim (matches_from prefix (with_matches prefix [] (names_of w.store)) (procedure_names w.procedures) x world) as (λ _. IsKnown w x × IsTrue (starts_with nat_eq x prefix)) [
+          elim (matches_from prefix (with_matches prefix [] (names_of w.store)) (procedure_names w.procedures) x world) as (λ _. IsKnown w x ×
+          IsTrue (starts_with nat_eq x prefix)) [
             | inl declared ↦
                 elim (matches_from prefix [] (names_of w.store) x declared) as (λ _. IsKnown w x × IsTrue (starts_with nat_eq x prefix)) [
                   | inl none ↦ absurd (contains_none x none)
@@ -53,14 +54,17 @@ known_from w prefix x h =
 known_there : (w : World) (prefix x : List ℕ) → IsKnown w x → IsTrue (starts_with nat_eq x prefix) → Contains (all_matches w prefix) x
 known_there w prefix x (inl declared) fits =
     matches_kept prefix (of_world w prefix) (map keyword_text KEYWORDS) x
-    (matches_kept prefix (with_matches prefix [] (names_of w.store)) (procedure_names w.procedures) x (matches_there prefix [] (names_of w.store) x declared fits))
+    (matches_kept prefix (with_matches prefix [] (names_of w.store)) (procedure_names w.procedures) x
+    (matches_there prefix [] (names_of w.store) x declared fits))
 known_there w prefix x (inr (inl defined)) fits =
-    matches_kept prefix (of_world w prefix) (map keyword_text KEYWORDS) x (matches_there prefix (with_matches prefix [] (names_of w.store)) (procedure_names w.procedures) x defined fits)
+    matches_kept prefix (of_world w prefix) (map keyword_text KEYWORDS) x
+    (matches_there prefix (with_matches prefix [] (names_of w.store)) (procedure_names w.procedures) x defined fits)
 known_there w prefix x (inr (inr reserved)) fits =
     matches_there prefix (of_world w prefix) (map keyword_text KEYWORDS) x
     (subst (λ (y : List ℕ). Contains (map keyword_text KEYWORDS) y) reserved.1 (word_there KEYWORDS reserved.0 (listed_keyword reserved.0))) fits
 
-pub are_matches : (w : World) (prefix : List ℕ) (names : List (List ℕ)) → IsStrictlySortedBy (slice_cmp nat_cmp) names → names ≡ all_matches w prefix → AreMatches w prefix names
+pub are_matches : (w : World) (prefix : List ℕ) (names : List (List ℕ)) → IsStrictlySortedBy (slice_cmp nat_cmp) names → names ≡ all_matches w prefix →
+    AreMatches w prefix names
 are_matches w prefix names sorted same = record {
   ordered = sorted;
   each = λ x. (

@@ -5,7 +5,8 @@ use Rattle.kernel_ask.specs.Wishes.{WishOf}
 use Rattle.kernel_ask.specs.declared.done.NamedValue.{NamedValue}
 use Rattle.kernel_ask.specs.Evaluation.{IsEvaluated, AreValues}
 
-pub values_more : (s : Store) (wishes : List WishOf) (values : List NamedValue) (wish : WishOf) (named : NamedValue) → AreValues s wishes values → string_bytes named.name ≡ wish.name → IsEvaluated s wish.exp named.value →
+pub values_more : (s : Store) (wishes : List WishOf) (values : List NamedValue) (wish : WishOf) (named : NamedValue) → AreValues s wishes values →
+    string_bytes named.name ≡ wish.name → IsEvaluated s wish.exp named.value →
     AreValues s (wishes ++ wish ∷ []) (values ++ named ∷ [])
 values_more s [] [] wish named so_far name value = (name, value, tt)
 values_more s [] (n ∷ ns) wish named so_far name value = absurd so_far

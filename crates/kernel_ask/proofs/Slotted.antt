@@ -44,30 +44,35 @@ below xs n k slots at =
     let same : slot n ≡ slot k = cc in
     subst (λ (i : ℕ). i < length xs) (sym (slot_number n k same)) within
 
-wide : (xs : List Name) (s : Store) → AreSlots xs → HaveValues s → ((x : Name) (v : Val) → look x (in_slots s) ≡ Fine v → (k : ℕ) × (slice_get xs k ≡ Some x)) → length (names_in s) ≤ length xs
+wide : (xs : List Name) (s : Store) → AreSlots xs → HaveValues s → ((x : Name) (v : Val) → look x (in_slots s) ≡ Fine v → (k : ℕ) × (slice_get xs k ≡ Some x)) →
+    length (names_in s) ≤ length xs
 wide xs Bare slots values met = omega arith
 wide xs (Slot x v s) slots values met =
     let n : ℕ = length (names_in s) in
-    let found : look (slot n) (in_slots (Slot x v s)) ≡ Fine v = ap (λ b. look_at b v (look (slot n) (in_slots s))) (same_name_self (slot n)) ∙ held v values.0 in
+    let found : look (slot n) (in_slots (Slot x v s)) ≡ Fine v = ap (λ b. look_at b v (look (slot n) (in_slots s))) (same_name_self (slot n))
+    ∙ held v values.0 in
     let at = met (slot n) v found in
     let less : n < length xs = below xs n at.0 slots at.1 in
     omega (arith, less)
 
-wide_enough : (h : StoreState) → AreKnown h → AreSlots h.names → HaveValues (shown_store h) → in_slots (shown_store h) ≡ h.slots → length (names_in (shown_store h)) ≤ length h.names
+wide_enough : (h : StoreState) → AreKnown h → AreSlots h.names → HaveValues (shown_store h) → in_slots (shown_store h) ≡ h.slots →
+    length (names_in (shown_store h)) ≤ length h.names
 wide_enough h known slots values sight =
     wide h.names (shown_store h) slots values (λ x v found. known x v (ap (look x) (sym sight) ∙ found))
 
 -- ---- the value
 
 -- in what is in sight an expression with slots has the value that it has, with names, in what is shown
-value_shown : (h : StoreState) (g : List Name) (e with_slots : Exp) → in_slots (shown_store h) ≡ h.slots → g ≡ names_in (shown_store h) → with_slots ≡ exp_in g e → value with_slots h.slots ≡ value e (shown_store h)
+value_shown : (h : StoreState) (g : List Name) (e with_slots : Exp) → in_slots (shown_store h) ≡ h.slots → g ≡ names_in (shown_store h) →
+    with_slots ≡ exp_in g e → value with_slots h.slots ≡ value e (shown_store h)
 value_shown h g e with_slots sight names is =
     ap (λ (t : Exp). value t h.slots) (is ∙ ap (λ (l : List Name). exp_in l e) names)
     ∙ ap (value (exp_in (names_in (shown_store h)) e)) (sym sight)
     ∙ value_in (shown_store h) (names_in (shown_store h)) refl e
 
 -- A flat expression that reads, over each table of slots, as the tree with slots in place of the declared names, has the tree's value.
-pub is_slotted : (h : StoreState) (env none : Known) (e : Exp) (flat : FlatExp) → IsWhole h → HaveValues (shown_store h) → AreKnown h → AreSlots h.names → in_slots (shown_store h) ≡ declared_store h →
+pub is_slotted : (h : StoreState) (env none : Known) (e : Exp) (flat : FlatExp) → IsWhole h → HaveValues (shown_store h) → AreKnown h → AreSlots h.names →
+    in_slots (shown_store h) ≡ declared_store h →
     shape_in env.names ≡ shape_of (shown_store h) → none.names ≡ [] →
     ((xs : List Name) → AreSlots xs → HasNumbers xs flat → exp_of xs flat ≡ exp_in (names_of (over (shape_in env.names) none.names)) e) →
     ((xs : List Name) → length (over (shape_in env.names) none.names) ≤ length xs → HasNumbers xs flat) → IsSlotted h flat e

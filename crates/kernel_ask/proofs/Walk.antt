@@ -1,10 +1,12 @@
 -- The minutes, read from their end.
-use Rattle.std.proofs.Common.{◌≡◌, ℕ, zero, suc, ◌+◌, ◌-◌, ◌*◌, ◌<◌, ◌≤◌, Bool, true, false, List, [], ◌∷◌, ◌++◌, length, take, drop, map, reverse, refl, sym, ap, ◌∙◌, subst, arith}
+use Rattle.std.proofs.Common.{◌≡◌, ℕ, zero, suc, ◌+◌, ◌-◌, ◌*◌, ◌<◌, ◌≤◌, Bool, true, false, List, [], ◌∷◌, ◌++◌, length, take, drop, map, reverse, refl, sym}
+use Rattle.std.proofs.Common.{ap, ◌∙◌, subst, arith}
 use Rattle.std.specs.List.{flat_map}
 use Rattle.std.specs.Int.{from_bool}
 use Rattle.std.specs.Prelude.{if◌then◌else◌}
 use Rattle.std.proofs.lemmas.Grind.{flat_map-append}
-use Rattle.std.proofs.lemmas.List.{append-nil, append_assoc, length-append, length-take, map-append, take_all, take-append-le, drop_all, drop-append-le, reverse-append}
+use Rattle.std.proofs.lemmas.List.{append-nil, append_assoc, length-append, length-take, map-append, take_all, take-append-le, drop_all, drop-append-le}
+use Rattle.std.proofs.lemmas.List.{reverse-append}
 use Rattle.kernel_core.specs.Request.{Request, RunCell, Undo, Redo, Goto, is_counted, raised}
 use Rattle.kernel_core.specs.Minutes.{Entry, Posted, Ended, Post, posts_of, posted_in, ended_in}
 use Rattle.kernel_core.specs.Runs.{Machine}
@@ -27,7 +29,8 @@ mapped rest front e x split is = ap (map entry_of) split ∙ map-append entry_of
 
 -- ---- the last end
 
-pub end_behind : (given : ℕ × ℕ) (es : List Entry) (number : ℕ) (o : Outcome) (count node : ℕ) → last_end given (es ++ Ended number o count node ∷ []) ≡ (number, count)
+pub end_behind : (given : ℕ × ℕ) (es : List Entry) (number : ℕ) (o : Outcome) (count node : ℕ) →
+    last_end given (es ++ Ended number o count node ∷ []) ≡ (number, count)
 end_behind given [] number o count node = refl
 end_behind given (Posted lane job ∷ es) number o count node = end_behind given es number o count node
 end_behind given (Ended n p c m ∷ es) number o count node = end_behind (n, c) es number o count node
@@ -104,7 +107,8 @@ posts_end es number o count node = posts-append es (Ended number o count node �
 
 -- ---- what the last end tells
 
-ends_last : (a : Account) (waiting : List Request) (number : ℕ) (o : Outcome) (count node : ℕ) (b : Account) → EndsFirst a waiting number o count node b → (b.ended ≡ number) × (b.counter ≡ count)
+ends_last : (a : Account) (waiting : List Request) (number : ℕ) (o : Outcome) (count node : ℕ) (b : Account) → EndsFirst a waiting number o count node b →
+    (b.ended ≡ number) × (b.counter ≡ count)
 ends_last a [] number o count node b h = absurd h
 ends_last a (job ∷ rest) number o count node b h = (ap (λ (x : Account). x.ended) h.5, ap (λ (x : Account). x.counter) h.5)
 
@@ -118,7 +122,8 @@ give_last a b (Ended number o count node ∷ es) g =
 -- The jobs that have ended are the first ones, and the others are as many as there are more posts than ends.
 pub record Told (minutes : List Entry) (counter : ℕ) : Type 0 where
   pub ended : 2 * (last_end (0, 0) minutes).0 ≤ length minutes
-  pub all : (n : ℕ) → n + counted_to (posted_in minutes - (length minutes - 2 * (last_end (0, 0) minutes).0)) (posts_of minutes) ≡ counted_in minutes → (last_end (0, 0) minutes).1 + n ≡ counted_in minutes
+  pub all : (n : ℕ) → n + counted_to (posted_in minutes - (length minutes - 2 * (last_end (0, 0) minutes).0)) (posts_of minutes) ≡ counted_in minutes →
+      (last_end (0, 0) minutes).1 + n ≡ counted_in minutes
   pub begun : counter ≤ counted_in minutes
   pub short : counted_in minutes ≤ length minutes
 
@@ -159,7 +164,8 @@ told_of m k =
     let first : posted_in es - (length es - 2 * (last_end (0, 0) es).0) ≡ a.ended = omega arith in
     record {
       ended = omega arith;
-      all = λ n e. (let same : counted_to (posted_in es - (length es - 2 * (last_end (0, 0) es).0)) (posts_of es) ≡ a.counter = ap (λ (j : ℕ). counted_to j (posts_of es)) first ∙ sym counts.0 in omega arith);
+      all = λ n e. (let same : counted_to (posted_in es - (length es - 2 * (last_end (0, 0) es).0)) (posts_of es) ≡ a.counter = ap
+          (λ (j : ℕ). counted_to j (posts_of es)) first ∙ sym counts.0 in omega arith);
       begun = omega arith;
       short = omega arith;
     }
@@ -171,17 +177,21 @@ told_by minutes counter h = subst (λ (n : ℕ). Told minutes n) h.2 (subst (λ 
 pub counted_by : (minutes : List Entry) (counter size n : ℕ) (last : ℕ × ℕ) → AreKept minutes counter → size ≡ length minutes → last ≡ last_end (0, 0) minutes →
     n + counted_to (posted_in minutes - (size - 2 * last.0)) (posts_of minutes) ≡ counted_in minutes → last.1 + n ≡ counted_in minutes
 counted_by minutes counter size n last h long is e =
-    let same : size - 2 * last.0 ≡ length minutes - 2 * (last_end (0, 0) minutes).0 = ap (λ (j : ℕ). j - 2 * last.0) long ∙ ap (λ (p : ℕ × ℕ). length minutes - 2 * p.0) is in
-    ap (λ (p : ℕ × ℕ). p.1 + n) is ∙ (told_by minutes counter h).all n (ap (λ (j : ℕ). n + counted_to (posted_in minutes - j) (posts_of minutes)) (sym same) ∙ e)
+    let same : size - 2 * last.0 ≡ length minutes - 2 * (last_end (0, 0) minutes).0 = ap (λ (j : ℕ). j - 2 * last.0) long
+    ∙ ap (λ (p : ℕ × ℕ). length minutes - 2 * p.0) is in
+    ap (λ (p : ℕ × ℕ). p.1 + n) is
+    ∙ (told_by minutes counter h).all n (ap (λ (j : ℕ). n + counted_to (posted_in minutes - j) (posts_of minutes)) (sym same) ∙ e)
 
 -- ---- the inputs before one more
 
 -- one that was begun
-pub begun_behind : (es : List Entry) (x : Entry) (text : List ℕ) (k before number : ℕ) → texts_in x ≡ text ∷ [] → number ≡ suc (counted_in es) → number ≤ k → before < number →
+pub begun_behind : (es : List Entry) (x : Entry) (text : List ℕ) (k before number : ℕ) → texts_in x ≡ text ∷ [] → number ≡ suc (counted_in es) → number ≤ k →
+    before < number →
     drop before (inputs (es ++ x ∷ []) k) ≡ drop before (inputs es k) ++ (number, text) ∷ []
 begun_behind es x text k before number one n few low =
     let ts = flat_map texts_in es in
-    let texts : flat_map texts_in (es ++ x ∷ []) ≡ ts ++ text ∷ [] = flat_map-append texts_in es (x ∷ []) ∙ ap (λ us. ts ++ us) (append-nil (texts_in x) ∙ one) in
+    let texts : flat_map texts_in (es ++ x ∷ []) ≡ ts ++ text ∷ [] = flat_map-append texts_in es (x ∷ [])
+    ∙ ap (λ us. ts ++ us) (append-nil (texts_in x) ∙ one) in
     let size : length (ts ++ text ∷ []) ≡ length ts + 1 = length-append ts (text ∷ []) in
     let numbers = length_numbered 1 ts in
     let is : 1 + length ts ≡ number = omega arith in
@@ -201,7 +211,8 @@ waiting_behind es x text k one l =
 -- an entry that is no counted cell
 pub none_behind : (es : List Entry) (x : Entry) (k : ℕ) → texts_in x ≡ [] → inputs (es ++ x ∷ []) k ≡ inputs es k
 none_behind es x k none =
-    ap (λ us. numbered 1 (take k us)) (flat_map-append texts_in es (x ∷ []) ∙ ap (λ us. flat_map texts_in es ++ us) (append-nil (texts_in x) ∙ none) ∙ append-nil (flat_map texts_in es))
+    ap (λ us. numbered 1 (take k us))
+    (flat_map-append texts_in es (x ∷ []) ∙ ap (λ us. flat_map texts_in es ++ us) (append-nil (texts_in x) ∙ none) ∙ append-nil (flat_map texts_in es))
 
 pub none_counted : (es : List Kept) → length es ≡ 0 → counted_in (map entry_of es) ≡ 0
 none_counted [] e = refl
@@ -217,10 +228,12 @@ none_left es k before l =
 
 -- one more is told, in front of those that were
 pub told_before : (a was now told new : List (ℕ × List ℕ)) (p : ℕ × List ℕ) → now ≡ a ++ p ∷ [] → new ≡ told ++ p ∷ [] → a ++ reverse new ≡ now ++ reverse told
-told_before a was now told new p e f = ap (λ xs. a ++ reverse xs) f ∙ ap (λ xs. a ++ xs) (reverse-append told (p ∷ [])) ∙ sym (append_assoc a (p ∷ []) (reverse told)) ∙ ap (λ xs. xs ++ reverse told) (sym e)
+told_before a was now told new p e f = ap (λ xs. a ++ reverse xs) f ∙ ap (λ xs. a ++ xs) (reverse-append told (p ∷ []))
+    ∙ sym (append_assoc a (p ∷ []) (reverse told)) ∙ ap (λ xs. xs ++ reverse told) (sym e)
 
 -- the last inputs are those behind the others
-pub last_inputs : (minutes : List Entry) (counter n : ℕ) → AreKept minutes counter → drop (counter - n) (inputs minutes counter) ≡ told (Tail n) (inputs minutes counter)
+pub last_inputs : (minutes : List Entry) (counter n : ℕ) → AreKept minutes counter →
+    drop (counter - n) (inputs minutes counter) ≡ told (Tail n) (inputs minutes counter)
 last_inputs minutes counter n h =
     let t = (told_by minutes counter h).begun in
     let ts = flat_map texts_in minutes in
@@ -231,4 +244,5 @@ last_inputs minutes counter n h =
 
 pub map_reverse : {A B : Type 0} (f : A → B) (xs : List A) → map f (reverse xs) ≡ reverse (map f xs)
 map_reverse f [] = refl
-map_reverse f (x ∷ xs) = ap (map f) (reverse-append (x ∷ []) xs) ∙ map-append f (reverse xs) (x ∷ []) ∙ ap (λ ys. ys ++ f x ∷ []) (map_reverse f xs) ∙ sym (reverse-append (f x ∷ []) (map f xs))
+map_reverse f (x ∷ xs) = ap (map f) (reverse-append (x ∷ []) xs) ∙ map-append f (reverse xs) (x ∷ []) ∙ ap (λ ys. ys ++ f x ∷ []) (map_reverse f xs)
+    ∙ sym (reverse-append (f x ∷ []) (map f xs))

@@ -11,5 +11,6 @@ told_there (x ∷ entries) zero e h = let same : x ≡ e = cc in ap (λ (y : Ent
 told_there (x ∷ entries) (suc at) e h = told_there entries at e h
 
 -- so it is in the minutes of the machine that has these entries
-pub told_in : (entries : List Entry) (ms : List minutes.Entry) (at : ℕ) (e : Entry) → map entry_of entries ≡ ms → slice_get entries at ≡ Some e → slice_get ms at ≡ Some (entry_of e)
+pub told_in : (entries : List Entry) (ms : List minutes.Entry) (at : ℕ) (e : Entry) → map entry_of entries ≡ ms → slice_get entries at ≡ Some e →
+    slice_get ms at ≡ Some (entry_of e)
 told_in entries ms at e same h = subst (λ (l : List minutes.Entry). slice_get l at ≡ Some (entry_of e)) same (told_there entries at e h)

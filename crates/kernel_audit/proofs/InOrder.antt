@@ -7,11 +7,13 @@ use Rattle.kernel_core.specs.LegalMinutes.{Account, new_account, EndsFirst, Tell
 use Rattle.kernel_core.specs.outcome.Outcome.{Outcome}
 use Rattle.kernel_audit.specs.Marks.{EndsInOrder}
 
-one_end : (a : Account) (waiting : List Request) (number : ℕ) (o : Outcome) (count node : ℕ) (b : Account) → EndsFirst a waiting number o count node b → (number ≡ suc a.ended) × (b.ended ≡ number)
+one_end : (a : Account) (waiting : List Request) (number : ℕ) (o : Outcome) (count node : ℕ) (b : Account) → EndsFirst a waiting number o count node b →
+    (number ≡ suc a.ended) × (b.ended ≡ number)
 one_end a [] number o count node b h = absurd h
 one_end a (job ∷ rest) number o count node b h = (h.2, ap (λ (x : Account). x.ended) h.5)
 
-from_there : (a b : Account) (entries : List Entry) → Give a entries b → (at number : ℕ) (o : Outcome) (count node : ℕ) → slice_get entries at ≡ Some (Ended number o count node) → number ≡ suc (a.ended + ended_in (take at entries))
+from_there : (a b : Account) (entries : List Entry) → Give a entries b → (at number : ℕ) (o : Outcome) (count node : ℕ) →
+    slice_get entries at ≡ Some (Ended number o count node) → number ≡ suc (a.ended + ended_in (take at entries))
 from_there a b [] g at number o count node h = absurd (cc)
 from_there a b (e ∷ entries) g zero number o count node h =
     let is : e ≡ Ended number o count node = cc in

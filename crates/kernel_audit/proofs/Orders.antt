@@ -1,5 +1,6 @@
 -- Lists whose neighbours are in order.
-use Rattle.std.proofs.Common.{◌≡◌, ℕ, ◌+◌, ◌<◌, ◌≤◌, ◌==◌, Bool, true, false, List, [], ◌∷◌, get_or, length, zero, suc, refl, ap, sym, subst, ◌∙◌, arith, count_by, cond}
+use Rattle.std.proofs.Common.{◌≡◌, ℕ, ◌+◌, ◌<◌, ◌≤◌, ◌==◌, Bool, true, false, List, [], ◌∷◌, get_or, length, zero, suc, refl, ap, sym, subst, ◌∙◌, arith}
+use Rattle.std.proofs.Common.{count_by, cond}
 use Rattle.std.proofs.lemmas.List.Sums.{count_by_more_yes, sum_by-take-le, sum_by-cons}
 use Rattle.std.proofs.Common.{nat_lt, Less, Equal, Greater}
 use Rattle.std.specs.Ordering.{is_lt, nat_cmp, ordering_then}
@@ -42,7 +43,8 @@ one_each n (x ∷ xs) r m = by_test (n x == m) refl (one_each n xs (rise_tail n 
         omega arith
 
 -- two neighbours that pass
-pub two_here : {X : Type 0} (p : X → Bool) (xs : List X) (k : ℕ) (d : X) → k + 1 < length xs → p (get_or xs k d) ≡ true → p (get_or xs (k + 1) d) ≡ true → 1 < count_by p xs
+pub two_here : {X : Type 0} (p : X → Bool) (xs : List X) (k : ℕ) (d : X) → k + 1 < length xs → p (get_or xs k d) ≡ true → p (get_or xs (k + 1) d) ≡ true →
+    1 < count_by p xs
 two_here p xs k d l a b =
     let first = count_by_more_yes p xs k d (omega arith) a in
     let second = count_by_more_yes p xs (k + 1) d l b in
@@ -50,7 +52,8 @@ two_here p xs k d l a b =
     omega arith
 
 -- what holds of neighbours, and goes on, holds of each earlier one and each later one
-pub far : {X : Type 0} (R : X → X → Type 0) (xs : List X) (d : X) → ((x y z : X) → R x y → R y z → R x z) → ((k : ℕ) → k + 1 < length xs → R (get_or xs k d) (get_or xs (k + 1) d)) → (i n j : ℕ) → j ≡ i + 1 + n → j < length xs → R (get_or xs i d) (get_or xs j d)
+pub far : {X : Type 0} (R : X → X → Type 0) (xs : List X) (d : X) → ((x y z : X) → R x y → R y z → R x z) →
+    ((k : ℕ) → k + 1 < length xs → R (get_or xs k d) (get_or xs (k + 1) d)) → (i n j : ℕ) → j ≡ i + 1 + n → j < length xs → R (get_or xs i d) (get_or xs j d)
 far R xs d on next i zero j e l = let here : i + 1 ≡ j = omega arith in subst (λ (k : ℕ). R (get_or xs i d) (get_or xs k d)) here (next i (omega arith))
 far R xs d on next i (suc n) j e l =
     let last : i + 1 + n + 1 ≡ j = omega arith in
@@ -68,7 +71,8 @@ not_less x y h = by_test (nat_lt x y) refl (x == y) h
 pub pairs : (a b m n : ℕ) → is_lt (ordering_then (nat_cmp b a) (nat_cmp n m)) ≡ false → (a ≤ b) × (a ≡ b → m ≤ n)
 pairs a b m n h = by_test (nat_lt b a) refl (b == a) refl h
   where
-    by_test : (p : Bool) → nat_lt b a ≡ p → (q : Bool) → (b == a) ≡ q → is_lt (ordering_then (cond p Less (cond q Equal Greater)) (nat_cmp n m)) ≡ false → (a ≤ b) × (a ≡ b → m ≤ n)
+    by_test : (p : Bool) → nat_lt b a ≡ p → (q : Bool) → (b == a) ≡ q → is_lt (ordering_then (cond p Less (cond q Equal Greater)) (nat_cmp n m)) ≡ false →
+        (a ≤ b) × (a ≡ b → m ≤ n)
     by_test true e q f g = absurd (cc)
     by_test false e true f g = (grind (arith, nat_tests), λ same. not_less n m g)
     by_test false e false f g = (grind (arith, nat_tests), λ same. let other : b ≡ a = sym same in absurd (grind (arith, nat_tests)))

@@ -1,5 +1,6 @@
 -- Tickets in order: no two share a number, and the numbers rise along the posts of each pass.
-use Rattle.std.proofs.Common.{◌≡◌, ℕ, ◌+◌, ◌-◌, ◌<◌, ◌≤◌, ◌==◌, ◌⊎◌, false, List, Contains, get_or, slice_index_or, length, Option, None, Some, IfNone, All, refl, ap, sym, subst, ◌∙◌, arith, inl, inr}
+use Rattle.std.proofs.Common.{◌≡◌, ℕ, ◌+◌, ◌-◌, ◌<◌, ◌≤◌, ◌==◌, ◌⊎◌, false, List, Contains, get_or, slice_index_or, length, Option, None, Some, IfNone, All}
+use Rattle.std.proofs.Common.{refl, ap, sym, subst, ◌∙◌, arith, inl, inr}
 use Rattle.std.specs.List.Sorted.{IsPermutation}
 use Rattle.std.specs.Ordering.{is_lt, nat_cmp, ordering_then}
 use Rattle.std.proofs.lemmas.Bool.{cases_order}
@@ -18,14 +19,16 @@ pub same_shared : (n : ℕ) (xs ys : List Ticket) → IsPermutation xs ys → ti
 same_shared n xs ys p = sum_by-IsPermutation _ xs ys p
 
 -- two neighbours with one number
-pub shared_here : (xs : List Ticket) (k n : ℕ) (d : Ticket) → k + 1 < length xs → (get_or xs k d).number ≡ n → (get_or xs (k + 1) d).number ≡ n → 1 < tickets_of n xs
+pub shared_here : (xs : List Ticket) (k n : ℕ) (d : Ticket) → k + 1 < length xs → (get_or xs k d).number ≡ n → (get_or xs (k + 1) d).number ≡ n →
+    1 < tickets_of n xs
 shared_here xs k n d l a b = two_here (λ (t : Ticket). t.number == n) xs k d l (grind (arith, nat_tests, a)) (grind (arith, nat_tests, b))
 
 -- what stands at a place is the same whatever the default
 same_there : (xs : List Ticket) (k : ℕ) (d e : Ticket) → k < length xs → get_or xs k d ≡ get_or xs k e
 same_there xs k d e l = get_or_from_slice_get xs k (get_or xs k e) d (slice_get-get_or xs k e l)
 
-pub shared_at : (xs : List Ticket) (k i : ℕ) (d e f : Ticket) → k + 1 ≡ i → i < length xs → (get_or xs k d).number ≡ (get_or xs i e).number → 1 < tickets_of (get_or xs i f).number xs
+pub shared_at : (xs : List Ticket) (k i : ℕ) (d e f : Ticket) → k + 1 ≡ i → i < length xs → (get_or xs k d).number ≡ (get_or xs i e).number →
+    1 < tickets_of (get_or xs i f).number xs
 shared_at xs k i d e f next l same =
     let number : ℕ = (get_or xs i f).number in
     let here : (get_or xs i e).number ≡ number = ap (λ (t : Ticket). t.number) (same_there xs i e f l) in
@@ -34,7 +37,10 @@ shared_at xs k i d e f next l same =
     shared_here xs k number d (omega (arith, next, l)) (same ∙ here) other
 
 -- sorted by lane and then by number, of which no two are the same
-pub by_lane_then : (xs : List Ticket) → ((n : ℕ) → tickets_of n xs ≤ 1) → ((k : ℕ) (d : Ticket) → k + 1 < length xs → is_lt (ordering_then (nat_cmp (get_or xs (k + 1) d).lane (get_or xs k d).lane) (nat_cmp (get_or xs (k + 1) d).number (get_or xs k d).number)) ≡ false) → AreByLane xs
+pub by_lane_then : (xs : List Ticket) → ((n : ℕ) → tickets_of n xs ≤ 1) →
+    ((k : ℕ) (d : Ticket) → k + 1 < length xs →
+    is_lt (ordering_then (nat_cmp (get_or xs (k + 1) d).lane (get_or xs k d).lane) (nat_cmp (get_or xs (k + 1) d).number (get_or xs k d).number)) ≡ false) →
+    AreByLane xs
 by_lane_then xs one sorted =
     λ k d l.
     let a = get_or xs k d in
@@ -59,10 +65,15 @@ goes_on a b c p q =
     let low = p.0.0 in
     let high = q.0.0 in
     let first : a.lane ≡ c.lane → a.lane ≡ b.lane = λ same. omega (arith, low, high, same) in
-    let second : a.lane ≡ c.lane → b.lane ≡ c.lane = λ same. omega (arith, low, high, same) in
-    ((omega arith, λ same. let x = p.0.1 (first same) in let y = q.0.1 (second same) in omega (arith, x, y)), λ same. let x = p.1 (first same) in let y = q.1 (second same) in omega (arith, x, y))
+    let second : a.lane ≡ c.lane → b.lane ≡ c.lane = λ same. omega (arith, low, high, same) in (
+      (omega arith, λ same. let x = p.0.1 (first same) in let y = q.0.1 (second same) in omega (arith, x, y)),
+      λ same. let x = p.1 (first same) in
+          let y = q.1 (second same) in omega (arith, x, y),
+    )
 
-pub rising : (xs : List Ticket) → AreByLane xs → ((k : ℕ) (d : Ticket) → k + 1 < length xs → (get_or xs k d).lane ≡ (get_or xs (k + 1) d).lane → (get_or xs k d).nth ≤ (get_or xs (k + 1) d).nth) → (a b : Ticket) → Contains xs a → Contains xs b → IsLater a b → a.number < b.number
+pub rising : (xs : List Ticket) → AreByLane xs →
+    ((k : ℕ) (d : Ticket) → k + 1 < length xs → (get_or xs k d).lane ≡ (get_or xs (k + 1) d).lane → (get_or xs k d).nth ≤ (get_or xs (k + 1) d).nth) →
+    (a b : Ticket) → Contains xs a → Contains xs b → IsLater a b → a.number < b.number
 rising xs by_lane nths a b in_a in_b later = by_order (cases_order in_a.0 in_b.0)
   where
     next : (k : ℕ) → k + 1 < length xs → Ordered (get_or xs k a) (get_or xs (k + 1) a)
@@ -81,10 +92,14 @@ rising xs by_lane nths a b in_a in_b later = by_order (cases_order in_a.0 in_b.0
         let more = later.1 in
         absurd (omega arith)
     by_order (inr (inl l)) =
-        let o : Ordered a b = subst (λ (x : Ticket). Ordered x b) (at in_a.0 a in_a.1 in_a.2) (subst (λ (x : Ticket). Ordered (get_or xs in_a.0 a) x) (at in_b.0 b in_b.1 in_b.2) (between in_a.0 in_b.0 l in_b.1)) in
+        let o : Ordered a b =
+        subst (λ (x : Ticket). Ordered x b) (at in_a.0 a in_a.1 in_a.2)
+        (subst (λ (x : Ticket). Ordered (get_or xs in_a.0 a) x) (at in_b.0 b in_b.1 in_b.2) (between in_a.0 in_b.0 l in_b.1)) in
         o.0.1 later.0
     by_order (inr (inr l)) =
-        let o : Ordered b a = subst (λ (x : Ticket). Ordered x a) (at in_b.0 b in_b.1 in_b.2) (subst (λ (x : Ticket). Ordered (get_or xs in_b.0 a) x) (at in_a.0 a in_a.1 in_a.2) (between in_b.0 in_a.0 l in_a.1)) in
+        let o : Ordered b a =
+        subst (λ (x : Ticket). Ordered x a) (at in_b.0 b in_b.1 in_b.2)
+        (subst (λ (x : Ticket). Ordered (get_or xs in_b.0 a) x) (at in_a.0 a in_a.1 in_a.2) (between in_b.0 in_a.0 l in_a.1)) in
         let back = o.1 (sym later.0) in
         let more = later.1 in
         absurd (omega arith)
@@ -102,13 +117,15 @@ no_order entries xs ys n p h =
     let back = IsPermutation-sym xs ys p in
     inr (inr (h.0, h.1, Contains-permutation ys xs h.0 back h.2, Contains-permutation ys xs h.1 back h.3, h.4, h.5, h.6))
 
-pub all_true : (entries : List Entry) (xs ys zs : List Ticket) → IsPermutation xs ys → IsPermutation ys zs → ((n : ℕ) → tickets_of n ys ≤ 1) → All (IsPosted entries) ys → ((a b : Ticket) → Contains zs a → Contains zs b → IsLater a b → a.number < b.number) → AreTrue entries xs
+pub all_true : (entries : List Entry) (xs ys zs : List Ticket) → IsPermutation xs ys → IsPermutation ys zs → ((n : ℕ) → tickets_of n ys ≤ 1) →
+    All (IsPosted entries) ys → ((a b : Ticket) → Contains zs a → Contains zs b → IsLater a b → a.number < b.number) → AreTrue entries xs
 all_true entries xs ys zs p q one posted up = record {
   posted = All-permutation (IsPosted entries) ys xs (IsPermutation-sym xs ys p) posted;
   shared = λ n. let same = same_shared n xs ys p in let most = one n in omega (arith, same, most);
   rising =
       λ a b in_a in_b later.
-      up a b (Contains-permutation ys zs a q (Contains-permutation xs ys a p in_a)) (Contains-permutation ys zs b q (Contains-permutation xs ys b p in_b)) later;
+      up a b (Contains-permutation ys zs a q (Contains-permutation xs ys a p in_a)) (Contains-permutation ys zs b q (Contains-permutation xs ys b p in_b))
+      later;
 }
 
 pub if_none : {X : Type 0} {P Q : Type 0} (r : Option X) → IfNone r P → (P → Q) → IfNone r Q

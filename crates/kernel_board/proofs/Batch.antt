@@ -1,5 +1,6 @@
 -- A part of a list that is copied one item at a time.
-use Rattle.std.proofs.Common.{◌≡◌, ℕ, suc, ◌+◌, ◌-◌, ◌≤◌, min, List, [], ◌∷◌, ◌++◌, length, take, drop, slice_get, Some, None, sym, ap, ◌∙◌, inl, inr, get_or, arith, length-drop}
+use Rattle.std.proofs.Common.{◌≡◌, ℕ, suc, ◌+◌, ◌-◌, ◌≤◌, min, List, [], ◌∷◌, ◌++◌, length, take, drop, slice_get, Some, None, sym, ap, ◌∙◌, inl, inr, get_or}
+use Rattle.std.proofs.Common.{arith, length-drop}
 use native.Mathlib.Decide.{dec_le}
 use Rattle.std.proofs.Math.ListN.{drop_of_length-le}
 use Rattle.std.proofs.Math.Seq.{take-suc}
@@ -14,7 +15,8 @@ module _ {A : Type 0} where
       let within = slice_get_within xs i x e in
       let one : i + 1 - start ≡ suc (i - start) = omega arith in
       let at : start + (i - start) ≡ i = omega arith in
-      let item : get_or (drop start xs) (i - start) x ≡ x = get_or-drop start xs (i - start) x ∙ ap (λ k. get_or xs k x) at ∙ get_or_from_slice_get xs i x x e in
+      let item : get_or (drop start xs) (i - start) x ≡ x = get_or-drop start xs (i - start) x ∙ ap (λ k. get_or xs k x) at
+      ∙ get_or_from_slice_get xs i x x e in
       ap (λ k. take k (drop start xs)) one ∙ take-suc (drop start xs) (i - start) x (omega (arith, length-drop start xs))
       ∙ ap (λ y. take (i - start) (drop start xs) ++ y ∷ []) item
 

@@ -48,7 +48,8 @@ reads_on all more from to bs up (Got v next) is =
     let at : drop to whole ≡ drop (length bs) (drop from whole) = ap (λ k. drop k whole) up.1 ∙ sym (drop-drop (length bs) from whole) in
     let batch : v.items ≡ take read_limit (drop (length bs) (drop from whole)) = is.1 ∙ ap (take read_limit) (of_whole whole to is.0 ∙ at) in
     let mine : v.items ≡ take (length v.items) (drop (length bs) (drop from whole)) =
-    batch ∙ take_own read_limit (drop (length bs) (drop from whole)) ∙ ap (λ (l : List Frames). take (length l) (drop (length bs) (drop from whole))) (sym batch) in
+    batch ∙ take_own read_limit (drop (length bs) (drop from whole)) ∙ ap (λ (l : List Frames). take (length l) (drop (length bs) (drop from whole)))
+    (sym batch) in
     let before = part_stays all more bs from up.0 in
     let size = length-append bs v.items in (
       (λ i. before i ++ mine i) ∙ take_add (length bs) (length v.items) (drop from whole) ∙ ap (λ k. take k (drop from whole)) (sym size),

@@ -1,7 +1,8 @@
 -- The minutes as the code writes them, and the queue of their places.
 use Rattle.std.specs.Prelude.{vec_capacity, if◌then◌else◌}
 use Rattle.std.specs.Result.{is_ok, is_err}
-use Rattle.std.proofs.Common.{◌≡◌, ℕ, ◌+◌, ◌*◌, ◌<◌, ◌≤◌, Bool, false, Result, Ok, Err, List, [], ◌∷◌, ◌++◌, length, map, get_or, zero, suc, refl, sym, ap, ◌∙◌, subst, arith, length-append, append-nil, Option, None, Some}
+use Rattle.std.proofs.Common.{◌≡◌, ℕ, ◌+◌, ◌*◌, ◌<◌, ◌≤◌, Bool, false, Result, Ok, Err, List, [], ◌∷◌, ◌++◌, length, map, get_or, zero, suc, refl, sym, ap, ◌∙◌}
+use Rattle.std.proofs.Common.{subst, arith, length-append, append-nil, Option, None, Some}
 use Rattle.std.proofs.lemmas.List.{length-map, map-append}
 use Rattle.kernel_machine.specs.State.{State}
 use Rattle.kernel_machine.specs.Request.{Request, Undo, request_of}
@@ -41,7 +42,8 @@ mapped (e ∷ entries) zero d l = refl
 mapped (e ∷ entries) (suc i) d l = mapped entries i d (omega arith)
 
 -- what is read at a place is the entry there
-pub entry_read : (entries : List Entry) (i : ℕ) (entry : Entry) → i < length entries → entry ≡ get_or entries i entry → get_or (map entry_of entries) i nothing ≡ entry_of entry
+pub entry_read : (entries : List Entry) (i : ℕ) (entry : Entry) → i < length entries → entry ≡ get_or entries i entry →
+    get_or (map entry_of entries) i nothing ≡ entry_of entry
 entry_read entries i entry l read = mapped entries i entry l ∙ ap entry_of (sym read)
 
 -- an entry more
@@ -72,13 +74,15 @@ places_more xs [] i h p = (p, tt)
 places_more xs (j ∷ places) i h p = (h.0, places_more xs places i h.1 p)
 
 -- a post stands behind all others
-pub place_posted : (xs : List minutes.Entry) (places : List ℕ) (lane : ℕ) (job : Request) → ArePosts xs places → ArePosts (xs ++ minutes.Posted lane job ∷ []) (places ++ length xs ∷ [])
+pub place_posted : (xs : List minutes.Entry) (places : List ℕ) (lane : ℕ) (job : Request) → ArePosts xs places →
+    ArePosts (xs ++ minutes.Posted lane job ∷ []) (places ++ length xs ∷ [])
 place_posted xs places lane job h =
     let size = length-append xs (minutes.Posted lane job ∷ []) in
     places_more (xs ++ minutes.Posted lane job ∷ []) places (length xs) (posts_stay xs (minutes.Posted lane job ∷ []) places h)
     (omega arith, subst (λ (e : minutes.Entry). IsPost e) (sym (get_last xs (minutes.Posted lane job))) tt)
 
-pub job_posted : (xs : List minutes.Entry) (places : List ℕ) (lane : ℕ) (job : Request) → ArePosts xs places → map (job_at (xs ++ minutes.Posted lane job ∷ [])) (places ++ length xs ∷ []) ≡ map (job_at xs) places ++ job ∷ []
+pub job_posted : (xs : List minutes.Entry) (places : List ℕ) (lane : ℕ) (job : Request) → ArePosts xs places →
+    map (job_at (xs ++ minutes.Posted lane job ∷ [])) (places ++ length xs ∷ []) ≡ map (job_at xs) places ++ job ∷ []
 job_posted xs places lane job h =
     map-append (job_at (xs ++ minutes.Posted lane job ∷ [])) places (length xs ∷ [])
     ∙ ap (λ (jobs : List Request). jobs ++ job_at (xs ++ minutes.Posted lane job ∷ []) (length xs) ∷ []) (jobs_stay xs (minutes.Posted lane job ∷ []) places h)
@@ -95,10 +99,12 @@ size_of m k =
     let ended = k.ended in
     omega arith
 
-pub posted_kept : (m more : MinuteBook) (lane : ℕ) (job : Job) → HasPlaces m → 2 * suc m.posted ≤ vec_capacity m.entries → 2 * suc m.posted ≤ minutes_limit → more.entries.items ≡ m.entries.items ++ Posted lane job ∷ [] →
+pub posted_kept : (m more : MinuteBook) (lane : ℕ) (job : Job) → HasPlaces m → 2 * suc m.posted ≤ vec_capacity m.entries → 2 * suc m.posted ≤ minutes_limit →
+    more.entries.items ≡ m.entries.items ++ Posted lane job ∷ [] →
     more.posted ≡ m.posted + 1 → more.ended ≡ m.ended → vec_capacity more.entries ≡ vec_capacity m.entries → HasPlaces more
 posted_kept m more lane job k room within items one same capacity =
-    let entries : entries_in more ≡ entries_in m ++ minutes.Posted lane (request_of job) ∷ [] = one_more m.entries.items more.entries.items (Posted lane job) items in
+    let entries : entries_in more ≡ entries_in m ++ minutes.Posted lane (request_of job) ∷ [] =
+    one_more m.entries.items more.entries.items (Posted lane job) items in
     let posts = ap posted_in entries ∙ posted-append (entries_in m) (minutes.Posted lane (request_of job) ∷ []) in
     let ends = ap ended_in entries ∙ ended-append (entries_in m) (minutes.Posted lane (request_of job) ∷ []) in
     let posted = k.posted in
@@ -106,10 +112,12 @@ posted_kept m more lane job k room within items one same capacity =
     let order = k.order in
     record { posted = omega arith; ended = omega arith; order = omega arith; room = omega arith; within = omega arith }
 
-pub ended_kept : (m more : MinuteBook) (number : ℕ) (o : Outcome) (count node : ℕ) → HasPlaces m → m.ended < m.posted → more.entries.items ≡ m.entries.items ++ Ended number o count node ∷ [] →
+pub ended_kept : (m more : MinuteBook) (number : ℕ) (o : Outcome) (count node : ℕ) → HasPlaces m → m.ended < m.posted →
+    more.entries.items ≡ m.entries.items ++ Ended number o count node ∷ [] →
     more.posted ≡ m.posted → more.ended ≡ m.ended + 1 → vec_capacity more.entries ≡ vec_capacity m.entries → HasPlaces more
 ended_kept m more number o count node k some items same one capacity =
-    let entries : entries_in more ≡ entries_in m ++ minutes.Ended number o count node ∷ [] = one_more m.entries.items more.entries.items (Ended number o count node) items in
+    let entries : entries_in more ≡ entries_in m ++ minutes.Ended number o count node ∷ [] =
+    one_more m.entries.items more.entries.items (Ended number o count node) items in
     let posts = ap posted_in entries ∙ posted-append (entries_in m) (minutes.Ended number o count node ∷ []) in
     let ends = ap ended_in entries ∙ ended-append (entries_in m) (minutes.Ended number o count node ∷ []) in
     let posted = k.posted in
@@ -129,10 +137,12 @@ abbrev pub machine_from : State → List Request → ℕ → List minutes.Entry 
 machine_from state queue counter entries closing = record { state = state; queue = queue; counter = counter; minutes = entries; closing = closing }
 
 -- an entry is written down
-pub written_view : (es more : List minutes.Entry) (e : minutes.Entry) (state : State) (queue : List ℕ) (counter : ℕ) (closing : Bool) → more ≡ es ++ e ∷ [] → ArePosts es queue →
+pub written_view : (es more : List minutes.Entry) (e : minutes.Entry) (state : State) (queue : List ℕ) (counter : ℕ) (closing : Bool) → more ≡ es ++ e ∷ [] →
+    ArePosts es queue →
     machine_from state (map (job_at more) queue) counter more closing ≡ machine_from state (map (job_at es) queue) counter (es ++ e ∷ []) closing
 written_view es more e state queue counter closing same posts =
-    subst (λ (xs : List minutes.Entry). machine_from state (map (job_at xs) queue) counter xs closing ≡ machine_from state (map (job_at es) queue) counter (es ++ e ∷ []) closing) (sym same)
+    subst (λ (xs : List minutes.Entry). machine_from state (map (job_at xs) queue) counter xs closing ≡ machine_from state (map (job_at es) queue) counter
+    (es ++ e ∷ []) closing) (sym same)
     (ap (λ (jobs : List Request). machine_from state jobs counter (es ++ e ∷ []) closing) (jobs_stay es (e ∷ []) queue posts))
 
 -- a job is posted
@@ -140,7 +150,8 @@ pub posted_view : (es more : List minutes.Entry) (places queue : List ℕ) (lane
     more ≡ es ++ minutes.Posted lane job ∷ [] → queue ≡ places ++ length es ∷ [] → ArePosts es places →
     machine_from state (map (job_at more) queue) counter more closing ≡ posted (machine_from state (map (job_at es) places) counter es closing) lane job
 posted_view es more places queue lane job state counter closing same behind posts =
-    subst (λ (xs : List minutes.Entry). machine_from state (map (job_at xs) queue) counter xs closing ≡ posted (machine_from state (map (job_at es) places) counter es closing) lane job) (sym same)
+    subst (λ (xs : List minutes.Entry). machine_from state (map (job_at xs) queue) counter xs closing ≡ posted
+    (machine_from state (map (job_at es) places) counter es closing) lane job) (sym same)
     (ap (λ (jobs : List Request). machine_from state jobs counter (es ++ minutes.Posted lane job ∷ []) closing)
     (ap (λ (q : List ℕ). map (job_at (es ++ minutes.Posted lane job ∷ [])) q) behind ∙ job_posted es places lane job posts))
 
@@ -161,10 +172,12 @@ no_end_sliced (sliced.Ended o) h = absurd (h o refl)
 
 pub unnoted : (m : Machine) (end : Option Outcome) → end ≡ None → m ≡ noted m end
 unnoted m end none =
-    subst (λ (e : Option Outcome). m ≡ noted m e) (sym none) (ap (λ (es : List minutes.Entry). machine_from m.state m.queue m.counter es m.closing) (sym (append-nil m.minutes)))
+    subst (λ (e : Option Outcome). m ≡ noted m e) (sym none)
+    (ap (λ (es : List minutes.Entry). machine_from m.state m.queue m.counter es m.closing) (sym (append-nil m.minutes)))
 
 -- what is written down of an end, in the machine's words
-pub end_written : (m more : MinuteBook) (o : Outcome) (counter node at : ℕ) → HasPlaces m → more.entries.items ≡ m.entries.items ++ Ended (suc m.ended) o counter node ∷ [] → node ≡ at →
+pub end_written : (m more : MinuteBook) (o : Outcome) (counter node at : ℕ) → HasPlaces m →
+    more.entries.items ≡ m.entries.items ++ Ended (suc m.ended) o counter node ∷ [] → node ≡ at →
     entries_in more ≡ entries_in m ++ minutes.Ended (suc (ended_in (entries_in m))) o counter at ∷ []
 end_written m more o counter node at k items same =
     one_more m.entries.items more.entries.items (Ended (suc m.ended) o counter node) items
@@ -176,5 +189,7 @@ pub end_noted : (state : State) (places : List ℕ) (counter : ℕ) (closing : B
     machine_with state places counter more closing ≡ noted (machine_with state places counter m closing) (Some o)
 end_noted state places counter closing m more o written posts = written_view (entries_in m) (entries_in more) _ state places counter closing written posts
 
-pub end_stays : (m more : MinuteBook) (e : minutes.Entry) (places : List ℕ) → entries_in more ≡ entries_in m ++ e ∷ [] → ArePosts (entries_in m) places → ArePosts (entries_in more) places
-end_stays m more e places written posts = subst (λ (entries : List minutes.Entry). ArePosts entries places) (sym written) (posts_stay (entries_in m) (e ∷ []) places posts)
+pub end_stays : (m more : MinuteBook) (e : minutes.Entry) (places : List ℕ) → entries_in more ≡ entries_in m ++ e ∷ [] → ArePosts (entries_in m) places →
+    ArePosts (entries_in more) places
+end_stays m more e places written posts =
+    subst (λ (entries : List minutes.Entry). ArePosts entries places) (sym written) (posts_stay (entries_in m) (e ∷ []) places posts)

@@ -1,4 +1,5 @@
--- A hall may be shared by threads, and what frontends and the runner hold may go to other threads. A `search` that goes down through all of its fields runs out of steps, so what is written of a layer is found over what was found of
+-- A hall may be shared by threads, and what frontends and the runner hold may go to other threads. A `search` that goes down through all of its fields runs out
+-- of steps, so what is written of a layer is found over what was found of
 -- the layers below it; each fact is that of the type as a field.
 use denote.RattleType.{RattleType}
 use denote.Enum.Declared as E
@@ -81,7 +82,215 @@ Relation-send : IsSend (Relation.the_field).row
 Relation-send = search (crosses, sendable) depth 60 fits 20000
 
 Primitive-each : EachSend (E.shape Primitive.the_type).variants
-Primitive-each = (search (crosses, Assertion-send, sendable) depth 20, (search (crosses, Assertion-send, sendable) depth 20, (search (crosses, Assertion-send, sendable) depth 20, (search (crosses, Assertion-send, sendable) depth 20, (search (crosses, Assertion-send, sendable) depth 20, (search (crosses, Assertion-send, sendable) depth 20, (search (crosses, Assertion-send, sendable) depth 20, (search (crosses, Assertion-send, sendable) depth 20, (search (crosses, Assertion-send, sendable) depth 20, (search (crosses, Assertion-send, sendable) depth 20, (search (crosses, Assertion-send, sendable) depth 20, (search (crosses, Assertion-send, sendable) depth 20, (search (crosses, Assertion-send, sendable) depth 20, (search (crosses, Assertion-send, sendable) depth 20, (search (crosses, Assertion-send, sendable) depth 20, (search (crosses, Assertion-send, sendable) depth 20, (search (crosses, Assertion-send, sendable) depth 20, (search (crosses, Assertion-send, sendable) depth 20, (search (crosses, Assertion-send, sendable) depth 20, (search (crosses, Assertion-send, sendable) depth 20, (search (crosses, Assertion-send, sendable) depth 20, (search (crosses, Assertion-send, sendable) depth 20, (search (crosses, Assertion-send, sendable) depth 20, (search (crosses, Assertion-send, sendable) depth 20, (search (crosses, Assertion-send, sendable) depth 20, (search (crosses, Assertion-send, sendable) depth 20, (search (crosses, Assertion-send, sendable) depth 20, (search (crosses, Assertion-send, sendable) depth 20, (search (crosses, Assertion-send, sendable) depth 20, (search (crosses, Assertion-send, sendable) depth 20, (search (crosses, Assertion-send, sendable) depth 20, (search (crosses, Assertion-send, sendable) depth 20, (search (crosses, Assertion-send, sendable) depth 20, (search (crosses, Assertion-send, sendable) depth 20, (search (crosses, Assertion-send, sendable) depth 20, (search (crosses, Assertion-send, sendable) depth 20, (search (crosses, Assertion-send, sendable) depth 20, (search (crosses, Assertion-send, sendable) depth 20, (search (crosses, Assertion-send, sendable) depth 20, (search (crosses, Assertion-send, sendable) depth 20, (search (crosses, Assertion-send, sendable) depth 20, (search (crosses, Assertion-send, sendable) depth 20, (search (crosses, Assertion-send, sendable) depth 20, (search (crosses, Assertion-send, sendable) depth 20, (search (crosses, Assertion-send, sendable) depth 20, (search (crosses, Assertion-send, sendable) depth 20, (search (crosses, Assertion-send, sendable) depth 20, (search (crosses, Assertion-send, sendable) depth 20, (search (crosses, Assertion-send, sendable) depth 20, (search (crosses, Assertion-send, sendable) depth 20, (search (crosses, Assertion-send, sendable) depth 20, (search (crosses, Assertion-send, sendable) depth 20, (search (crosses, Assertion-send, Relation-send, sendable) depth 20, (search (crosses, Assertion-send, Relation-send, sendable) depth 20, (search (crosses, Assertion-send, Relation-send, sendable) depth 20, (search (crosses, Assertion-send, Relation-send, sendable) depth 20, (search (crosses, Assertion-send, Relation-send, sendable) depth 20, (search (crosses, Assertion-send, Relation-send, sendable) depth 20, (search (crosses, Assertion-send, sendable) depth 20, tt)))))))))))))))))))))))))))))))))))))))))))))))))))))))))))
+Primitive-each = (
+  search (crosses, Assertion-send, sendable) depth 20,
+  (
+    search (crosses, Assertion-send, sendable) depth 20,
+    (
+      search (crosses, Assertion-send, sendable) depth 20,
+      (
+        search (crosses, Assertion-send, sendable) depth 20,
+        (
+          search (crosses, Assertion-send, sendable) depth 20,
+          (
+            search (crosses, Assertion-send, sendable) depth 20,
+            (
+              search (crosses, Assertion-send, sendable) depth 20,
+              (
+                search (crosses, Assertion-send, sendable) depth 20,
+                (
+                  search (crosses, Assertion-send, sendable) depth 20,
+                  (
+                    search (crosses, Assertion-send, sendable) depth 20,
+                    (
+                      search (crosses, Assertion-send, sendable) depth 20,
+                      (
+                        search (crosses, Assertion-send, sendable) depth 20,
+                        (
+                          search (crosses, Assertion-send, sendable) depth 20,
+                          (
+                            search (crosses, Assertion-send, sendable) depth 20,
+                            (
+                              search (crosses, Assertion-send, sendable) depth 20,
+                              (
+                                search (crosses, Assertion-send, sendable) depth 20,
+                                (
+                                  search (crosses, Assertion-send, sendable) depth 20,
+                                  (
+                                    search (crosses, Assertion-send, sendable) depth 20,
+                                    (
+                                      search (crosses, Assertion-send, sendable) depth 20,
+                                      (
+                                        search (crosses, Assertion-send, sendable) depth 20,
+                                        (
+                                          search (crosses, Assertion-send, sendable) depth 20,
+                                          (
+                                            search (crosses, Assertion-send, sendable) depth 20,
+                                            (
+                                              search (crosses, Assertion-send, sendable) depth 20,
+                                              (
+                                                search (crosses, Assertion-send, sendable) depth 20,
+                                                (
+                                                  search (crosses, Assertion-send, sendable) depth 20,
+                                                  (
+                                                    search (crosses, Assertion-send, sendable) depth 20,
+                                                    (
+                                                      search (crosses, Assertion-send, sendable) depth 20,
+                                                      (
+                                                        search (crosses, Assertion-send, sendable) depth 20,
+                                                        (
+                                                          search (crosses, Assertion-send, sendable) depth 20,
+                                                          (
+                                                            search (crosses, Assertion-send, sendable) depth 20,
+                                                            (
+                                                              search (crosses, Assertion-send, sendable) depth 20,
+                                                              (
+                                                                search (crosses, Assertion-send, sendable) depth 20,
+                                                                (
+                                                                  search (crosses, Assertion-send, sendable) depth 20,
+                                                                  (
+                                                                    search (crosses, Assertion-send, sendable) depth 20,
+                                                                    (
+                                                                      search (crosses, Assertion-send, sendable) depth 20,
+                                                                      (
+                                                                        search (crosses, Assertion-send, sendable) depth 20,
+                                                                        (
+                                                                          search (crosses, Assertion-send, sendable) depth 20,
+                                                                          (
+                                                                            search (crosses, Assertion-send, sendable) depth 20,
+                                                                            (
+                                                                              search (crosses, Assertion-send, sendable) depth 20,
+                                                                              (
+                                                                                search (crosses, Assertion-send, sendable) depth 20,
+                                                                                (
+                                                                                  search (crosses, Assertion-send, sendable) depth 20,
+                                                                                  (
+                                                                                    search (crosses, Assertion-send, sendable) depth 20,
+                                                                                    (
+                                                                                      search (crosses, Assertion-send, sendable) depth 20,
+                                                                                      (
+                                                                                        search (crosses, Assertion-send, sendable) depth 20,
+                                                                                        (
+                                                                                          search (crosses, Assertion-send, sendable) depth 20,
+                                                                                          (
+                                                                                            search (crosses, Assertion-send, sendable) depth 20,
+                                                                                            (
+                                                                                              search (crosses, Assertion-send, sendable) depth 20,
+                                                                                              (
+                                                                                                search (crosses, Assertion-send, sendable) depth 20,
+                                                                                                (
+                                                                                                  search (crosses, Assertion-send, sendable) depth 20,
+                                                                                                  (
+                                                                                                    search (crosses, Assertion-send, sendable) depth 20,
+                                                                                                    (
+                                                                                                      search (crosses, Assertion-send, sendable) depth 20,
+                                                                                                      (
+                                                                                                        search (crosses, Assertion-send, sendable) depth 20,
+                                                                                                        (
+                                                                                                          search (
+                                                                                                            crosses,
+                                                                                                            Assertion-send,
+                                                                                                            Relation-send,
+                                                                                                            sendable,
+                                                                                                          ) depth 20,
+                                                                                                          (
+                                                                                                            search (
+                                                                                                              crosses,
+                                                                                                              Assertion-send,
+                                                                                                              Relation-send,
+                                                                                                              sendable,
+                                                                                                            ) depth 20,
+                                                                                                            (
+                                                                                                              search (
+                                                                                                                crosses,
+                                                                                                                Assertion-send,
+                                                                                                                Relation-send,
+                                                                                                                sendable,
+                                                                                                              ) depth 20,
+                                                                                                              (
+                                                                                                                search (
+                                                                                                                  crosses,
+                                                                                                                  Assertion-send,
+                                                                                                                  Relation-send,
+                                                                                                                  sendable,
+                                                                                                                ) depth 20,
+                                                                                                                (
+                                                                                                                  search (
+                                                                                                                    crosses,
+                                                                                                                    Assertion-send,
+                                                                                                                    Relation-send,
+                                                                                                                    sendable,
+                                                                                                                  ) depth 20,
+                                                                                                                  (
+                                                                                                                    search (
+                                                                                                                      crosses,
+                                                                                                                      Assertion-send,
+                                                                                                                      Relation-send,
+                                                                                                                      sendable,
+                                                                                                                    ) depth 20,
+                                                                                                                    (
+                                                                                                                      search (crosses, Assertion-send, sendable)
+                                                                                                                          depth 20,
+                                                                                                                      tt,
+                                                                                                                    ),
+                                                                                                                  ),
+                                                                                                                ),
+                                                                                                              ),
+                                                                                                            ),
+                                                                                                          ),
+                                                                                                        ),
+                                                                                                      ),
+                                                                                                    ),
+                                                                                                  ),
+                                                                                                ),
+                                                                                              ),
+                                                                                            ),
+                                                                                          ),
+                                                                                        ),
+                                                                                      ),
+                                                                                    ),
+                                                                                  ),
+                                                                                ),
+                                                                              ),
+                                                                            ),
+                                                                          ),
+                                                                        ),
+                                                                      ),
+                                                                    ),
+                                                                  ),
+                                                                ),
+                                                              ),
+                                                            ),
+                                                          ),
+                                                        ),
+                                                      ),
+                                                    ),
+                                                  ),
+                                                ),
+                                              ),
+                                            ),
+                                          ),
+                                        ),
+                                      ),
+                                    ),
+                                  ),
+                                ),
+                              ),
+                            ),
+                          ),
+                        ),
+                      ),
+                    ),
+                  ),
+                ),
+              ),
+            ),
+          ),
+        ),
+      ),
+    ),
+  ),
+)
 
 Primitive-enum : IsSend (enum.Enum (E.shape Primitive.the_type))
 Primitive-enum = enum_send (E.shape Primitive.the_type) Primitive-each
@@ -166,7 +375,8 @@ module _ (W : RattleType) (w : Ledger.Ghosts W.Denot) where
   Writes-send s = search (crosses, book_send, share_send, sendable) depth 60 fits 20000
 
   Kernel-send : IsSend W → IsSend (Kernel.the_field W w).row
-  Kernel-send s = let a = Store-send s in let b = Writes-send s in search (crosses, Book-send, Checked-send, Procedures-send, Entry-send, sendable) depth 60 fits 20000
+  Kernel-send s = let a = Store-send s in let b = Writes-send s in
+      search (crosses, Book-send, Checked-send, Procedures-send, Entry-send, sendable) depth 60 fits 20000
 
   Passes-send : IsSend W → IsSend (Passes.the_field W w).row
   Passes-send s = search (crosses, share_send, sendable) depth 60 fits 20000
@@ -176,7 +386,8 @@ module _ (W : RattleType) (w : Ledger.Ghosts W.Denot) where
 
 module _ (W L : RattleType) (w : Ledger.Ghosts W.Denot) (l : Ledger.Ghosts L.Denot) where
   State-send : IsSend W → IsSend L → IsSend (State.the_field W L w l).row
-  State-send s t = let a = Kernel-send W w s in let b = Passes-send L l t in search (crosses, book_send, Comms-send, PendingResult-send, sendable) depth 60 fits 20000
+  State-send s t = let a = Kernel-send W w s in let b = Passes-send L l t in
+      search (crosses, book_send, Comms-send, PendingResult-send, sendable) depth 60 fits 20000
 
   pub Hall-sync : IsSend W → IsSend L → IsSync (Hall.the_field W L w l).row
   Hall-sync s t = let a = State-send s t in search (crosses, condvar_sync, Ends-sync, Bell-sync, sendable) depth 60 fits 20000

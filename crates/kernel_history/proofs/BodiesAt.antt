@@ -1,5 +1,6 @@
 -- The bodies that are defined at a node, and those that stay kept.
-use Rattle.std.proofs.Common.{◌≡◌, ℕ, zero, suc, ◌+◌, ◌-◌, ◌<◌, ◌≤◌, List, [], ◌∷◌, ◌++◌, length, map, take, Option, None, Some, refl, sym, ap, ◌∙◌, subst, arith}
+use Rattle.std.proofs.Common.{◌≡◌, ℕ, zero, suc, ◌+◌, ◌-◌, ◌<◌, ◌≤◌, List, [], ◌∷◌, ◌++◌, length, map, take, Option, None, Some, refl, sym, ap, ◌∙◌, subst}
+use Rattle.std.proofs.Common.{arith}
 use Rattle.std.specs.Prelude.{slice_get}
 use Rattle.std.proofs.lemmas.List.{get_or-map, length-map}
 use Rattle.std.proofs.lemmas.Option.{slice_get_within, get_or_from_slice_get}
@@ -35,10 +36,12 @@ to_mapped {A = A} f [] i x e = absurd (let l = slice_get_within {A = A} [] i x e
 to_mapped f (y ∷ xs) zero x e = cc
 to_mapped f (y ∷ xs) (suc i) x e = to_mapped f xs i x e
 
-content_node : (nodes : List (Node EndedCell)) (i : ℕ) (cell : EndedCell) → slice_get (map (λ (node : Node EndedCell). node.content) nodes) i ≡ Some cell → (node : Node EndedCell) × (slice_get nodes i ≡ Some node) × (node.content ≡ cell)
+content_node : (nodes : List (Node EndedCell)) (i : ℕ) (cell : EndedCell) → slice_get (map (λ (node : Node EndedCell). node.content) nodes) i ≡ Some cell →
+    (node : Node EndedCell) × (slice_get nodes i ≡ Some node) × (node.content ≡ cell)
 content_node nodes i cell e = from_mapped (λ (node : Node EndedCell). node.content) nodes i cell e
 
-node_content : (nodes : List (Node EndedCell)) (i : ℕ) (node : Node EndedCell) → slice_get nodes i ≡ Some node → slice_get (map (λ (node : Node EndedCell). node.content) nodes) i ≡ Some node.content
+node_content : (nodes : List (Node EndedCell)) (i : ℕ) (node : Node EndedCell) → slice_get nodes i ≡ Some node →
+    slice_get (map (λ (node : Node EndedCell). node.content) nodes) i ≡ Some node.content
 node_content nodes i node e = to_mapped (λ (node : Node EndedCell). node.content) nodes i node e
 
 pub cell_of_node : (tree : HistoryTree) (i : ℕ) (node : Node EndedCell) → slice_get tree.cells.nodes i ≡ Some node → IsCellAt tree (suc i) node.content
@@ -66,7 +69,8 @@ parents_before tree legal i node e =
 
 -- ---- how far up is told
 
-over_same : (x : Option (Node EndedCell)) (f g : ℕ → List ℕ) → ((node : Node EndedCell) → x ≡ Some node → f node.parent ≡ g node.parent) → bodies_over x f ≡ bodies_over x g
+over_same : (x : Option (Node EndedCell)) (f g : ℕ → List ℕ) → ((node : Node EndedCell) → x ≡ Some node → f node.parent ≡ g node.parent) →
+    bodies_over x f ≡ bodies_over x g
 over_same None f g h = refl
 over_same (Some node) f g h = ap (with_bodies node.content.program) (h node refl)
 
@@ -82,14 +86,16 @@ bodies_more tree before (suc k) (suc j) (suc i) l m =
     over_same (slice_get tree.cells.nodes i) (bodies_up k tree) (bodies_up j tree)
     (λ node e. let p = before i node e in bodies_more tree before k j node.parent (omega arith) (omega arith))
 
-pub bodies_of_node : (tree : HistoryTree) (i : ℕ) (node : Node EndedCell) → IsLegal (past_of tree) → slice_get tree.cells.nodes i ≡ Some node → bodies_at tree (suc i) ≡ with_bodies node.content.program (bodies_at tree node.parent)
+pub bodies_of_node : (tree : HistoryTree) (i : ℕ) (node : Node EndedCell) → IsLegal (past_of tree) → slice_get tree.cells.nodes i ≡ Some node →
+    bodies_at tree (suc i) ≡ with_bodies node.content.program (bodies_at tree node.parent)
 bodies_of_node tree i node legal e =
     let before = parents_before tree legal in
     ap (λ x. bodies_over x (bodies_up i tree)) e
     ∙ ap (with_bodies node.content.program) (bodies_more tree before i node.parent node.parent (before i node e) (omega arith))
 
 -- the bodies of a node over those of its parent
-pub bodies_of_cell : (tree : HistoryTree) (n : ℕ) (cell : EndedCell) → IsLegal (past_of tree) → IsCellAt tree n cell → bodies_at tree n ≡ with_bodies cell.program (bodies_at tree (node_at (past_of tree) n).parent)
+pub bodies_of_cell : (tree : HistoryTree) (n : ℕ) (cell : EndedCell) → IsLegal (past_of tree) → IsCellAt tree n cell →
+    bodies_at tree n ≡ with_bodies cell.program (bodies_at tree (node_at (past_of tree) n).parent)
 bodies_of_cell tree zero cell legal at = absurd (let some = at.0 in omega arith)
 bodies_of_cell tree (suc i) cell legal at =
     let same : suc i - 1 ≡ i = omega arith in
@@ -132,7 +138,8 @@ module _ (tree larger : HistoryTree) (new : Node EndedCell) (legal : IsLegal (pa
   pub bodies_kept : (n : ℕ) → n ≤ length tree.cells.nodes → bodies_at larger n ≡ bodies_at tree n
   bodies_kept n l = up_grown n n l
 
-  pub bodies_new : new.parent ≤ length tree.cells.nodes → bodies_at larger (suc (length tree.cells.nodes)) ≡ with_bodies new.content.program (bodies_at tree new.parent)
+  pub bodies_new : new.parent ≤ length tree.cells.nodes → bodies_at larger (suc (length tree.cells.nodes)) ≡ with_bodies new.content.program
+      (bodies_at tree new.parent)
   bodies_new l =
       let m : ℕ = length tree.cells.nodes in
       ap (λ (nodes : List (Node EndedCell)). bodies_over (slice_get nodes m) (bodies_up m larger)) grown
@@ -150,7 +157,9 @@ module _ (tree : HistoryTree) (legal : IsLegal (past_of tree)) (order : AreInOrd
   abbrev AllBefore : ℕ → ℕ → Type 0
   AllBefore from n = (m : ℕ) (cell : EndedCell) → m ≤ n → IsCellAt tree m cell → cell.program.first + length (procedures_of cell.program) ≤ from
 
-  over_below : (from : ℕ) (x : Option (Node EndedCell)) (f : ℕ → List ℕ) → ((node : Node EndedCell) → x ≡ Some node → AreBelow node.content.program.first (f node.parent) × (node.content.program.first + length (procedures_of node.content.program) ≤ from)) → AreBelow from (bodies_over x f)
+  over_below : (from : ℕ) (x : Option (Node EndedCell)) (f : ℕ → List ℕ) →
+      ((node : Node EndedCell) → x ≡ Some node → AreBelow node.content.program.first (f node.parent) ×
+      (node.content.program.first + length (procedures_of node.content.program) ≤ from)) → AreBelow from (bodies_over x f)
   over_below from None f h = tt
   over_below from (Some node) f h =
       let p : Program = node.content.program in
@@ -184,7 +193,8 @@ get_taken (suc n) [] i b e = e
 get_taken (suc n) (x ∷ xs) zero b e = e
 get_taken (suc n) (x ∷ xs) (suc i) b e = get_taken n xs i b e
 
-bodies_of_more : (xs : List Name) (n : ℕ) (bodies : List LinkedProcedure) (first : ℕ) (ps : List Proc) → AreBodiesFrom xs (take n bodies) first ps → AreBodiesFrom xs bodies first ps
+bodies_of_more : (xs : List Name) (n : ℕ) (bodies : List LinkedProcedure) (first : ℕ) (ps : List Proc) → AreBodiesFrom xs (take n bodies) first ps →
+    AreBodiesFrom xs bodies first ps
 bodies_of_more xs n bodies first [] h = tt
 bodies_of_more xs n bodies first (p ∷ ps) h = ((h.0.0, get_taken n bodies first h.0.0 h.0.1, h.0.2, h.0.3), bodies_of_more xs n bodies (suc first) ps h.1)
 
@@ -200,7 +210,8 @@ taken_short (suc n) (suc m) [] l h = h
 taken_short (suc n) (suc m) (x ∷ xs) l h = let r = taken_short n m xs (omega arith) (omega arith) in omega arith
 
 -- others were added behind them
-pub ready_more : (xs es g : List Name) (old new : Procedures) (program : Program) → take (length (kept_in old)) (kept_in new) ≡ kept_in old → IsReady xs es g old program → IsReady xs es g new program
+pub ready_more : (xs es g : List Name) (old new : Procedures) (program : Program) → take (length (kept_in old)) (kept_in new) ≡ kept_in old →
+    IsReady xs es g old program → IsReady xs es g new program
 ready_more xs es g old new program e h =
     let long = taken_long (length (kept_in old)) (kept_in new) in
     let same = ap (λ (bs : List LinkedProcedure). length bs) e in
@@ -211,23 +222,28 @@ ready_more xs es g old new program e h =
       within = omega (arith, long, same, within);
       bodies = λ more on.
           (let ps : List Proc = procedures_in more (procedures_of program) in
-          bodies_of_more xs (length (kept_in old)) (kept_in new) program.first ps (subst (λ (bs : List LinkedProcedure). AreBodiesFrom xs bs program.first ps) (sym e) (h.bodies more on)));
+          bodies_of_more xs (length (kept_in old)) (kept_in new) program.first ps
+          (subst (λ (bs : List LinkedProcedure). AreBodiesFrom xs bs program.first ps) (sym e) (h.bodies more on)));
     }
 
 -- those behind them were dropped
-pub ready_less : (xs es g : List Name) (old new : Procedures) (from : ℕ) (program : Program) → program.first + length (procedures_of program) ≤ from → kept_in new ≡ take from (kept_in old) → IsReady xs es g old program → IsReady xs es g new program
+pub ready_less : (xs es g : List Name) (old new : Procedures) (from : ℕ) (program : Program) → program.first + length (procedures_of program) ≤ from →
+    kept_in new ≡ take from (kept_in old) → IsReady xs es g old program → IsReady xs es g new program
 ready_less xs es g old new from program low e h = record {
   meant = h.meant;
   numbered = h.numbered;
-  within = subst (λ (bs : List LinkedProcedure). program.first + length (procedures_of program) ≤ length bs) (sym e) (taken_short from (program.first + length (procedures_of program)) (kept_in old) low h.within);
+  within = subst (λ (bs : List LinkedProcedure). program.first + length (procedures_of program) ≤ length bs) (sym e)
+      (taken_short from (program.first + length (procedures_of program)) (kept_in old) low h.within);
   bodies = λ more on.
       (let ps : List Proc = procedures_in more (procedures_of program) in
       let same : length ps ≡ length (procedures_of program) = length-map (procedures_of program) (procedure_in more) in
-      bodies_from_same xs (take from (kept_in old)) (kept_in new) program.first ps e (bodies_from_below xs (kept_in old) from program.first ps (subst (λ (n : ℕ). program.first + n ≤ from) (sym same) low) (h.bodies more on)));
+      bodies_from_same xs (take from (kept_in old)) (kept_in new) program.first ps e
+      (bodies_from_below xs (kept_in old) from program.first ps (subst (λ (n : ℕ). program.first + n ≤ from) (sym same) low) (h.bodies more on)));
 }
 
 -- the same are kept
-pub ready_same : (xs es g : List Name) (old new : Procedures) (program : Program) → kept_in new ≡ kept_in old → IsReady xs es g old program → IsReady xs es g new program
+pub ready_same : (xs es g : List Name) (old new : Procedures) (program : Program) → kept_in new ≡ kept_in old → IsReady xs es g old program →
+    IsReady xs es g new program
 ready_same xs es g old new program e h = record {
   meant = h.meant;
   numbered = h.numbered;

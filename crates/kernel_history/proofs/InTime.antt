@@ -13,10 +13,12 @@ use Rattle.kernel_history.proofs.Indexed.{kept_in_time}
 use Rattle.kernel_history.proofs.Standing.{shown_by}
 use Rattle.kernel_machine.proofs.Stays.{slice_fit}
 
-pub slice_kept : {L : Type 0} (tree moved-to : HistoryTree) (runner at : Runner L) (old new : Open) (m : ℕ) (asked : Bool) (told : Sliced) → IsKept tree runner old → Kept moved-to at new →
+pub slice_kept : {L : Type 0} (tree moved-to : HistoryTree) (runner at : Runner L) (old new : Open) (m : ℕ) (asked : Bool) (told : Sliced) →
+    IsKept tree runner old → Kept moved-to at new →
     IsSlice (state_of tree old) m asked told (state_of moved-to new) → IsKept moved-to at new
 slice_kept tree moved-to runner at old new m asked told k n s =
     let kept = k.kept in
     let shown = shown_by tree old runner k.kept.stands in
-    let fit = slice_fit (past_of tree) (job_of old) m asked told (state_of moved-to new) kept.legal kept.possible (world_of (procedures_at (past_of tree) (job_of old)) runner, shown) s in
+    let fit = slice_fit (past_of tree) (job_of old) m asked told (state_of moved-to new) kept.legal kept.possible
+    (world_of (procedures_at (past_of tree) (job_of old)) runner, shown) s in
     kept_in_time moved-to at new n fit.in_time

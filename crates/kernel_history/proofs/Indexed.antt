@@ -1,5 +1,6 @@
 -- The index tells what the tree says: the bodies that are defined are gone through from the entered cell, and from the position up to the root.
-use Rattle.std.proofs.Common.{inl, inr, ◌≡◌, ◌⊎◌, ℕ, zero, suc, ◌+◌, ◌<◌, ◌≤◌, Bool, true, false, cond, List, ◌∷◌, length, Option, None, Some, refl, sym, ap, ◌∙◌, subst, arith}
+use Rattle.std.proofs.Common.{inl, inr, ◌≡◌, ◌⊎◌, ℕ, zero, suc, ◌+◌, ◌<◌, ◌≤◌, Bool, true, false, cond, List, ◌∷◌, length, Option, None, Some, refl, sym, ap}
+use Rattle.std.proofs.Common.{◌∙◌, subst, arith}
 use Rattle.std.specs.Prelude.{slice_get}
 use Rattle.std.proofs.lemmas.Bool.{cases_lt, eq-eqb, eqb-true}
 use Rattle.std.proofs.lemmas.Option.{slice_get_cases}
@@ -19,7 +20,8 @@ use Rattle.kernel_runner.specs.declared.program.Program.{Program}
 use Rattle.kernel_runner.specs.declared.runner.Runner.{Runner}
 use Rattle.kernel_history.specs.Fields.{nodes_of, past_of, job_of}
 use Rattle.kernel_history.specs.Bodies.{IsCellAt, bodies_at, bodies_in}
-use Rattle.kernel_history.specs.Index.{HasName, Defines, DefinesNone, IsForward, IsEntered, EnteredDefinesNone, IsCellAbove, NearestDefines, NoneDefines, Tells, HasIndex}
+use Rattle.kernel_history.specs.Index.{HasName, Defines, DefinesNone, IsForward, IsEntered, EnteredDefinesNone, IsCellAbove, NearestDefines, NoneDefines, Tells}
+use Rattle.kernel_history.specs.Index.{HasIndex}
 use Rattle.kernel_history.specs.Kept.{Kept, IsKept}
 use Rattle.kernel_history.specs.declared.tree.EndedCell.{EndedCell}
 use Rattle.kernel_history.specs.declared.tree.HistoryTree.{HistoryTree}
@@ -60,7 +62,8 @@ module _ (t : Procedures) (n : ℕ) where
       absurd (cc)
 
   -- one more in front of a row of which none has the name
-  first_tells : (first count rest place : ℕ) (v : Bool) → has_name (slice_get (kept_in t) first) n ≡ v → HaveNone (suc first) count → place ≡ cond v (suc first) rest → TellsRow first (suc count) rest place
+  first_tells : (first count rest place : ℕ) (v : Bool) → has_name (slice_get (kept_in t) first) n ≡ v → HaveNone (suc first) count →
+      place ≡ cond v (suc first) rest → TellsRow first (suc count) rest place
   first_tells first count rest place true e none p = inl (
     first,
     p,
@@ -81,7 +84,8 @@ module _ (t : Procedures) (n : ℕ) where
     p,
   )
 
-  row_tells : (first count : ℕ) (stack : List ℕ) → TellsRow first count (place_of_first (kept_in t) stack n) (place_of_first (kept_in t) (onto first count stack) n)
+  row_tells : (first count : ℕ) (stack : List ℕ) →
+      TellsRow first count (place_of_first (kept_in t) stack n) (place_of_first (kept_in t) (onto first count stack) n)
   row_tells first zero stack = inr (λ i row has. absurd (let l = row.0 in let m = row.1 in omega arith), refl)
   row_tells first (suc count) stack = elim (row_tells (suc first) count (first ∷ stack)) [
     | inl own ↦
@@ -106,7 +110,8 @@ module _ (t : Procedures) (n : ℕ) where
   abbrev TellsOwn : Program → ℕ → ℕ → Type 0
   TellsOwn program rest place = TellsRow program.first (length (procedures_of program)) rest place
 
-  own_tell : (program : Program) (stack : List ℕ) → TellsOwn program (place_of_first (kept_in t) stack n) (place_of_first (kept_in t) (with_bodies program stack) n)
+  own_tell : (program : Program) (stack : List ℕ) →
+      TellsOwn program (place_of_first (kept_in t) stack n) (place_of_first (kept_in t) (with_bodies program stack) n)
   own_tell program stack = row_tells program.first (length (procedures_of program)) stack
 
   last_defines : (program : Program) (i : ℕ) → IsLast program.first (length (procedures_of program)) i → Defines t n program i
@@ -137,7 +142,8 @@ module _ (tree : HistoryTree) (t : Procedures) (n : ℕ) where
     parent = (node_at (past_of tree) m).parent
 
     -- the node itself defines nothing of the name, nor does the one that is next to its parent
-    none_above : (k : ℕ) (other : EndedCell) → DefinesNone t n cell.program → ((j : ℕ) → suc j ≡ k → IsCellAbove tree parent j other → DefinesNone t n other.program) → IsCellAbove tree m k other → DefinesNone t n other.program
+    none_above : (k : ℕ) (other : EndedCell) → DefinesNone t n cell.program →
+        ((j : ℕ) → suc j ≡ k → IsCellAbove tree parent j other → DefinesNone t n other.program) → IsCellAbove tree m k other → DefinesNone t n other.program
     none_above zero other none above there = subst (λ (c : EndedCell). DefinesNone t n c.program) (one_cell tree m cell other at there) none
     none_above (suc k) other none above there = above k refl (subst (λ (a : ℕ). IsCellAt tree a other) (sym (ancestor_of_parent (nodes_of tree) m k)) there)
 
@@ -190,20 +196,24 @@ module _ (tree : HistoryTree) (job : Open) (t : Procedures) (n : ℕ) where
   none_entered zero none up = (none, up)
   none_entered (suc i) none up = inr (none, up)
 
-  entered_tells : (program : Program) (rest place : ℕ) → IsEntered tree job program → ((other : Program) → IsEntered tree job other → program ≡ other) → TellsOwn t n program rest place → TellsUp tree t n tree.position rest → Tells tree job t n place
+  entered_tells : (program : Program) (rest place : ℕ) → IsEntered tree job program → ((other : Program) → IsEntered tree job other → program ≡ other) →
+      TellsOwn t n program rest place → TellsUp tree t n tree.position rest → Tells tree job t n place
   entered_tells program rest place is one over up = elim over [
     | inl own ↦ subst (Tells tree job t n) (sym own.1) (inl (program, is, last_defines t n program own.0 own.2))
-    | inr older ↦ subst (Tells tree job t n) (sym older.1) (none_entered rest (λ other of. subst (λ (p : Program). DefinesNone t n p) (one other of) older.0) up)
+    | inr older ↦ subst (Tells tree job t n) (sym older.1)
+        (none_entered rest (λ other of. subst (λ (p : Program). DefinesNone t n p) (one other of) older.0) up)
   ]
 
 -- the bodies in a cell that is run forward, and in one that is undone
 bodies_inside : (tree : HistoryTree) (work : Work) (program : Program) →
-    (IsForward work × (bodies_in tree work program ≡ with_bodies program (bodies_at tree tree.position))) ⊎ ((IsForward work → ⊥) × (bodies_in tree work program ≡ bodies_at tree tree.position))
+    (IsForward work × (bodies_in tree work program ≡ with_bodies program (bodies_at tree tree.position))) ⊎
+    ((IsForward work → ⊥) × (bodies_in tree work program ≡ bodies_at tree tree.position))
 bodies_inside tree (RunCell own) program = inl (tt, refl)
 bodies_inside tree (Move travel) program = by (next_way travel) refl
   where
     by : (way : Way) → next_way travel ≡ way →
-        ((next_way travel ≡ Down) × (bodies_in tree (Move travel) program ≡ with_bodies program (bodies_at tree tree.position))) ⊎ ((next_way travel ≡ Down → ⊥) × (bodies_in tree (Move travel) program ≡ bodies_at tree tree.position))
+        ((next_way travel ≡ Down) × (bodies_in tree (Move travel) program ≡ with_bodies program (bodies_at tree tree.position))) ⊎
+        ((next_way travel ≡ Down → ⊥) × (bodies_in tree (Move travel) program ≡ bodies_at tree tree.position))
     by Up way = inr (λ down. cc, rw (way, bodies_in) refl)
     by Down way = inl (way, rw (way, bodies_in) refl)
 
@@ -215,7 +225,8 @@ index_of tree runner Idle k = λ n.
     subst (Tells tree Idle t n) (sym (k.stands.0.defined.defined.newest n)) (none_entered tree Idle t n _ (λ other is. absurd is) (tells_here tree t n k.legal))
 index_of tree runner (Border travel) k = λ n.
     let t : Procedures = runner.procedures in
-    subst (Tells tree (Border travel) t n) (sym (k.stands.0.defined.defined.newest n)) (none_entered tree (Border travel) t n _ (λ other is. absurd is) (tells_here tree t n k.legal))
+    subst (Tells tree (Border travel) t n) (sym (k.stands.0.defined.defined.newest n))
+    (none_entered tree (Border travel) t n _ (λ other is. absurd is) (tells_here tree t n k.legal))
 index_of tree runner (Inside e) k = λ n.
     let t : Procedures = runner.procedures in
     let p : Program = k.stands.program in
@@ -223,11 +234,13 @@ index_of tree runner (Inside e) k = λ n.
     subst (Tells tree (Inside e) t n) (sym (k.stands.stands.defined.defined.newest n))
     (elim (bodies_inside tree e.work p) [
       | inl forward ↦ subst (λ (stack : List ℕ). Tells tree (Inside e) t n (place_of_first (kept_in t) stack n)) (sym forward.1)
-          (entered_tells tree (Inside e) t n p _ _ (forward.0, k.stands.of_work) (λ other is. same_program tree e.work p other k.stands.of_work is.1) (own_tell t n p (bodies_at tree tree.position)) up)
+          (entered_tells tree (Inside e) t n p _ _ (forward.0, k.stands.of_work) (λ other is. same_program tree e.work p other k.stands.of_work is.1)
+          (own_tell t n p (bodies_at tree tree.position)) up)
       | inr undone ↦ subst (λ (stack : List ℕ). Tells tree (Inside e) t n (place_of_first (kept_in t) stack n)) (sym undone.1)
           (none_entered tree (Inside e) t n _ (λ other is. absurd (undone.0 is.0)) up)
     ])
 
 -- it follows from the rest of what is kept
-pub kept_in_time : {L : Type 0} (tree : HistoryTree) (runner : Runner L) (job : Open) → Kept tree runner job → IsInTimeAt (past_of tree) (job_of job) → IsKept tree runner job
+pub kept_in_time : {L : Type 0} (tree : HistoryTree) (runner : Runner L) (job : Open) → Kept tree runner job → IsInTimeAt (past_of tree) (job_of job) →
+    IsKept tree runner job
 kept_in_time tree runner job k in_time = record { kept = k; in_time = in_time; index = index_of tree runner job k }

@@ -1,5 +1,6 @@
 -- The tree of cells read as that of the machine: its nodes and parents, the program of a work, the ways in it, and one more node.
-use Rattle.std.proofs.Common.{◌≡◌, ℕ, ◌+◌, ◌-◌, ◌<◌, ◌≤◌, List, [], ◌∷◌, ◌++◌, Some, Result, Ok, Err, length, length-append, map, get_or, set, zero, suc, refl, sym, ap, ◌∙◌, subst, arith}
+use Rattle.std.proofs.Common.{◌≡◌, ℕ, ◌+◌, ◌-◌, ◌<◌, ◌≤◌, List, [], ◌∷◌, ◌++◌, Some, Result, Ok, Err, length, length-append, map, get_or, set, zero, suc, refl}
+use Rattle.std.proofs.Common.{sym, ap, ◌∙◌, subst, arith}
 use Rattle.std.specs.Prelude.{slice_get, IfOk}
 use Rattle.std.proofs.lemmas.List.{length-map, map-append, get_or_at, get_or-map}
 use Rattle.std.proofs.lemmas.Option.{slice_get_within, get_or_from_slice_get}
@@ -34,7 +35,8 @@ use Rattle.kernel_machine.proofs.Trees.{IsNext}
 pub count_of_nodes : (tree : HistoryTree) → length (nodes_of tree) ≡ length tree.cells.nodes + 1
 count_of_nodes tree = omega (arith, length-map tree.cells.nodes node_of)
 
-same_parents : (nodes : List (Node EndedCell)) (i : ℕ) → (get_or (map node_of nodes) i root).parent ≡ get_or (map (λ (node : Node EndedCell). node.parent) nodes) i 0
+same_parents : (nodes : List (Node EndedCell)) (i : ℕ) →
+    (get_or (map node_of nodes) i root).parent ≡ get_or (map (λ (node : Node EndedCell). node.parent) nodes) i 0
 same_parents [] zero = refl
 same_parents [] (suc i) = refl
 same_parents (node ∷ nodes) zero = refl
@@ -63,7 +65,8 @@ cell_there tree (suc n) cell at =
     let within : n < length tree.cells.nodes = omega arith in
     let held : (get_or tree.cells.nodes n none).content ≡ cell =
     sym (get_or-map content tree.cells.nodes n none cell within) ∙ get_or_from_slice_get (map content tree.cells.nodes) n cell cell read in
-    ap (λ (c : EndedCell). cell_of_program c.program) (sym held) ∙ ap (λ (x : state.Node). x.cell) (sym (get_or-map node_of tree.cells.nodes n none root within))
+    ap (λ (c : EndedCell). cell_of_program c.program) (sym held)
+    ∙ ap (λ (x : state.Node). x.cell) (sym (get_or-map node_of tree.cells.nodes n none root within))
 
 -- a node has one cell
 pub one_cell : (tree : HistoryTree) (n : ℕ) (a b : EndedCell) → IsCellAt tree n a → IsCellAt tree n b → a ≡ b
@@ -72,7 +75,8 @@ one_cell tree n a b p q =
     cc
 
 -- the work has one program
-same_up : (tree : HistoryTree) (travel : Travel) (way : Way) (p q : Program) → next_way travel ≡ way → IsProgramOf tree (Move travel) p → IsProgramOf tree (Move travel) q → p ≡ q
+same_up : (tree : HistoryTree) (travel : Travel) (way : Way) (p q : Program) → next_way travel ≡ way → IsProgramOf tree (Move travel) p →
+    IsProgramOf tree (Move travel) q → p ≡ q
 same_up tree travel Up p q way a b =
     let c = rw (way, IsProgramOf) at a in
     let d = rw (way, IsProgramOf) at b in
@@ -88,7 +92,8 @@ same_program tree (Move travel) p q a b = same_up tree travel (next_way travel) 
 
 -- ---- the way to a node
 
-pub meeting_there : (tree : HistoryTree) (from to up down : ℕ) → IsRoute (parents_of tree.cells.nodes) from to up down → IsMeeting (nodes_of tree) from to up down
+pub meeting_there : (tree : HistoryTree) (from to up down : ℕ) → IsRoute (parents_of tree.cells.nodes) from to up down →
+    IsMeeting (nodes_of tree) from to up down
 meeting_there tree from to up down w = record {
   same = ancestors_there tree from up ∙ w.up_there ∙ sym w.down_there ∙ sym (ancestors_there tree to down);
   least = λ i j e. w.shortest i j (sym (ancestors_there tree from i) ∙ e ∙ ancestors_there tree to j);
@@ -128,9 +133,11 @@ child_below tree c next =
 
 -- ---- one more node
 
-pub one_more : (tree larger : HistoryTree) (node : Node EndedCell) → larger.cells.nodes ≡ tree.cells.nodes ++ node ∷ [] → nodes_of larger ≡ nodes_of tree ++ node_of node ∷ []
+pub one_more : (tree larger : HistoryTree) (node : Node EndedCell) → larger.cells.nodes ≡ tree.cells.nodes ++ node ∷ [] →
+    nodes_of larger ≡ nodes_of tree ++ node_of node ∷ []
 one_more tree larger node e =
-    ap (λ (nodes : List state.Node). root ∷ nodes) (ap (λ (nodes : List (Node EndedCell)). map node_of nodes) e ∙ map-append node_of tree.cells.nodes (node ∷ []))
+    ap (λ (nodes : List state.Node). root ∷ nodes)
+    (ap (λ (nodes : List (Node EndedCell)). map node_of nodes) e ∙ map-append node_of tree.cells.nodes (node ∷ []))
 
 -- the nodes hold what they held, and the new one what it was added with
 get_before : {A : Type 0} (xs : List A) (y a : A) (i : ℕ) → i < length xs → slice_get (xs ++ y ∷ []) i ≡ Some a → slice_get xs i ≡ Some a
@@ -142,27 +149,36 @@ get_new : {A : Type 0} (xs : List A) (y a : A) → slice_get (xs ++ y ∷ []) (l
 get_new [] y a h = cc
 get_new (x ∷ xs) y a h = get_new xs y a h
 
-pub contents_more : (tree larger : HistoryTree) (node : Node EndedCell) → larger.cells.nodes ≡ tree.cells.nodes ++ node ∷ [] → contents_of larger.cells ≡ contents_of tree.cells ++ node.content ∷ []
+pub contents_more : (tree larger : HistoryTree) (node : Node EndedCell) → larger.cells.nodes ≡ tree.cells.nodes ++ node ∷ [] →
+    contents_of larger.cells ≡ contents_of tree.cells ++ node.content ∷ []
 contents_more tree larger node e =
     let content = λ (node : Node EndedCell). node.content in
     ap (λ (nodes : List (Node EndedCell)). map content nodes) e ∙ map-append content tree.cells.nodes (node ∷ [])
 
-pub cell_kept : (tree larger : HistoryTree) (node : Node EndedCell) (n : ℕ) (cell : EndedCell) → larger.cells.nodes ≡ tree.cells.nodes ++ node ∷ [] → IsCellAt larger n cell → n ≤ length tree.cells.nodes → IsCellAt tree n cell
+pub cell_kept : (tree larger : HistoryTree) (node : Node EndedCell) (n : ℕ) (cell : EndedCell) → larger.cells.nodes ≡ tree.cells.nodes ++ node ∷ [] →
+    IsCellAt larger n cell → n ≤ length tree.cells.nodes → IsCellAt tree n cell
 cell_kept tree larger node n cell e at low =
     let some = at.0 in
-    let count : length (contents_of tree.cells) ≡ length tree.cells.nodes = length-map tree.cells.nodes (λ (node : Node EndedCell). node.content) in
-    (at.0, get_before (contents_of tree.cells) node.content cell (n - 1) (omega arith) (sym (ap (λ (xs : List EndedCell). slice_get xs (n - 1)) (contents_more tree larger node e)) ∙ at.1))
+    let count : length (contents_of tree.cells) ≡ length tree.cells.nodes = length-map tree.cells.nodes (λ (node : Node EndedCell). node.content) in (
+      at.0,
+      get_before (contents_of tree.cells) node.content cell (n - 1) (omega arith)
+          (sym (ap (λ (xs : List EndedCell). slice_get xs (n - 1)) (contents_more tree larger node e)) ∙ at.1),
+    )
 
-pub cell_added : (tree larger : HistoryTree) (node : Node EndedCell) (n : ℕ) (cell : EndedCell) → larger.cells.nodes ≡ tree.cells.nodes ++ node ∷ [] → IsCellAt larger n cell → length tree.cells.nodes < n → (n ≡ length (nodes_of tree)) × (node.content ≡ cell)
+pub cell_added : (tree larger : HistoryTree) (node : Node EndedCell) (n : ℕ) (cell : EndedCell) → larger.cells.nodes ≡ tree.cells.nodes ++ node ∷ [] →
+    IsCellAt larger n cell → length tree.cells.nodes < n → (n ≡ length (nodes_of tree)) × (node.content ≡ cell)
 cell_added tree larger node n cell e at high =
     let some = at.0 in
     let size = count_of_nodes tree in
     let count : length (contents_of tree.cells) ≡ length tree.cells.nodes = length-map tree.cells.nodes (λ (node : Node EndedCell). node.content) in
-    let read : slice_get (contents_of tree.cells ++ node.content ∷ []) (n - 1) ≡ Some cell = sym (ap (λ (xs : List EndedCell). slice_get xs (n - 1)) (contents_more tree larger node e)) ∙ at.1 in
+    let read : slice_get (contents_of tree.cells ++ node.content ∷ []) (n - 1) ≡ Some cell =
+    sym (ap (λ (xs : List EndedCell). slice_get xs (n - 1)) (contents_more tree larger node e)) ∙ at.1 in
     let place = slice_get_within (contents_of tree.cells ++ node.content ∷ []) (n - 1) cell read in
     let more = length-append (contents_of tree.cells) (node.content ∷ []) in
-    let last : n - 1 ≡ length (contents_of tree.cells) = omega arith in
-    (omega arith, get_new (contents_of tree.cells) node.content cell (sym (ap (λ (i : ℕ). slice_get (contents_of tree.cells ++ node.content ∷ []) i) last) ∙ read))
+    let last : n - 1 ≡ length (contents_of tree.cells) = omega arith in (
+      omega arith,
+      get_new (contents_of tree.cells) node.content cell (sym (ap (λ (i : ℕ). slice_get (contents_of tree.cells ++ node.content ∷ []) i) last) ∙ read),
+    )
 
 -- its parent is the one that it was added with
 parent_added : (nodes : List (Node EndedCell)) (node : Node EndedCell) → parent_in (parents_of (nodes ++ node ∷ [])) (length nodes + 1) ≡ node.parent
@@ -170,10 +186,12 @@ parent_added nodes node =
     ap (λ (parents : List ℕ). parent_in parents (length nodes + 1)) (parents_more nodes node)
     ∙ get_or_at (parents_of nodes) node.parent [] 0 (length nodes + 1) (count_of_parents nodes)
 
-pub child_added : (old new : cells.Tree EndedCell) (node : Node EndedCell) (n : ℕ) → new ≡ cells.grown old node → n ≡ length old.nodes + 1 → cells.IsChild new node.parent n
+pub child_added : (old new : cells.Tree EndedCell) (node : Node EndedCell) (n : ℕ) → new ≡ cells.grown old node → n ≡ length old.nodes + 1 →
+    cells.IsChild new node.parent n
 child_added old new node n e f =
     let size = length-append old.nodes (node ∷ []) in
-    let child : cells.IsChild (cells.grown old node) node.parent (length old.nodes + 1) = record { below_root = omega arith; known = omega arith; parent = parent_added old.nodes node } in
+    let child : cells.IsChild (cells.grown old node) node.parent (length old.nodes + 1) =
+    record { below_root = omega arith; known = omega arith; parent = parent_added old.nodes node } in
     rw (e, f) child
 
 -- a favourite that is set among more nodes is the one that is set among those before
@@ -186,8 +204,10 @@ set_before (y ∷ ys) (suc i) x l = ap (λ (zs : List ℕ). y ∷ zs) (set_befor
 pub number_added : (tree : HistoryTree) (n : ℕ) → n ≡ length tree.cells.nodes + 1 → n ≡ length (nodes_of tree)
 number_added tree n e = let size = count_of_nodes tree in omega arith
 
-pub favourites_added : (tree : HistoryTree) (grown set_there : cells.Tree EndedCell) (node : Node EndedCell) (n : ℕ) → IsLegal (past_of tree) → grown ≡ cells.grown tree.cells node → n ≡ length tree.cells.nodes + 1 →
-    set_there ≡ record grown { favourites = set grown.favourites tree.position n } → set_there.favourites ≡ set tree.cells.favourites tree.position (length (nodes_of tree)) ++ 0 ∷ []
+pub favourites_added : (tree : HistoryTree) (grown set_there : cells.Tree EndedCell) (node : Node EndedCell) (n : ℕ) → IsLegal (past_of tree) →
+    grown ≡ cells.grown tree.cells node → n ≡ length tree.cells.nodes + 1 →
+    set_there ≡ record grown { favourites = set grown.favourites tree.position n } → set_there.favourites ≡ set tree.cells.favourites tree.position
+    (length (nodes_of tree)) ++ 0 ∷ []
 favourites_added tree grown set_there node n g e f h =
     let places = g.favourites in
     let low = g.position in

@@ -30,7 +30,8 @@ over (p ∷ more) qs = over more (p ∷ qs) ∙ sym (ap (λ ps. ps ++ qs) (over 
 
 -- those of a cell from a place on, and one more
 pub row_more : (ys : List Procedure) (i : ℕ) (y : Procedure) → i < length ys → get_or ys i y ≡ y →
-    define (map plain_procedure (procedures_view (drop i ys))) [] ≡ define (map plain_procedure (procedures_view (drop (suc i) ys))) [] ++ plain_procedure (procedure_view y) ∷ []
+    define (map plain_procedure (procedures_view (drop i ys))) [] ≡ define (map plain_procedure (procedures_view (drop (suc i) ys))) [] ++ plain_procedure
+    (procedure_view y) ∷ []
 row_more [] i y l e = absurd (omega arith)
 row_more (z ∷ ys) zero y l e =
     over (map plain_procedure (procedures_view ys)) (plain_procedure (procedure_view z) ∷ [])
@@ -43,18 +44,22 @@ pushed all b = map-append (λ (p : Bor Procedure). plain_procedure (procedure_vi
 -- ---- along the path
 
 -- the world's procedures are those of the node's cell over those of the world above
-world_procedures : (s : Past) (n : ℕ) → IsLegal s → 0 < n → n < length s.nodes → (world_at s n).procedures ≡ define (node_at s n).cell.procedures (world_at s (node_at s n).parent).procedures
+world_procedures : (s : Past) (n : ℕ) → IsLegal s → 0 < n → n < length s.nodes → (world_at s n).procedures ≡ define (node_at s n).cell.procedures
+    (world_at s (node_at s n).parent).procedures
 world_procedures s n g some known =
     let run : IsRun s.nodes s.worlds n = g.ran n some known in
     exec_procedures (node_at s n).cell (world_at s (node_at s n).parent) (node_at s n).steps (world_at s n) run.ran
 
 -- what was added, and the world's procedures behind it
-pub climbed : (s : Past) (n up : ℕ) (ps all told new : List Proc) → IsLegal s → 0 < n → n < length s.nodes → ps ≡ (node_at s n).cell.procedures → up ≡ (node_at s n).parent →
+pub climbed : (s : Past) (n up : ℕ) (ps all told new : List Proc) → IsLegal s → 0 < n → n < length s.nodes → ps ≡ (node_at s n).cell.procedures →
+    up ≡ (node_at s n).parent →
     told ++ (world_at s n).procedures ≡ all → new ≡ told ++ define ps [] → new ++ (world_at s up).procedures ≡ all
 climbed s n up ps all told new legal some known own parent h made =
     ap (λ l. l ++ (world_at s up).procedures) made
     ∙ append_assoc told (define ps []) (world_at s up).procedures
-    ∙ ap (λ l. told ++ l) (sym (over ps (world_at s up).procedures) ∙ ap (λ (qs : List Proc). define qs (world_at s up).procedures) own ∙ ap (λ (k : ℕ). define (node_at s n).cell.procedures (world_at s k).procedures) parent ∙ sym (world_procedures s n legal some known))
+    ∙ ap (λ l. told ++ l)
+    (sym (over ps (world_at s up).procedures) ∙ ap (λ (qs : List Proc). define qs (world_at s up).procedures) own
+    ∙ ap (λ (k : ℕ). define (node_at s n).cell.procedures (world_at s k).procedures) parent ∙ sym (world_procedures s n legal some known))
     ∙ h
 
 pub at_root : (s : Past) (n : ℕ) (told all : List Proc) → IsLegal s → n ≡ 0 → told ++ (world_at s n).procedures ≡ all → told ≡ all
@@ -70,7 +75,8 @@ started_down s work travel e way = rw e (rw (way, code_of) refl)
 -- ---- where no body is kept
 
 -- there is no procedure
-pub none_kept : (xs es : List Name) (bodies : List kept.LinkedProcedure) (stack : List ℕ) (ps : List Proc) → length bodies ≡ 0 → AreBodies xs bodies stack (procedures_in es ps) → ps ≡ []
+pub none_kept : (xs es : List Name) (bodies : List kept.LinkedProcedure) (stack : List ℕ) (ps : List Proc) → length bodies ≡ 0 →
+    AreBodies xs bodies stack (procedures_in es ps) → ps ≡ []
 none_kept xs es bodies [] [] e h = refl
 none_kept xs es bodies [] (p ∷ ps) e h = absurd h
 none_kept xs es bodies (i ∷ stack) [] e h = absurd h
@@ -79,5 +85,7 @@ none_kept xs es bodies (i ∷ stack) (p ∷ ps) e h = absurd (let within = slice
 -- ---- procedures that are lent
 
 -- with the procedures of the world that it shows a runner shows that world
-pub world_lent : {L : Type 0} (runner : Runner L) (shown : ShownWorld) (ps : List Proc) → Shows runner shown → ps ≡ shown.world.procedures → world_of ps runner ≡ shown.world
-world_lent runner shown ps h e = ap (λ (qs : List Proc). world_of qs runner) e ∙ ap (λ (s : Store). record { store = s; procedures = shown.world.procedures }) h.store
+pub world_lent : {L : Type 0} (runner : Runner L) (shown : ShownWorld) (ps : List Proc) → Shows runner shown → ps ≡ shown.world.procedures →
+    world_of ps runner ≡ shown.world
+world_lent runner shown ps h e = ap (λ (qs : List Proc). world_of qs runner) e
+    ∙ ap (λ (s : Store). record { store = s; procedures = shown.world.procedures }) h.store

@@ -48,7 +48,8 @@ module _ (tree larger : HistoryTree) (node : Node EndedCell) (nodes : larger.cel
   world_kept n low =
       let size = count_of_nodes tree in
       let many = legal.worlds in
-      ap (λ (worlds : List World). get_or worlds n empty_world) worlds_grown ∙ get_or_append_left (past_of tree).worlds (last_world ∷ []) empty_world n (omega arith)
+      ap (λ (worlds : List World). get_or worlds n empty_world) worlds_grown
+      ∙ get_or_append_left (past_of tree).worlds (last_world ∷ []) empty_world n (omega arith)
 
   pub world_added : world_at (past_of larger) (length (nodes_of tree)) ≡ last_world
   world_added =

@@ -56,7 +56,8 @@ asked_more old new piece events taken contexts more brings same asked =
     ))
 
 -- it has asked the same where a piece brings nothing
-asked_on : (old new : PeerState) (piece : List ℕ) (taken : ℕ) (contexts : List (List ℕ)) → Brings old piece [] new → HasAsked old taken contexts → HasAsked new taken contexts
+asked_on : (old new : PeerState) (piece : List ℕ) (taken : ℕ) (contexts : List (List ℕ)) → Brings old piece [] new → HasAsked old taken contexts →
+    HasAsked new taken contexts
 asked_on old new piece taken contexts brings asked =
     subst (HasAsked new taken) (append-nil contexts) (asked_more old new piece [] taken contexts [] brings refl asked)
 

@@ -11,7 +11,8 @@ use Rattle.kernel_board.specs.declared.log.Place.{Place}
 use Rattle.exact_write.specs.Sent.{SentSome}
 use Rattle.exact_write.proofs.SendLemmas.{appends_none, appends_join}
 use Rattle.kernel_iopub.specs.Pings.{WereAsked}
-use Rattle.kernel_iopub.specs.Round.{Outgoing, Shown, Pong, outgoing_octets, AreTold, AreToldTo, AreToldInPart, AreTurns, none, begun, round, pongs, number_at, IsSent, AreSentTo, AreAnswered, AreAnsweredInPart}
+use Rattle.kernel_iopub.specs.Round.{Outgoing, Shown, Pong, outgoing_octets, AreTold, AreToldTo, AreToldInPart, AreTurns, none, begun, round, pongs, number_at}
+use Rattle.kernel_iopub.specs.Round.{IsSent, AreSentTo, AreAnswered, AreAnsweredInPart}
 
 -- ---- octets behind those that went out
 
@@ -161,7 +162,8 @@ answered_on taken mid behind a b c at s r = (
 )
 
 -- where no place was known, one from which nothing has gone out may be taken
-from_where : (taken behind : ℕ) (a b : Option (List ℕ)) (at joined : Option Place) → AreSentTo taken a b at behind → AreSentTo taken a b (option_or at joined) behind
+from_where : (taken behind : ℕ) (a b : Option (List ℕ)) (at joined : Option Place) → AreSentTo taken a b at behind →
+    AreSentTo taken a b (option_or at joined) behind
 from_where taken behind a b (Some place) joined s = s
 from_where taken behind a b None (Some place) s = (s.0, begun taken place.number behind s.0 s.1, s.2)
 from_where taken behind a b None None s = s

@@ -45,7 +45,8 @@ module _ (xs : List Name) (slots : AreSlots xs) where
   symbol_slot : (x : Symbol) → HasItsNumber xs x → IsSlot (symbol_name xs x)
   symbol_slot x h = (x.number, name_is xs x.number (slot x.number) (slots x.number h))
 
-  built_calls : (t : ℕ → tree.Stm) (members : List ℕ) (s : Statement) → ((k : ℕ) → CallsIn IsSlot (t k)) → StatementHasNumbers xs s → CallsIn IsSlot (built xs t members s)
+  built_calls : (t : ℕ → tree.Stm) (members : List ℕ) (s : Statement) → ((k : ℕ) → CallsIn IsSlot (t k)) → StatementHasNumbers xs s →
+      CallsIn IsSlot (built xs t members s)
   built_calls t members Skip all h = tt
   built_calls t members (Assign x u e) all h = tt
   built_calls t members (AssignElement a i u e) all h = tt
@@ -63,7 +64,8 @@ module _ (xs : List Name) (slots : AreSlots xs) where
   trees_call members [] done all h = all
   trees_call members (s ∷ ss) done all h =
       let one = built_calls (tree_among done) members s (among_calls done all) (h 0 s refl) in
-      trees_call members ss (done ++ built xs (tree_among done) members s ∷ []) (all_more done (built xs (tree_among done) members s) all one) (λ n r e. h (suc n) r e)
+      trees_call members ss (done ++ built xs (tree_among done) members s ∷ []) (all_more done (built xs (tree_among done) members s) all one)
+      (λ n r e. h (suc n) r e)
 
   tree_calls : (members : List ℕ) (ss : List Statement) → HaveNumbers xs ss → (n : ℕ) → CallsIn IsSlot (tree_at xs members ss n)
   unfolding tree_at
@@ -74,7 +76,8 @@ module _ (xs : List Name) (slots : AreSlots xs) where
   code_calls c h = inside_calls (code_tree xs c) c.members.items c.body (tree_calls c.members.items c.statements.items h)
 
   -- what defined bodies call is listed
-  pub defined_call : (es : List Name) (bodies : List LinkedProcedure) (stack : List ℕ) (ps : List Proc) → AreBodies xs bodies stack (procedures_in es ps) → BodiesCall (IsMet es) ps
+  pub defined_call : (es : List Name) (bodies : List LinkedProcedure) (stack : List ℕ) (ps : List Proc) → AreBodies xs bodies stack (procedures_in es ps) →
+      BodiesCall (IsMet es) ps
   defined_call es bodies stack [] h = tt
   defined_call es bodies [] (p ∷ ps) h = absurd h
   defined_call es bodies (i ∷ stack) (p ∷ ps) h = (

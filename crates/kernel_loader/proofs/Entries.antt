@@ -1,5 +1,6 @@
 -- The names of a store as the check of a cell sees them, the oldest first.
-use Rattle.std.proofs.Common.{◌≡◌, ℕ, ◌<◌, ◌≤◌, inl, inr, List, [], ◌∷◌, ◌++◌, length, map, take, get_or, zero, suc, refl, sym, ap, ◌∙◌, subst, arith, length-append}
+use Rattle.std.proofs.Common.{◌≡◌, ℕ, ◌<◌, ◌≤◌, inl, inr, List, [], ◌∷◌, ◌++◌, length, map, take, get_or, zero, suc, refl, sym, ap, ◌∙◌, subst, arith}
+use Rattle.std.proofs.Common.{length-append}
 use Rattle.std.specs.Prelude.{slice_get, Some, None}
 use Rattle.std.proofs.lemmas.Bool.{cases_lt}
 use Rattle.janus_meaning.specs.Syntax.{Name, ANumber, AnArray, AStack}
@@ -68,7 +69,9 @@ get_last : (xs : List (Name × Kind)) (y d : Name × Kind) → get_or (xs ++ y �
 get_last [] y d = refl
 get_last (x ∷ xs) y d = get_last xs y d
 
-new_on_top : (x : Name) (v : Val) (s : Store) (i : ℕ) (d : Name × Kind) → kind_at x (names.shape_in (entries s)) ≡ None → (i < size_of s → kind_at (get_or (entries s) i d).0 (names.shape_in (take i (entries s))) ≡ None) → i < size_of (Slot x v s) → kind_at (get_or (entries (Slot x v s)) i d).0 (names.shape_in (take i (entries (Slot x v s)))) ≡ None
+new_on_top : (x : Name) (v : Val) (s : Store) (i : ℕ) (d : Name × Kind) → kind_at x (names.shape_in (entries s)) ≡ None →
+    (i < size_of s → kind_at (get_or (entries s) i d).0 (names.shape_in (take i (entries s))) ≡ None) → i < size_of (Slot x v s) →
+    kind_at (get_or (entries (Slot x v s)) i d).0 (names.shape_in (take i (entries (Slot x v s)))) ≡ None
 new_on_top x v s i d new h l =
     let e : Name × Kind = (x, kind_in v) in
     let more : entries (Slot x v s) ≡ entries s ++ e ∷ [] = entries_more (listed s) (x, v) in
@@ -81,14 +84,16 @@ new_on_top x v s i d new h l =
           (rw (front, name) (h below)))
       | inr last ↦
           (let same : i ≡ length (entries s) = omega arith in
-          let front : take (length (entries s)) (entries s ++ e ∷ []) ≡ entries s = take_front (entries s) (e ∷ []) (length (entries s)) (omega arith) ∙ take_whole (entries s) in
+          let front : take (length (entries s)) (entries s ++ e ∷ []) ≡ entries s = take_front (entries s) (e ∷ []) (length (entries s)) (omega arith)
+          ∙ take_whole (entries s) in
           let name : get_or (entries s ++ e ∷ []) (length (entries s)) d ≡ e = get_last (entries s) e d in
           subst (λ (es : List (Name × Kind)). kind_at (get_or es i d).0 (names.shape_in (take i es)) ≡ None) (sym more)
           (rw (same, front, name) new))
     ]
 
 -- each name is new behind those before it
-pub entry_new : (s : Store) (i : ℕ) (d : Name × Kind) → LendNothing s → AreDistinct (shape_of s) → i < size_of s → kind_at (get_or (entries s) i d).0 (names.shape_in (take i (entries s))) ≡ None
+pub entry_new : (s : Store) (i : ℕ) (d : Name × Kind) → LendNothing s → AreDistinct (shape_of s) → i < size_of s →
+    kind_at (get_or (entries s) i d).0 (names.shape_in (take i (entries s))) ≡ None
 entry_new Bare i d lent h l = absurd (omega arith)
 entry_new (Slot x (Stk m) s) i d lent h l =
     new_on_top x (Stk m) s i d (subst (λ (g : Shape). kind_at x g ≡ None) (sym (entries_shape s lent)) h.0) (λ below. entry_new s i d lent h.1 below) l
@@ -102,7 +107,8 @@ entry_new (Slot x (Arr m) s) i d lent h l =
 pub entry_read : (s : Store) (i : ℕ) (e : Name × Val) (d : Name × Kind) → slice_get (listed s) i ≡ Some e → get_or (entries s) i d ≡ (e.0, kind_in e.1)
 entry_read s i e d read = from_list (listed s) i e d read
   where
-    from_list : (xs : List (Name × Val)) (i : ℕ) (e : Name × Val) (d : Name × Kind) → slice_get xs i ≡ Some e → get_or (map entry_of xs) i d ≡ (e.0, kind_in e.1)
+    from_list : (xs : List (Name × Val)) (i : ℕ) (e : Name × Val) (d : Name × Kind) → slice_get xs i ≡ Some e →
+        get_or (map entry_of xs) i d ≡ (e.0, kind_in e.1)
     from_list [] i e d h = cc
     from_list (x ∷ xs) zero e d h = let same : x ≡ e = cc in ap entry_of same
     from_list (x ∷ xs) (suc i) e d h = from_list xs i e d h

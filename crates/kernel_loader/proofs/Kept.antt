@@ -31,13 +31,18 @@ parameters_named : (xs : List Name) (ps : List FlatParameter) → ParametersHave
 parameters_named xs [] h = tt
 parameters_named xs (p ∷ ps) h = (is_numbered xs p.name.number h.0, parameters_named xs ps h.1)
 
-pub body_of_flat : (xs : List Name) (f : flat.FlatProcedure) (b : LinkedProcedure) (p : Proc) → proc_of xs f ≡ p → ProcedureHasNumbers xs f → length p.params ≤ parameter_limit → b.name ≡ f.name.number → b.parameters.items ≡ numbers_of f.parameters.items →
-    ((xs : List Name) → block_in xs b.book Forward ≡ code_block xs f.body) → ((xs : List Name) → HaveNumbers xs f.body.statements.items → BookHasNumbers xs b.book) → IsNumbered xs b.name p.name × IsBody xs b p
+pub body_of_flat : (xs : List Name) (f : flat.FlatProcedure) (b : LinkedProcedure) (p : Proc) → proc_of xs f ≡ p → ProcedureHasNumbers xs f →
+    length p.params ≤ parameter_limit → b.name ≡ f.name.number → b.parameters.items ≡ numbers_of f.parameters.items →
+    ((xs : List Name) → block_in xs b.book Forward ≡ code_block xs f.body) →
+    ((xs : List Name) → HaveNumbers xs f.body.statements.items → BookHasNumbers xs b.book) → IsNumbered xs b.name p.name × IsBody xs b p
 body_of_flat xs f b p is numbered few name parameters body books = (
-  subst (λ (p : Proc). IsNumbered xs b.name p.name) is (subst (λ k. IsNumbered xs k (proc_of xs f).name) (sym name) (is_numbered xs f.name.number numbered.name)),
+  subst (λ (p : Proc). IsNumbered xs b.name p.name) is
+      (subst (λ k. IsNumbered xs k (proc_of xs f).name) (sym name) (is_numbered xs f.name.number numbered.name)),
   record {
     few = subst (λ ks. length ks ≤ parameter_limit) (sym parameters)
-        (subst (λ n. n ≤ parameter_limit) (ap (λ (p : Proc). length p.params) (sym is) ∙ length-map f.parameters.items (param_of xs) ∙ sym (length-map f.parameters.items (λ (p : FlatParameter). p.name.number))) few);
+        (subst (λ n. n ≤ parameter_limit)
+        (ap (λ (p : Proc). length p.params) (sym is) ∙ length-map f.parameters.items (param_of xs)
+        ∙ sym (length-map f.parameters.items (λ (p : FlatParameter). p.name.number))) few);
     parameters = subst (λ ks. AreNamed xs ks (names_of p.params)) (sym parameters)
         (subst (λ (p : Proc). AreNamed xs (numbers_of f.parameters.items) (names_of p.params)) is (parameters_named xs f.parameters.items numbered.parameters));
     body = body xs ∙ ap (λ (p : Proc). p.body) is;
@@ -55,12 +60,14 @@ few_slots es p few = subst (λ n. n ≤ parameter_limit) (sym (stacked_count p.p
 
 -- ---- several
 
-pub formed_at : (hs : Heads) (ys : List Defined.Procedure) (i : ℕ) (y : Defined.Procedure) → i < length ys → get_or ys i y ≡ y → AreProcs hs (map plain_procedure (procedures_view ys)) → IsProc hs (plain_procedure (procedure_view y))
+pub formed_at : (hs : Heads) (ys : List Defined.Procedure) (i : ℕ) (y : Defined.Procedure) → i < length ys → get_or ys i y ≡ y →
+    AreProcs hs (map plain_procedure (procedures_view ys)) → IsProc hs (plain_procedure (procedure_view y))
 formed_at hs [] i y l e h = absurd (omega arith)
 formed_at hs (z ∷ ys) zero y l e h = subst (λ (z : Defined.Procedure). IsProc hs (plain_procedure (procedure_view z))) e h.0
 formed_at hs (z ∷ ys) (suc i) y l e h = formed_at hs ys i y (omega arith) e h.1
 
-procedures_more : (ys : List Defined.Procedure) (i : ℕ) (y : Defined.Procedure) → i < length ys → get_or ys i y ≡ y → map plain_procedure (procedures_view (take (suc i) ys)) ≡ map plain_procedure (procedures_view (take i ys)) ++ plain_procedure (procedure_view y) ∷ []
+procedures_more : (ys : List Defined.Procedure) (i : ℕ) (y : Defined.Procedure) → i < length ys → get_or ys i y ≡ y →
+    map plain_procedure (procedures_view (take (suc i) ys)) ≡ map plain_procedure (procedures_view (take i ys)) ++ plain_procedure (procedure_view y) ∷ []
 procedures_more [] i y l e = absurd (omega arith)
 procedures_more (z ∷ ys) zero y l e = ap (λ (z : Defined.Procedure). plain_procedure (procedure_view z) ∷ []) e
 procedures_more (z ∷ ys) (suc i) y l e = ap (λ ps. plain_procedure (procedure_view z) ∷ ps) (procedures_more ys i y (omega arith) e)
@@ -84,7 +91,8 @@ one_longer [] b = refl
 one_longer (x ∷ xs) b = ap suc (one_longer xs b)
 
 -- one body more is kept ..
-pub kept_more : (old all new : List LinkedProcedure) (i : ℕ) (b : LinkedProcedure) → length all ≡ length old + i → take (length old) all ≡ old → new ≡ all ++ b ∷ [] → (length new ≡ length old + (i + 1)) × (take (length old) new ≡ old)
+pub kept_more : (old all new : List LinkedProcedure) (i : ℕ) (b : LinkedProcedure) → length all ≡ length old + i → take (length old) all ≡ old →
+    new ≡ all ++ b ∷ [] → (length new ≡ length old + (i + 1)) × (take (length old) new ≡ old)
 kept_more old all new i b count older made =
     let longer = one_longer all b in (
       ap (λ (bs : List LinkedProcedure). length bs) made ∙ longer ∙ (let r : suc (length all) ≡ length old + (i + 1) = omega arith in r),
@@ -92,15 +100,18 @@ kept_more old all new i b count older made =
     )
 
 -- .. which is that of a procedure with slots
-pub bodies_more : (xs es : List Name) (old all new : List LinkedProcedure) (ys : List Defined.Procedure) (i : ℕ) (y : Defined.Procedure) (b : LinkedProcedure) → i < length ys → get_or ys i y ≡ y →
-    AreBodiesFrom xs all (length old) (procedures_in es (map plain_procedure (procedures_view (take i ys)))) → length all ≡ length old + i → new ≡ all ++ b ∷ [] →
+pub bodies_more : (xs es : List Name) (old all new : List LinkedProcedure) (ys : List Defined.Procedure) (i : ℕ) (y : Defined.Procedure) (b : LinkedProcedure) →
+    i < length ys → get_or ys i y ≡ y →
+    AreBodiesFrom xs all (length old) (procedures_in es (map plain_procedure (procedures_view (take i ys)))) → length all ≡ length old + i →
+    new ≡ all ++ b ∷ [] →
     IsNumbered xs b.name (procedure_in es (plain_procedure (procedure_view y))).name → IsBody xs b (procedure_in es (plain_procedure (procedure_view y))) →
     AreBodiesFrom xs new (length old) (procedures_in es (map plain_procedure (procedures_view (take (i + 1) ys))))
 bodies_more xs es old all new ys i y b l e bodies count made named body =
     let ps : List Proc = procedures_in es (map plain_procedure (procedures_view (take i ys))) in
     let p : Proc = procedure_in es (plain_procedure (procedure_view y)) in
     let one : suc i ≡ i + 1 = omega arith in
-    let many : length ps ≡ i = length-map (map plain_procedure (procedures_view (take i ys))) (procedure_in es) ∙ procedures_count ys i (let r : i ≤ length ys = omega arith in r) in
+    let many : length ps ≡ i = length-map (map plain_procedure (procedures_view (take i ys))) (procedure_in es)
+    ∙ procedures_count ys i (let r : i ≤ length ys = omega arith in r) in
     let place : length all ≡ length old + length ps = count ∙ ap (λ n. length old + n) (sym many) in
     let at : slice_get (all ++ b ∷ []) (length old + length ps) ≡ Some b = ap (slice_get (all ++ b ∷ [])) (sym place) ∙ last_one all b in
     let more : procedures_in es (map plain_procedure (procedures_view (take (i + 1) ys))) ≡ ps ++ p ∷ [] =

@@ -1,7 +1,8 @@
 -- A table of procedures' names that goes on: where all that is called is listed, blocks and procedures keep their numbers.
 use Rattle.std.proofs.Common.{◌≡◌, ℕ, zero, suc, Bool, true, false, List, [], ◌∷◌, ◌++◌, length, Some, None, slice_get, refl, ap, ◌∙◌, sym, arith}
 use Rattle.std.proofs.lemmas.Option.{slice_get_past}
-use Rattle.janus_meaning.specs.Syntax.{Name, Proc, names_of, Stm, Blk, Skip, Set, SetAt, Push, Pop, Swap, If, From, LocalInt, LocalStack, Call, Uncall, Nil, Cons, ANumber, AStack}
+use Rattle.janus_meaning.specs.Syntax.{Name, Proc, names_of, Stm, Blk, Skip, Set, SetAt, Push, Pop, Swap, If, From, LocalInt, LocalStack, Call, Uncall, Nil}
+use Rattle.janus_meaning.specs.Syntax.{Cons, ANumber, AStack}
 use Rattle.janus_meaning.specs.Store.{same_name}
 use Rattle.janus_meaning.specs.Shape.{Shape, Heads}
 use Rattle.janus_meaning.specs.Formed.{IsStm, IsBlk, AreProcs}
@@ -68,7 +69,8 @@ module _ (hs : Heads) (es : List Name) (q : HasEntries hs es) where
 abbrev pub IsSlot : Name → Type 0
 IsSlot x = (k : ℕ) × (x ≡ slot k)
 
-number_by : (n : ℕ) (h : Name) (es : List Name) (f : Name) (b : Bool) → same_name f h ≡ b → (IsSlot (number_from (suc n) es f) → IsMet es f) → IsSlot (picked b (slot n) (number_from (suc n) es f)) → IsMet (h ∷ es) f
+number_by : (n : ℕ) (h : Name) (es : List Name) (f : Name) (b : Bool) → same_name f h ≡ b → (IsSlot (number_from (suc n) es f) → IsMet es f) →
+    IsSlot (picked b (slot n) (number_from (suc n) es f)) → IsMet (h ∷ es) f
 number_by n h es f true s later p = (0, ap Some (sym (same_name_true f h s)))
 number_by n h es f false s later p = let m = later p in (suc m.0, m.1)
 
@@ -108,7 +110,8 @@ met_later h es f ne m = at m.0 m.1
         cc
     at (suc k) e = (k, e)
 
-kept_by : (n : ℕ) (h : Name) (es more : List Name) (f : Name) (b : Bool) → same_name f h ≡ b → IsMet (h ∷ es) f → (IsMet es f → number_from (suc n) (es ++ more) f ≡ number_from (suc n) es f)
+kept_by : (n : ℕ) (h : Name) (es more : List Name) (f : Name) (b : Bool) → same_name f h ≡ b → IsMet (h ∷ es) f →
+    (IsMet es f → number_from (suc n) (es ++ more) f ≡ number_from (suc n) es f)
     → picked b (slot n) (number_from (suc n) (es ++ more) f) ≡ picked b (slot n) (number_from (suc n) es f)
 kept_by n h es more f true s m later = refl
 kept_by n h es more f false s m later = later (met_later h es f s m)
@@ -130,9 +133,11 @@ module _ (es fs : List Name) (onward : GoOn es fs) where
     stm_stays g (Pop x y) h = refl
     stm_stays g (Swap x y) h = refl
     stm_stays g (If a s t b) h =
-        ap (λ s. If (exp_in g a) s (block_in fs g t) (exp_in g b)) (block_stays g s h.0) ∙ ap (λ t. If (exp_in g a) (block_in es g s) t (exp_in g b)) (block_stays g t h.1)
+        ap (λ s. If (exp_in g a) s (block_in fs g t) (exp_in g b)) (block_stays g s h.0)
+        ∙ ap (λ t. If (exp_in g a) (block_in es g s) t (exp_in g b)) (block_stays g t h.1)
     stm_stays g (From a s t b) h =
-        ap (λ s. From (exp_in g a) s (block_in fs g t) (exp_in g b)) (block_stays g s h.0) ∙ ap (λ t. From (exp_in g a) (block_in es g s) t (exp_in g b)) (block_stays g t h.1)
+        ap (λ s. From (exp_in g a) s (block_in fs g t) (exp_in g b)) (block_stays g s h.0)
+        ∙ ap (λ t. From (exp_in g a) (block_in es g s) t (exp_in g b)) (block_stays g t h.1)
     stm_stays g (LocalInt x a s b) h = ap (λ s. LocalInt (slot (length g)) (exp_in g a) s (exp_in g b)) (block_stays (x ∷ g) s h)
     stm_stays g (LocalStack x s) h = ap (λ s. LocalStack (slot (length g)) s) (block_stays (x ∷ g) s h)
     stm_stays g (Call f xs) h = ap (λ n. Call n (slots_in g xs)) (number_stays f h)

@@ -37,7 +37,8 @@ use Rattle.kernel_loader.proofs.CodeCalls.{defined_call}
 -- ---- indices of bodies
 
 -- the bodies that are defined are kept
-pub bodies_within : (xs : List Name) (bodies : List LinkedProcedure) (stack : List ℕ) (ps : List Proc) → AreBodies xs bodies stack ps → AreBelow (length bodies) stack
+pub bodies_within : (xs : List Name) (bodies : List LinkedProcedure) (stack : List ℕ) (ps : List Proc) → AreBodies xs bodies stack ps →
+    AreBelow (length bodies) stack
 bodies_within xs bodies [] [] h = tt
 bodies_within xs bodies [] (p ∷ ps) h = absurd h
 bodies_within xs bodies (i ∷ stack) [] h = absurd h
@@ -50,7 +51,8 @@ get_taken (suc n) (x ∷ xs) zero b e = e
 get_taken (suc n) (x ∷ xs) (suc i) b e = get_taken n xs i b e
 
 -- they are at their indices among more
-bodies_of_more : (xs : List Name) (n : ℕ) (bodies : List LinkedProcedure) (stack : List ℕ) (ps : List Proc) → AreBodies xs (take n bodies) stack ps → AreBodies xs bodies stack ps
+bodies_of_more : (xs : List Name) (n : ℕ) (bodies : List LinkedProcedure) (stack : List ℕ) (ps : List Proc) → AreBodies xs (take n bodies) stack ps →
+    AreBodies xs bodies stack ps
 bodies_of_more xs n bodies [] [] h = tt
 bodies_of_more xs n bodies [] (p ∷ ps) h = absurd h
 bodies_of_more xs n bodies (i ∷ stack) [] h = absurd h
@@ -71,14 +73,18 @@ shown_kept old new k =
     ∙ ap (λ (cs : List Caller). under_names (reverse old.texts) (oldest old.declared (given_back old.slots cs))) k.callers
 
 -- there may be more slots, more names of procedures, and more bodies behind the others
-pub shows_more : {L : Type 0} (old new : Runner L) (shown : ShownWorld) → KeepsSight old.store new.store → AreSlots new.store.names → GoOn old.entries new.entries →
-    take (length (kept_in old.procedures)) (kept_in new.procedures) ≡ kept_in old.procedures → (AreDefined old.procedures shown.bodies → AreDefined new.procedures shown.bodies) → Is old (Between shown) → Is new (Between shown)
+pub shows_more : {L : Type 0} (old new : Runner L) (shown : ShownWorld) → KeepsSight old.store new.store → AreSlots new.store.names →
+    GoOn old.entries new.entries →
+    take (length (kept_in old.procedures)) (kept_in new.procedures) ≡ kept_in old.procedures →
+    (AreDefined old.procedures shown.bodies → AreDefined new.procedures shown.bodies) → Is old (Between shown) → Is new (Between shown)
 shows_more old new shown sight slots onward kept still is =
     let h = is.0 in
     let ps : List Proc = shown.world.procedures in
     let same : procedures_in new.entries ps ≡ procedures_in old.entries ps =
-    procedures_stay old.entries new.entries onward ps h.listed (defined_call old.store.names h.slots old.entries (kept_in old.procedures) shown.bodies ps h.defined.bodies) in
-    let grown : Define new.store.names old.procedures shown.bodies (procedures_in old.entries ps) = defined_grow old.store.names new.store.names sight.names old.procedures shown.bodies (procedures_in old.entries ps) h.defined in
+    procedures_stay old.entries new.entries onward ps h.listed
+    (defined_call old.store.names h.slots old.entries (kept_in old.procedures) shown.bodies ps h.defined.bodies) in
+    let grown : Define new.store.names old.procedures shown.bodies (procedures_in old.entries ps) =
+    defined_grow old.store.names new.store.names sight.names old.procedures shown.bodies (procedures_in old.entries ps) h.defined in
     let shows : Shows new shown = record {
       store = shown_kept old.store new.store sight ∙ h.store;
       texts = ap (λ (xs : List Name). length xs) sight.texts ∙ h.texts ∙ sym sight.declared;
@@ -90,8 +96,15 @@ shows_more old new shown sight slots onward kept still is =
             (bodies_of_more new.store.names (length (kept_in old.procedures)) (kept_in new.procedures) shown.bodies (procedures_in old.entries ps)
             (subst (λ (bs : List LinkedProcedure). AreBodies new.store.names bs shown.bodies (procedures_in old.entries ps)) (sym kept) grown.bodies));
       };
-    } in
-    (shows, record { declared = sight.declared ∙ is.1.declared ∙ sym (ap size_of sight.slots); callers = sight.callers ∙ is.1.callers; slots = ap in_slots sight.slots ∙ is.1.slots ∙ sym sight.slots })
+    } in (
+      shows,
+      record {
+        declared = sight.declared ∙ is.1.declared ∙ sym (ap size_of sight.slots);
+        callers = sight.callers
+            ∙ is.1.callers;
+        slots = ap in_slots sight.slots ∙ is.1.slots ∙ sym sight.slots;
+      },
+    )
 
 -- the same bodies are all of them
 pub all_kept : (old new : List LinkedProcedure) → new ≡ old → take (length old) new ≡ old
@@ -105,25 +118,31 @@ all_kept old new e = ap (take (length old)) e ∙ all_of old
 
 -- A program is ready whose code stands for its block with slots, over names in sight that are those of g, and whose bodies are kept behind the others, if
 -- all procedures that it calls are listed.
-pub ready_made : (xs es sight g : List Name) (hs : Heads) (shape : Shape) (old new : Procedures) (program : Program) → block_in xs program.book Forward ≡ slots.block_in es sight (cell_of_program program).block → sight ≡ g →
-    BookHasNumbers xs program.book → program.first ≡ length (kept_in old) → AreBodiesFrom xs (kept_in new) (length (kept_in old)) (procedures_in es (procedures_of program)) →
+pub ready_made : (xs es sight g : List Name) (hs : Heads) (shape : Shape) (old new : Procedures) (program : Program) →
+    block_in xs program.book Forward ≡ slots.block_in es sight (cell_of_program program).block → sight ≡ g →
+    BookHasNumbers xs program.book → program.first ≡ length (kept_in old) →
+    AreBodiesFrom xs (kept_in new) (length (kept_in old)) (procedures_in es (procedures_of program)) →
     length (kept_in new) ≡ length (kept_in old) + length (procedures_of program) → HasEntries hs es → AreListed es (procedures_of program) →
     IsBlk hs shape (cell_of_program program).block → AreProcs hs (procedures_of program) → IsReady xs es g new program
 ready_made xs es sight g hs shape old new program meant names numbered first bodies count entries listed block procedures =
     let b : Blk = (cell_of_program program).block in
     let ps : List Proc = procedures_of program in
     record {
-      meant = λ more onward. meant ∙ ap (λ (l : List Name). slots.block_in es l b) names ∙ sym (block_stays es more onward g b (block_calls hs es entries shape b block));
+      meant = λ more onward. meant ∙ ap (λ (l : List Name). slots.block_in es l b) names
+          ∙ sym (block_stays es more onward g b (block_calls hs es entries shape b block));
       numbered = numbered;
       within = omega (arith, first, count);
-      bodies = λ more onward. subst (λ (qs : List Proc). AreBodiesFrom xs (kept_in new) program.first qs) (sym (procedures_stay es more onward ps listed (bodies_call hs es entries ps procedures)))
+      bodies = λ more onward. subst (λ (qs : List Proc). AreBodiesFrom xs (kept_in new) program.first qs)
+          (sym (procedures_stay es more onward ps listed (bodies_call hs es entries ps procedures)))
           (subst (λ (n : ℕ). AreBodiesFrom xs (kept_in new) n (procedures_in es ps)) (sym first) bodies);
     }
 
 -- ---- what a cell is checked over
 
 -- a cell that is well formed over what is known of a world is so over the world
-pub formed_here : (w : World) (env : Known) (t u : tree.Cell) → IsKnownOf env w → IsWellFormedOver env t → u ≡ t → IsWellFormed (shape_of w.store) (heads_of w.procedures) u
+pub formed_here : (w : World) (env : Known) (t u : tree.Cell) → IsKnownOf env w → IsWellFormedOver env t → u ≡ t →
+    IsWellFormed (shape_of w.store) (heads_of w.procedures) u
 formed_here w env t u known formed e =
     subst (λ (t : tree.Cell). IsWellFormed (shape_of w.store) (heads_of w.procedures) t) (sym e)
-    (formed_same (shape_of w.store) (heads_in env.procedures) (heads_of w.procedures) (plain_cell t) known.heads (subst (λ (g : Shape). IsWellFormed g (heads_in env.procedures) t) known.names formed))
+    (formed_same (shape_of w.store) (heads_in env.procedures) (heads_of w.procedures) (plain_cell t) known.heads
+    (subst (λ (g : Shape). IsWellFormed g (heads_in env.procedures) t) known.names formed))

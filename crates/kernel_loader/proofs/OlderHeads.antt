@@ -12,7 +12,8 @@ use Rattle.janus_check.specs.Names.{above, heads_in, meant_kinds}
 use Rattle.janus_check.specs.declared.env.Kind as code
 
 -- the last one added is the newest
-heads_last : (g : Heads) (es : List (Name × List code.Kind)) (e : Name × List code.Kind) → above meant_kinds g (es ++ e ∷ []) ≡ (e.0, meant_kinds e.1) ∷ above meant_kinds g es
+heads_last : (g : Heads) (es : List (Name × List code.Kind)) (e : Name × List code.Kind) →
+    above meant_kinds g (es ++ e ∷ []) ≡ (e.0, meant_kinds e.1) ∷ above meant_kinds g es
 heads_last g [] e = refl
 heads_last g (d ∷ es) e = heads_last ((d.0, meant_kinds d.1) ∷ g) es e
 

@@ -34,9 +34,11 @@ one_declared (DeclareStack x) s = refl
 
 names_declared : (ds : List Declaration) (g : Shape) (s : Store) → names_of g ≡ names_in s → names_of (with_declared g ds) ≡ names_in (declare ds s)
 names_declared [] g s e = e
-names_declared (d ∷ ds) g s e = names_declared ds ((declared_name d, declared_kind d) ∷ g) (declare_one d s) (ap (λ (l : List Name). declared_name d ∷ l) e ∙ sym (one_declared d s))
+names_declared (d ∷ ds) g s e =
+    names_declared ds ((declared_name d, declared_kind d) ∷ g) (declare_one d s) (ap (λ (l : List Name). declared_name d ∷ l) e ∙ sym (one_declared d s))
 
-pub names_here : {L : Type 0} (runner : Runner L) (env own : Known) (cell : tree.Cell) (shown : ShownWorld) → IsCheckedOver runner env cell shown → IsOwn env own cell →
+pub names_here : {L : Type 0} (runner : Runner L) (env own : Known) (cell : tree.Cell) (shown : ShownWorld) → IsCheckedOver runner env cell shown →
+    IsOwn env own cell →
     names_of (over (shape_in env.names) own.names) ≡ names_in (declare (plain_cell cell).declarations (shown_store runner.store))
 names_here runner env own cell shown checked is =
     let known : names_of (shape_in env.names) ≡ names_in (shown_store runner.store) =
@@ -61,10 +63,12 @@ entries_of : (es : List Name) (ps : List Proc) → AreListed es ps → HasEntrie
 entries_of es [] h = λ f cs e. cc
 entries_of es (p ∷ ps) h = entry_more es (heads_of ps) p (entries_of es ps h.1) h.0
 
-pub entries_here : {L : Type 0} (runner : Runner L) (env own : Known) (cell : tree.Cell) (shown : ShownWorld) (es : List Name) → IsCheckedOver runner env cell shown → IsOwn env own cell →
+pub entries_here : {L : Type 0} (runner : Runner L) (env own : Known) (cell : tree.Cell) (shown : ShownWorld) (es : List Name) →
+    IsCheckedOver runner env cell shown → IsOwn env own cell →
     GoOn runner.entries es → AreListed es (plain_cell cell).procedures → HasEntries (heads_over env own) es
 entries_here runner env own cell shown es checked is onward listed =
-    let older : HasEntries (heads_of shown.world.procedures) es = entries_of es shown.world.procedures (listed_still runner.entries es onward shown.world.procedures checked.is.0.listed) in
+    let older : HasEntries (heads_of shown.world.procedures) es =
+    entries_of es shown.world.procedures (listed_still runner.entries es onward shown.world.procedures checked.is.0.listed) in
     let known : HasEntries (heads_in env.procedures) es = λ f cs e. older f cs (sym (checked.known.heads f) ∙ e) in
     subst (λ (hs : Heads). HasEntries hs es) (sym is.heads) (entries_with es (heads_in env.procedures) (plain_cell cell).procedures known listed)
 
@@ -75,7 +79,9 @@ adds_onward xs ys k x (inl same) = subst (λ (l : List Name). GoOn xs l) (sym sa
 adds_onward xs ys k x (inr more) = (x ∷ [], more.1)
 
 pub listed_more : (es fs : List Name) (ys : List Defined.Procedure) (i : ℕ) (y : Defined.Procedure) → i < length ys → get_or ys i y ≡ y → GoOn es fs →
-    AreListed es (map plain_procedure (procedures_view (take i ys))) → IsMet fs (plain_procedure (procedure_view y)).name → AreListed fs (map plain_procedure (procedures_view (take (suc i) ys)))
+    AreListed es (map plain_procedure (procedures_view (take i ys))) → IsMet fs (plain_procedure (procedure_view y)).name →
+    AreListed fs (map plain_procedure (procedures_view (take (suc i) ys)))
 listed_more es fs [] i y l e onward h m = absurd (omega arith)
 listed_more es fs (z ∷ ys) zero y l e onward h m = (subst (λ (z : Defined.Procedure). IsMet fs (plain_procedure (procedure_view z)).name) (sym e) m, tt)
-listed_more es fs (z ∷ ys) (suc i) y l e onward h m = (met_still es fs onward (plain_procedure (procedure_view z)).name h.0, listed_more es fs ys i y (omega arith) e onward h.1 m)
+listed_more es fs (z ∷ ys) (suc i) y l e onward h m =
+    (met_still es fs onward (plain_procedure (procedure_view z)).name h.0, listed_more es fs ys i y (omega arith) e onward h.1 m)

@@ -87,7 +87,8 @@ pub fn load<L: Ledger>(
 }
 
 /// Links a cell that was checked over what is known of the shown world, with what it declares and defines itself, and keeps the bodies of its procedures:
-/// its code both ways, and where these bodies begin. The only error is want of memory, as which code of more statements or places than 32 bits count is refused too.
+/// its code both ways, and where these bodies begin. The only error is want of memory, as which code of more statements or places than 32 bits count is
+/// refused too.
 fn link<L: Ledger>(
     alloc: Global,
     env: &Env,

@@ -44,7 +44,8 @@ ThenSliced keeps ends sliced.Backing new = keeps new
 ThenSliced keeps ends (sliced.Ended o) new = ends o new
 
 -- a post changes the queue and the minutes alone
-pub post_keeps : (old : Machine) (lane : ℕ) (posted : Request) (answer : Result ℕ PostFault) (new : Machine) → IsPost old lane posted answer new → new.state ≡ old.state
+pub post_keeps : (old : Machine) (lane : ℕ) (posted : Request) (answer : Result ℕ PostFault) (new : Machine) → IsPost old lane posted answer new →
+    new.state ≡ old.state
 post_keeps old lane posted (Ok n) new s = ap (λ (m : Machine). m.state) s.2
 post_keeps old lane posted (Err fault) new s = ap (λ (m : Machine). m.state) s.1
 
@@ -65,10 +66,12 @@ abbrev Sliced-move : Past → Travel → Sliced → State → Type 0
 Sliced-move p whole told new = ThenSliced (Keeps p whole) (TravelEnds p whole) told new
 
 -- the answer and the state after it are known
-sliced_at : (keeps : State → Type 0) (ends : Outcome → State → Type 0) (a told : Sliced) (s new : State) → told ≡ a → new ≡ s → ThenSliced keeps ends a s → ThenSliced keeps ends told new
+sliced_at : (keeps : State → Type 0) (ends : Outcome → State → Type 0) (a told : Sliced) (s new : State) → told ≡ a → new ≡ s → ThenSliced keeps ends a s →
+    ThenSliced keeps ends told new
 sliced_at keeps ends a told s new e f h = rw (e, f) h
 
-pub begun_at : (keeps : State → Type 0) (ends : Outcome → State → Type 0) (a told : Begun) (s new : State) → told ≡ a → new ≡ s → ThenBegun keeps ends a s → ThenBegun keeps ends told new
+pub begun_at : (keeps : State → Type 0) (ends : Outcome → State → Type 0) (a told : Begun) (s new : State) → told ≡ a → new ≡ s → ThenBegun keeps ends a s →
+    ThenBegun keeps ends told new
 begun_at keeps ends a told s new e f h = rw (e, f) h
 
 -- a job that ends at this border, not having done all
@@ -88,12 +91,15 @@ ends_here p whole s t end i not_all short =
       },
     )
 
-backs_move : (p : Past) (whole : Travel) (s : Past) (t : Travel) (why : Why) (c : ℕ) (told : Sliced) (new : State) → IsStage p whole s t → c ≤ count_of why → IsReason (code_of s (Move t)) (here s) why →
+backs_move : (p : Past) (whole : Travel) (s : Past) (t : Travel) (why : Why) (c : ℕ) (told : Sliced) (new : State) → IsStage p whole s t → c ≤ count_of why →
+    IsReason (code_of s (Move t)) (here s) why →
     Backs s (Move t) why c told new → Sliced-move p whole told new
 backs_move p whole s t why zero told new i l r b =
-    sliced_at _ _ (sliced.Ended (finished t Asked)) told (record { past = s; job = Idle }) new b.0 b.1 (ends_here p whole s t Asked i (λ e. cc) (λ e. absurd (cc)))
+    sliced_at _ _ (sliced.Ended (finished t Asked)) told (record { past = s; job = Idle }) new b.0 b.1
+    (ends_here p whole s t Asked i (λ e. cc) (λ e. absurd (cc)))
 backs_move p whole s t why (suc c) told new i l r b =
-    sliced_at _ _ sliced.Backing told (record { past = s; job = Inside (record { work = Move t; count = suc c; heading = GoesBack why }) }) new b.0 b.1 (i, (l, r))
+    sliced_at _ _ sliced.Backing told (record { past = s; job = Inside (record { work = Move t; count = suc c; heading = GoesBack why }) }) new b.0 b.1
+    (i, (l, r))
 
 -- one cell further
 further : (p : Past) (whole : Travel) (done : ℕ) (s : Past) (t : Travel) → s ≡ gone p whole done → t ≡ after whole done → moved s t ≡ gone p whole (suc done)
@@ -120,7 +126,14 @@ arrives_move p whole (suc left) s t told new i l a =
     let count = i.count in
     let one = stepped_cells t i.some in
     sliced_at _ _ sliced.Border told (record { past = moved s t; job = Border (stepped t) }) new a.0 a.1
-    (record { done = suc i.done; left = ap (λ (x : Travel). stepped x) i.left; stands = further p whole i.done s t i.stands i.left; count = omega arith; some = omega arith })
+    (record {
+      done = suc i.done;
+      left = ap (λ (x : Travel). stepped x) i.left;
+      stands = further p whole i.done s t i.stands i.left;
+      count = omega arith;
+      some =
+          omega arith;
+    })
 
 comes_move : (p : Past) (whole : Travel) (s : Past) (t : Travel) (c : ℕ) (ran : Progress) (w : World) (told : Sliced) (new : State) → IsStage p whole s t →
     Reaches (code_of s (Move t)) (here s) c ran w → Comes s (Move t) c ran w told new → Sliced-move p whole told new
@@ -129,28 +142,36 @@ comes_move p whole s t c Went w told new i r a =
 comes_move p whole s t c (Ended n) w told new i r a = arrives_move p whole (cells (stepped t)) s t told new i refl a
 comes_move p whole s t c (Stopped j f) w told new i r a = backs_move p whole s t (Faulted f j) j told new i (omega arith) (w, r.0, r.1) a
 
-slices_move : (p : Past) (whole : Travel) (s : Past) (t : Travel) (c : ℕ) (heading : Heading) (m : ℕ) (asked : Bool) (told : Sliced) (new : State) → IsStage p whole s t → IsAtCount (code_of s (Move t)) (here s) c heading →
+slices_move : (p : Past) (whole : Travel) (s : Past) (t : Travel) (c : ℕ) (heading : Heading) (m : ℕ) (asked : Bool) (told : Sliced) (new : State) →
+    IsStage p whole s t → IsAtCount (code_of s (Move t)) (here s) c heading →
     SlicesIn s (Move t) c heading m asked told new → Sliced-move p whole told new
 slices_move p whole s t c GoesOn m false told new i at a = comes_move p whole s t (c + m) a.0 a.1 told new i a.2 a.3
 slices_move p whole s t c GoesOn m true told new i at a = backs_move p whole s t (WasAsked c) (c - m) told new i (omega arith) at a
-slices_move p whole s t c (GoesBack why) m asked told new i at a = backs_move p whole s t why (c - m) told new i (let l : c ≤ count_of why = at.0 in omega arith) at.1 a
+slices_move p whole s t c (GoesBack why) m asked told new i at a =
+    backs_move p whole s t why (c - m) told new i (let l : c ≤ count_of why = at.0 in omega arith) at.1 a
 
-slice_in_move : (p : Past) (whole : Travel) (s : Past) (work : Work) (c : ℕ) (heading : Heading) (m : ℕ) (asked : Bool) (told : Sliced) (new : State) → KeepsIn p whole s work c heading → SlicesIn s work c heading m asked told new → Sliced-move p whole told new
+slice_in_move : (p : Past) (whole : Travel) (s : Past) (work : Work) (c : ℕ) (heading : Heading) (m : ℕ) (asked : Bool) (told : Sliced) (new : State) →
+    KeepsIn p whole s work c heading → SlicesIn s work c heading m asked told new → Sliced-move p whole told new
 slice_in_move p whole s (Posted program) c heading m asked told new i a = absurd i
 slice_in_move p whole s (Move t) c heading m asked told new i a = slices_move p whole s t c heading m asked told new i.0 i.1 a
 
-slice_at_move : (p : Past) (whole : Travel) (s : Past) (job : Open) (m : ℕ) (asked : Bool) (told : Sliced) (new : State) → KeepsAt p whole s job → SlicesAt s job m asked told new → Sliced-move p whole told new
+slice_at_move : (p : Past) (whole : Travel) (s : Past) (job : Open) (m : ℕ) (asked : Bool) (told : Sliced) (new : State) → KeepsAt p whole s job →
+    SlicesAt s job m asked told new → Sliced-move p whole told new
 slice_at_move p whole s Idle m asked told new i a = absurd i
 slice_at_move p whole s (Border t) m asked told new i a = sliced_at _ _ sliced.Nothing told (record { past = s; job = Border t }) new a.0 a.1 i
 slice_at_move p whole s (Inside e) m asked told new i a = slice_in_move p whole s e.work e.count e.heading m asked told new i a
 
-enters_move : (p : Past) (whole : Travel) (s : Past) (t : Travel) (answer : Begun) (new : State) → IsStage p whole s t → Enters s t answer new → ThenBegun (Keeps p whole) (TravelEnds p whole) answer new
+enters_move : (p : Past) (whole : Travel) (s : Past) (t : Travel) (answer : Begun) (new : State) → IsStage p whole s t → Enters s t answer new →
+    ThenBegun (Keeps p whole) (TravelEnds p whole) answer new
 enters_move p whole s t answer new i a = elim a [
-  | inl b ↦ begun_at _ _ begun.Going answer (record { past = s; job = Inside (record { work = Move t; count = 0; heading = GoesOn }) }) new b.0 b.1 (i, under_way (code_of s (Move t)) (here s))
-  | inr b ↦ begun_at _ _ (begun.Ended (finished t NoMemory)) answer (record { past = s; job = Idle }) new b.0 b.2 (ends_here p whole s t NoMemory i (λ e. cc) (λ e. b.1))
+  | inl b ↦ begun_at _ _ begun.Going answer (record { past = s; job = Inside (record { work = Move t; count = 0; heading = GoesOn }) }) new b.0 b.1
+      (i, under_way (code_of s (Move t)) (here s))
+  | inr b ↦ begun_at _ _ (begun.Ended (finished t NoMemory)) answer (record { past = s; job = Idle }) new b.0 b.2
+      (ends_here p whole s t NoMemory i (λ e. cc) (λ e. b.1))
 ]
 
-departs_move : (left : ℕ) (s : Past) (t : Travel) (answer : Begun) (new : State) → left ≡ cells t → Departs left s t answer new → ThenBegun (Keeps s t) (TravelEnds s t) answer new
+departs_move : (left : ℕ) (s : Past) (t : Travel) (answer : Begun) (new : State) → left ≡ cells t → Departs left s t answer new →
+    ThenBegun (Keeps s t) (TravelEnds s t) answer new
 departs_move zero s t answer new e a =
     begun_at _ _ (begun.Ended (finished t All)) answer (record { past = s; job = Idle }) new a.0 a.1
     (0, All, record { tells = refl; stands = refl; within = omega arith; all = ((λ _. e), (λ _. refl)); no_memory = λ h. absurd (cc) })
@@ -162,51 +183,65 @@ departs_move (suc left) s t answer new e a =
 abbrev Sliced-cell : Past → List ℕ → Sliced → State → Type 0
 Sliced-cell p text told new = ThenSliced (CellKeeps p text) (TextEnds p text) told new
 
-no_node : (p : Past) (text : List ℕ) (cell : Cell) (why : Why) → Accepts (here p) text cell → IsReason (Forward cell) (here p) why → IsNoNode p text (turned (Posted cell) why)
+no_node : (p : Past) (text : List ℕ) (cell : Cell) (why : Why) → Accepts (here p) text cell → IsReason (Forward cell) (here p) why →
+    IsNoNode p text (turned (Posted cell) why)
 no_node p text cell (WasAsked at) a t = (cell, a, t)
 no_node p text cell (Faulted f at) a t = (cell, a, t)
 
-backs_cell : (p : Past) (text : List ℕ) (cell : Cell) (why : Why) (c : ℕ) (told : Sliced) (new : State) → IsCell p text cell p → c ≤ count_of why → IsReason (Forward cell) (here p) why →
+backs_cell : (p : Past) (text : List ℕ) (cell : Cell) (why : Why) (c : ℕ) (told : Sliced) (new : State) → IsCell p text cell p → c ≤ count_of why →
+    IsReason (Forward cell) (here p) why →
     Backs p (Posted cell) why c told new → Sliced-cell p text told new
 backs_cell p text cell why zero told new i l t b =
-    sliced_at _ _ (sliced.Ended (turned (Posted cell) why)) told (record { past = p; job = Idle }) new b.0 b.1 (inr (refl, no_node p text cell why i.accepted t))
+    sliced_at _ _ (sliced.Ended (turned (Posted cell) why)) told (record { past = p; job = Idle }) new b.0 b.1
+    (inr (refl, no_node p text cell why i.accepted t))
 backs_cell p text cell why (suc c) told new i l t b =
-    sliced_at _ _ sliced.Backing told (record { past = p; job = Inside (record { work = Posted cell; count = suc c; heading = GoesBack why }) }) new b.0 b.1 (i, (l, t))
+    sliced_at _ _ sliced.Backing told (record { past = p; job = Inside (record { work = Posted cell; count = suc c; heading = GoesBack why }) }) new b.0 b.1
+    (i, (l, t))
 
 comes_cell : (p : Past) (text : List ℕ) (cell : Cell) (c : ℕ) (ran : Progress) (w : World) (told : Sliced) (new : State) → IsCell p text cell p →
     Reaches (Forward cell) (here p) c ran w → Comes p (Posted cell) c ran w told new → Sliced-cell p text told new
-comes_cell p text cell c Went w told new i r a = sliced_at _ _ sliced.Going told (record { past = p; job = Inside (record { work = Posted cell; count = c; heading = GoesOn }) }) new a.0 a.1 (i, (w, r.0, r.1))
+comes_cell p text cell c Went w told new i r a =
+    sliced_at _ _ sliced.Going told (record { past = p; job = Inside (record { work = Posted cell; count = c; heading = GoesOn }) }) new a.0 a.1
+    (i, (w, r.0, r.1))
 comes_cell p text cell c (Ended n) w told new i r a =
     sliced_at _ _ (sliced.Ended (outcome.Ran (length p.nodes) n)) told (record { past = grown p cell n w; job = Idle }) new a.0 a.1
     (inl (cell, n, w, i.accepted, refl, r.0, refl))
 comes_cell p text cell c (Stopped j f) w told new i r a = backs_cell p text cell (Faulted f j) j told new i (omega arith) (w, r.0, r.1) a
 
-slices_cell : (p : Past) (text : List ℕ) (cell : Cell) (c : ℕ) (heading : Heading) (m : ℕ) (asked : Bool) (told : Sliced) (new : State) → IsCell p text cell p → IsAtCount (Forward cell) (here p) c heading →
+slices_cell : (p : Past) (text : List ℕ) (cell : Cell) (c : ℕ) (heading : Heading) (m : ℕ) (asked : Bool) (told : Sliced) (new : State) → IsCell p text cell p →
+    IsAtCount (Forward cell) (here p) c heading →
     SlicesIn p (Posted cell) c heading m asked told new → Sliced-cell p text told new
 slices_cell p text cell c GoesOn m false told new i t a = comes_cell p text cell (c + m) a.0 a.1 told new i a.2 a.3
 slices_cell p text cell c GoesOn m true told new i t a = backs_cell p text cell (WasAsked c) (c - m) told new i (omega arith) t a
-slices_cell p text cell c (GoesBack why) m asked told new i t a = backs_cell p text cell why (c - m) told new i (let l : c ≤ count_of why = t.0 in omega arith) t.1 a
+slices_cell p text cell c (GoesBack why) m asked told new i t a =
+    backs_cell p text cell why (c - m) told new i (let l : c ≤ count_of why = t.0 in omega arith) t.1 a
 
-slice_in_cell : (p : Past) (text : List ℕ) (s : Past) (work : Work) (c : ℕ) (heading : Heading) (m : ℕ) (asked : Bool) (told : Sliced) (new : State) → CellIn p text s work c heading → SlicesIn s work c heading m asked told new → Sliced-cell p text told new
+slice_in_cell : (p : Past) (text : List ℕ) (s : Past) (work : Work) (c : ℕ) (heading : Heading) (m : ℕ) (asked : Bool) (told : Sliced) (new : State) →
+    CellIn p text s work c heading → SlicesIn s work c heading m asked told new → Sliced-cell p text told new
 slice_in_cell p text s (Move t) c heading m asked told new i a = absurd i
 slice_in_cell p text s (Posted cell) c heading m asked told new i a =
-    slices_cell p text cell c heading m asked told new (record { accepted = i.0.accepted; same = refl }) i.1 (subst (λ (x : Past). SlicesIn x (Posted cell) c heading m asked told new) i.0.same a)
+    slices_cell p text cell c heading m asked told new (record { accepted = i.0.accepted; same = refl }) i.1
+    (subst (λ (x : Past). SlicesIn x (Posted cell) c heading m asked told new) i.0.same a)
 
-slice_at_cell : (p : Past) (text : List ℕ) (s : Past) (job : Open) (m : ℕ) (asked : Bool) (told : Sliced) (new : State) → CellAt p text s job → SlicesAt s job m asked told new → Sliced-cell p text told new
+slice_at_cell : (p : Past) (text : List ℕ) (s : Past) (job : Open) (m : ℕ) (asked : Bool) (told : Sliced) (new : State) → CellAt p text s job →
+    SlicesAt s job m asked told new → Sliced-cell p text told new
 slice_at_cell p text s Idle m asked told new i a = absurd i
 slice_at_cell p text s (Border t) m asked told new i a = absurd i
 slice_at_cell p text s (Inside e) m asked told new i a = slice_in_cell p text s e.work e.count e.heading m asked told new i a
 
-takes_text : (s : Past) (text : List ℕ) (answer : Begun) (new : State) → TakesCell s text false answer new → ThenBegun (CellKeeps s text) (TextEnds s text) answer new
+takes_text : (s : Past) (text : List ℕ) (answer : Begun) (new : State) → TakesCell s text false answer new →
+    ThenBegun (CellKeeps s text) (TextEnds s text) answer new
 takes_text s text answer new a = elim a [
-  | inl b ↦ begun_at _ _ begun.Going answer (record { past = s; job = Inside (record { work = Posted b.0; count = 0; heading = GoesOn }) }) new b.2 b.3 (record { accepted = b.1; same = refl }, under_way (Forward b.0) (here s))
+  | inl b ↦ begun_at _ _ begun.Going answer (record { past = s; job = Inside (record { work = Posted b.0; count = 0; heading = GoesOn }) }) new b.2 b.3
+      (record { accepted = b.1; same = refl }, under_way (Forward b.0) (here s))
   | inr b ↦ begun_at _ _ (begun.Ended (outcome.Refused b.0)) answer (record { past = s; job = Idle }) new b.2 b.3 (inr (refl, b.1))
 ]
 
 -- ---- any job
 
 -- from what is kept and how it ends, in one form, to another
-pub then_sliced : (keeps other : State → Type 0) (ends more : Outcome → State → Type 0) (told : Sliced) (new : State) → ((s : State) → keeps s → other s) → ((o : Outcome) (s : State) → ends o s → more o s) →
+pub then_sliced : (keeps other : State → Type 0) (ends more : Outcome → State → Type 0) (told : Sliced) (new : State) → ((s : State) → keeps s → other s) →
+    ((o : Outcome) (s : State) → ends o s → more o s) →
     ThenSliced keeps ends told new → ThenSliced other more told new
 then_sliced keeps other ends more sliced.Nothing new f h a = f new a
 then_sliced keeps other ends more sliced.Going new f h a = f new a
@@ -214,7 +249,8 @@ then_sliced keeps other ends more sliced.Border new f h a = f new a
 then_sliced keeps other ends more sliced.Backing new f h a = f new a
 then_sliced keeps other ends more (sliced.Ended o) new f h a = h o new a
 
-pub then_begun : (keeps other : State → Type 0) (ends more : Outcome → State → Type 0) (told : Begun) (new : State) → ((s : State) → keeps s → other s) → ((o : Outcome) (s : State) → ends o s → more o s) →
+pub then_begun : (keeps other : State → Type 0) (ends more : Outcome → State → Type 0) (told : Begun) (new : State) → ((s : State) → keeps s → other s) →
+    ((o : Outcome) (s : State) → ends o s → more o s) →
     ThenBegun keeps ends told new → ThenBegun other more told new
 then_begun keeps other ends more begun.Nothing new f h a = f new a
 then_begun keeps other ends more begun.Going new f h a = f new a
@@ -228,12 +264,14 @@ cell_ended : (p : Past) (text : List ℕ) (full : Bool) (o : Outcome) (s : State
 cell_ended p text true o s e a = absurd (cc)
 cell_ended p text false o s e a = a
 
-goto_ended : (p : Past) (n : ℕ) (known : Bool) (o : Outcome) (s : State) → known ≡ true → (up : ℕ) (down : ℕ) → IsMeeting p.nodes p.position n up down → TravelEnds p (travel_to (aim.Goto n) up down) o s → GotoEnds p n known o s
+goto_ended : (p : Past) (n : ℕ) (known : Bool) (o : Outcome) (s : State) → known ≡ true → (up : ℕ) (down : ℕ) → IsMeeting p.nodes p.position n up down →
+    TravelEnds p (travel_to (aim.Goto n) up down) o s → GotoEnds p n known o s
 goto_ended p n false o s e up down m a = absurd (cc)
 goto_ended p n true o s e up down m a = (up, down, m, a)
 
 -- a slice of the open job
-pub slice_holds : (p : Past) (r : Request) (s : Past) (job : Open) (m : ℕ) (asked : Bool) (told : Sliced) (new : State) → Holds p r (record { past = s; job = job }) → SlicesAt s job m asked told new → ThenSliced (Holds p r) (JobEnds p r) told new
+pub slice_holds : (p : Past) (r : Request) (s : Past) (job : Open) (m : ℕ) (asked : Bool) (told : Sliced) (new : State) →
+    Holds p r (record { past = s; job = job }) → SlicesAt s job m asked told new → ThenSliced (Holds p r) (JobEnds p r) told new
 slice_holds p (RunCell text silent store) s job m asked told new i a =
     then_sliced _ _ _ _ told new (λ x h. (h, i.1)) (λ o x h. cell_ended p text _ o x i.1 h) (slice_at_cell p text s job m asked told new i.0 a)
 slice_holds p (Undo k) s job m asked told new i a =
@@ -241,31 +279,38 @@ slice_holds p (Undo k) s job m asked told new i a =
 slice_holds p (Redo k) s job m asked told new i a =
     then_sliced _ _ _ _ told new (λ x h. (h, i.1)) (λ o x h. move_ended p _ _ o x i.1 h) (slice_at_move p (travel_to aim.Redo 0 k) s job m asked told new i.0 a)
 slice_holds p (Goto n) s job m asked told new i a =
-    then_sliced _ _ _ _ told new (λ x h. (i.0, (i.1.0, i.1.1, i.1.2, h))) (λ o x h. goto_ended p n _ o x i.0 i.1.0 i.1.1 i.1.2 h) (slice_at_move p (travel_to (aim.Goto n) i.1.0 i.1.1) s job m asked told new i.1.3 a)
+    then_sliced _ _ _ _ told new (λ x h. (i.0, (i.1.0, i.1.1, i.1.2, h))) (λ o x h. goto_ended p n _ o x i.0 i.1.0 i.1.1 i.1.2 h)
+    (slice_at_move p (travel_to (aim.Goto n) i.1.0 i.1.1) s job m asked told new i.1.3 a)
 
 -- its begin at a border
-pub enter_holds : (p : Past) (r : Request) (s : Past) (t : Travel) (answer : Begun) (new : State) → Holds p r (record { past = s; job = Border t }) → Enters s t answer new → ThenBegun (Holds p r) (JobEnds p r) answer new
+pub enter_holds : (p : Past) (r : Request) (s : Past) (t : Travel) (answer : Begun) (new : State) → Holds p r (record { past = s; job = Border t }) →
+    Enters s t answer new → ThenBegun (Holds p r) (JobEnds p r) answer new
 enter_holds p (RunCell text silent store) s t answer new i a = absurd i.0
 enter_holds p (Undo k) s t answer new i a =
     then_begun _ _ _ _ answer new (λ x h. (h, i.1)) (λ o x h. move_ended p _ _ o x i.1 h) (enters_move p (travel_to aim.Undo k 0) s t answer new i.0 a)
 enter_holds p (Redo k) s t answer new i a =
     then_begun _ _ _ _ answer new (λ x h. (h, i.1)) (λ o x h. move_ended p _ _ o x i.1 h) (enters_move p (travel_to aim.Redo 0 k) s t answer new i.0 a)
 enter_holds p (Goto n) s t answer new i a =
-    then_begun _ _ _ _ answer new (λ x h. (i.0, (i.1.0, i.1.1, i.1.2, h))) (λ o x h. goto_ended p n _ o x i.0 i.1.0 i.1.1 i.1.2 h) (enters_move p (travel_to (aim.Goto n) i.1.0 i.1.1) s t answer new i.1.3 a)
+    then_begun _ _ _ _ answer new (λ x h. (i.0, (i.1.0, i.1.1, i.1.2, h))) (λ o x h. goto_ended p n _ o x i.0 i.1.0 i.1.1 i.1.2 h)
+    (enters_move p (travel_to (aim.Goto n) i.1.0 i.1.1) s t answer new i.1.3 a)
 
-takes_move : (s : Past) (t : Travel) (can : Bool) (answer : Begun) (new : State) → TakesMove s t can answer new → ThenBegun (λ x. Keeps s t x × (can ≡ true)) (MoveEnds s t can) answer new
+takes_move : (s : Past) (t : Travel) (can : Bool) (answer : Begun) (new : State) → TakesMove s t can answer new →
+    ThenBegun (λ x. Keeps s t x × (can ≡ true)) (MoveEnds s t can) answer new
 takes_move s t false answer new a = begun_at _ _ (begun.Ended (outcome.Refused TooFar)) answer (record { past = s; job = Idle }) new a.0 a.1 (refl, refl)
 takes_move s t true answer new a = then_begun _ _ _ _ answer new (λ x h. (h, refl)) (λ o x h. h) (departs_move (cells t) s t answer new refl a)
 
-takes_cell : (s : Past) (text : List ℕ) (full : Bool) (answer : Begun) (new : State) → TakesCell s text full answer new → ThenBegun (λ x. CellKeeps s text x × (full ≡ false)) (CellEnds s text full) answer new
+takes_cell : (s : Past) (text : List ℕ) (full : Bool) (answer : Begun) (new : State) → TakesCell s text full answer new →
+    ThenBegun (λ x. CellKeeps s text x × (full ≡ false)) (CellEnds s text full) answer new
 takes_cell s text true answer new a = begun_at _ _ (begun.Ended (outcome.Refused HistoryFull)) answer (record { past = s; job = Idle }) new a.0 a.1 (refl, refl)
 takes_cell s text false answer new a = then_begun _ _ _ _ answer new (λ x h. (h, refl)) (λ o x h. h) (takes_text s text answer new a)
 
 takes_goto : (s : Past) (n : ℕ) (known : Bool) (answer : Begun) (new : State) → TakesGoto s n known answer new →
-    ThenBegun (λ x. (known ≡ true) × ((up : ℕ) × (down : ℕ) × IsMeeting s.nodes s.position n up down × Keeps s (travel_to (aim.Goto n) up down) x)) (GotoEnds s n known) answer new
+    ThenBegun (λ x. (known ≡ true) × ((up : ℕ) × (down : ℕ) × IsMeeting s.nodes s.position n up down × Keeps s (travel_to (aim.Goto n) up down) x))
+    (GotoEnds s n known) answer new
 takes_goto s n false answer new a = begun_at _ _ (begun.Ended (outcome.Refused NoNode)) answer (record { past = s; job = Idle }) new a.0 a.1 (refl, refl)
 takes_goto s n true answer new a =
-    then_begun _ _ _ _ answer new (λ x h. (refl, (a.0, a.1, a.2, h))) (λ o x h. (a.0, a.1, a.2, h)) (departs_move (a.0 + a.1) s (travel_to (aim.Goto n) a.0 a.1) answer new refl a.3)
+    then_begun _ _ _ _ answer new (λ x h. (refl, (a.0, a.1, a.2, h))) (λ o x h. (a.0, a.1, a.2, h))
+    (departs_move (a.0 + a.1) s (travel_to (aim.Goto n) a.0 a.1) answer new refl a.3)
 
 -- the begin of a job
 pub take_holds : (s : Past) (r : Request) (answer : Begun) (new : State) → Takes s r answer new → ThenBegun (Holds s r) (JobEnds s r) answer new

@@ -62,7 +62,8 @@ unfolding CodeStop
 stop_same code w i j f g p q = (worlds_are_determined (start_of code w) (run_block code)).one_stop i j f g p q
 
 -- no step is taken beyond a fault
-pub stop_no_part : (code : Code) (w : World) (j m : ℕ) (u : World) (f : Fault) → CodeStop code w j f → j < m → CodePart code w m u → ((v : World) → CodeExec code w m v → ⊥) → ⊥
+pub stop_no_part : (code : Code) (w : World) (j m : ℕ) (u : World) (f : Fault) → CodeStop code w j f → j < m → CodePart code w m u →
+    ((v : World) → CodeExec code w m v → ⊥) → ⊥
 unfolding CodeExec CodePart CodeStop
 stop_no_part code w j m u f s l p none = (world_trichotomy (start_of code w) (run_block code) m).stopped_or_under_way (j, f, l, s) (u, p, none)
 
@@ -77,11 +78,13 @@ unfolding end_of world_after store_after
 end_of_root = refl
 
 -- the inverse leads back, in as many steps, and through the same worlds
-pub exec_inverted : (cell : Cell) (w : World) (n : ℕ) (v : World) → IsGoodWorld w → CodeExec (Forward cell) w n v → CodeExec (Backward cell) v n (entered cell w)
+pub exec_inverted : (cell : Cell) (w : World) (n : ℕ) (v : World) → IsGoodWorld w → CodeExec (Forward cell) w n v →
+    CodeExec (Backward cell) v n (entered cell w)
 unfolding CodeExec
 exec_inverted cell w n v good e = (worlds_reverse (entered cell w) cell.block n v (entered_is_good cell w good) e).back
 
-pub part_inverted : (cell : Cell) (w : World) (n j : ℕ) (u v : World) → IsGoodWorld w → CodeExec (Forward cell) w n v → CodePart (Forward cell) w j u → CodePart (Backward cell) v (n - j) u
+pub part_inverted : (cell : Cell) (w : World) (n j : ℕ) (u v : World) → IsGoodWorld w → CodeExec (Forward cell) w n v → CodePart (Forward cell) w j u →
+    CodePart (Backward cell) v (n - j) u
 unfolding CodeExec CodePart
 part_inverted cell w n j u v good e p = (worlds_reverse (entered cell w) cell.block n v (entered_is_good cell w good) e).through j u p
 

@@ -1,5 +1,6 @@
 -- The minutes of each machine that is reached are legal.
-use Rattle.std.proofs.Common.{None, Some, ◌≡◌, ℕ, ◌+◌, ◌<◌, ◌≤◌, Bool, true, false, List, [], ◌∷◌, ◌++◌, length, suc, refl, sym, ap, ◌∙◌, subst, arith, inl, inr, Result, Ok, Err, length-append, append-nil}
+use Rattle.std.proofs.Common.{None, Some, ◌≡◌, ℕ, ◌+◌, ◌<◌, ◌≤◌, Bool, true, false, List, [], ◌∷◌, ◌++◌, length, suc, refl, sym, ap, ◌∙◌, subst, arith, inl}
+use Rattle.std.proofs.Common.{inr, Result, Ok, Err, length-append, append-nil}
 use Rattle.std.specs.Prelude.{if◌then◌else◌}
 use Rattle.kernel_machine.specs.State.{Past, State, Job as Open, Idle, Border, Inside}
 use Rattle.kernel_machine.specs.Slices as slices
@@ -7,7 +8,8 @@ use Rattle.kernel_machine.specs.Begins.{Enters}
 use Rattle.kernel_machine.specs.Request.{Request, request_of, is_counted, raised}
 use Rattle.kernel_machine.specs.Minutes.{Entry, Posted, Ended, posted_in, ended_in}
 use Rattle.kernel_machine.specs.Ends.{JobEnds}
-use Rattle.kernel_machine.specs.Runs.{Machine, new_machine, posted, shut, IsPost, end_of_begun, end_of_sliced, noted, TakesUnless, BeginsAt, IsBegin, IsSliceOf, Step}
+use Rattle.kernel_machine.specs.Runs.{Machine, new_machine, posted, shut, IsPost, end_of_begun, end_of_sliced, noted, TakesUnless, BeginsAt, IsBegin, IsSliceOf}
+use Rattle.kernel_machine.specs.Runs.{Step}
 use Rattle.kernel_machine.specs.Midway.{Holds}
 use Rattle.kernel_machine.specs.LegalMinutes.{IsLegalMachine, Account, new_account, MayEnd, EndsFirst, Tells, Give, IsOpen, Agrees, HasLegalMinutes}
 use Rattle.kernel_machine.specs.Travel.{Travel}
@@ -89,7 +91,8 @@ give_counter a b (Ended number o count node ∷ entries) g l =
 
 -- ---- what legal minutes say of the counts
 
-counted : (m : Machine) (k : HasLegalMinutes m) → (k.account.ended ≡ ended_in m.minutes) × (posted_in m.minutes ≡ ended_in m.minutes + length k.account.waiting) × (k.account.counter ≤ ended_in m.minutes)
+counted : (m : Machine) (k : HasLegalMinutes m) → (k.account.ended ≡ ended_in m.minutes) ×
+    (posted_in m.minutes ≡ ended_in m.minutes + length k.account.waiting) × (k.account.counter ≤ ended_in m.minutes)
 counted m k =
     let ended = give_ended new_account k.account m.minutes k.given in
     let posted = give_posted new_account k.account m.minutes k.given in
@@ -106,29 +109,39 @@ counter_within m k = at m.state.job k.agrees
   where
     at : (job : Open) → Agrees k.account m job → m.counter ≤ posted_in m.minutes
     at Idle h = (let c = counted m k in let posted = c.1 in let counter = c.2 in let same = h.1 in omega arith)
-    at (Border t) h = (let c = counted m k in let posted = c.1 in let counter = c.2 in let w = open_waiting k.account k.account.waiting m h in let some = w.0 in let most = w.1 in omega arith)
-    at (Inside e) h = (let c = counted m k in let posted = c.1 in let counter = c.2 in let w = open_waiting k.account k.account.waiting m h in let some = w.0 in let most = w.1 in omega arith)
+    at (Border t) h =
+        (let c = counted m k in let posted = c.1 in let counter = c.2 in let w = open_waiting k.account k.account.waiting m h in let some = w.0 in
+        let most = w.1 in omega arith)
+    at (Inside e) h =
+        (let c = counted m k in let posted = c.1 in let counter = c.2 in let w = open_waiting k.account k.account.waiting m h in let some = w.0 in
+        let most = w.1 in omega arith)
 
 open_unended : (m : Machine) (k : HasLegalMinutes m) → IsOpen k.account k.account.waiting m → ended_in m.minutes < posted_in m.minutes
 open_unended m k h = (let posted = (counted m k).1 in let some = (open_waiting k.account k.account.waiting m h).0 in omega arith)
 
 -- where a slice tells an end, a job had not ended
-pub sliced_unended : (old : Machine) (m : ℕ) (asked : Bool) (o : Outcome) (state : State) → HasLegalMinutes old → slices.IsSlice old.state m asked (sliced.Ended o) state → ended_in old.minutes < posted_in old.minutes
+pub sliced_unended : (old : Machine) (m : ℕ) (asked : Bool) (o : Outcome) (state : State) → HasLegalMinutes old →
+    slices.IsSlice old.state m asked (sliced.Ended o) state → ended_in old.minutes < posted_in old.minutes
 sliced_unended old m asked o state k s = at old.state.job k.agrees s
   where
-    at : (job : Open) → Agrees k.account old job → slices.SlicesAt old.state.past job m asked (sliced.Ended o) state → ended_in old.minutes < posted_in old.minutes
+    at : (job : Open) → Agrees k.account old job → slices.SlicesAt old.state.past job m asked (sliced.Ended o) state →
+        ended_in old.minutes < posted_in old.minutes
     at Idle h s = absurd (let e = s.0 in cc)
     at (Border t) h s = absurd (let e = s.0 in cc)
     at (Inside e) h s = open_unended old k h
 
 -- where a begin does
-pub begun_unended : (old : Machine) (o : Outcome) (mid : Machine) → HasLegalMinutes old → BeginsAt old old.state.job old.queue (begun.Ended o) mid → ended_in mid.minutes < posted_in mid.minutes
+pub begun_unended : (old : Machine) (o : Outcome) (mid : Machine) → HasLegalMinutes old → BeginsAt old old.state.job old.queue (begun.Ended o) mid →
+    ended_in mid.minutes < posted_in mid.minutes
 begun_unended old o mid k b =
-    subst (λ (entries : List Entry). ended_in entries < posted_in entries) (sym (begins_minutes old old.state.job old.queue (begun.Ended o) mid b).0) (at old.state.job old.queue refl k.agrees b)
+    subst (λ (entries : List Entry). ended_in entries < posted_in entries) (sym (begins_minutes old old.state.job old.queue (begun.Ended o) mid b).0)
+    (at old.state.job old.queue refl k.agrees b)
   where
-    at : (job : Open) (queue : List Request) → old.queue ≡ queue → Agrees k.account old job → BeginsAt old job queue (begun.Ended o) mid → ended_in old.minutes < posted_in old.minutes
+    at : (job : Open) (queue : List Request) → old.queue ≡ queue → Agrees k.account old job → BeginsAt old job queue (begun.Ended o) mid →
+        ended_in old.minutes < posted_in old.minutes
     at Idle [] e h b = absurd (let f = b.0 in cc)
-    at Idle (first ∷ rest) e h b = (let posted = (counted old k).1 in let some : length k.account.waiting ≡ suc (length rest) = ap length (sym h.2 ∙ e) in omega arith)
+    at Idle (first ∷ rest) e h b =
+        (let posted = (counted old k).1 in let some : length k.account.waiting ≡ suc (length rest) = ap length (sym h.2 ∙ e) in omega arith)
     at (Border t) queue e h b = open_unended old k h
     at (Inside i) queue e h b = open_unended old k h
 
@@ -156,13 +169,15 @@ goes_on a job m f h = nothing_noted m (record { account = a; given = f.given; ag
 
 -- ---- a job that ends
 
-ends : (a : Account) (job : Request) (m : Machine) (o : Outcome) → IsFirst a job m → m.state.job ≡ Idle → MayEnd a.past job o m.state.past → HasLegalMinutes (noted m (Some o))
+ends : (a : Account) (job : Request) (m : Machine) (o : Outcome) → IsFirst a job m → m.state.job ≡ Idle → MayEnd a.past job o m.state.past →
+    HasLegalMinutes (noted m (Some o))
 ends a job m o f idle may =
     let ended = give_ended new_account a m.minutes f.given in
     let number : suc (ended_in m.minutes) ≡ suc a.ended = omega arith in
     let b : Account = record { past = m.state.past; counter = m.counter; waiting = m.queue; ended = suc (ended_in m.minutes) } in
     let told : Tells a (Ended (suc (ended_in m.minutes)) o m.counter m.state.past.position) b =
-    subst (λ (waiting : List Request). EndsFirst a waiting (suc (ended_in m.minutes)) o m.counter m.state.past.position b) (sym f.waiting) (m.state.past, may, number, f.counter, refl, refl) in
+    subst (λ (waiting : List Request). EndsFirst a waiting (suc (ended_in m.minutes)) o m.counter m.state.past.position b) (sym f.waiting)
+    (m.state.past, may, number, f.counter, refl, refl) in
     record {
       account = b;
       given = give_more new_account a b m.minutes (Ended (suc (ended_in m.minutes)) o m.counter m.state.past.position) f.given told;
@@ -176,34 +191,40 @@ ends_well a job m o f h =
 
 -- ---- after an answer
 
-after_sliced : (a : Account) (job : Request) (m : Machine) (told : Sliced) → IsFirst a job m → ThenSliced (Holds a.past job) (JobEnds a.past job) told m.state → HasLegalMinutes (noted m (end_of_sliced told))
+after_sliced : (a : Account) (job : Request) (m : Machine) (told : Sliced) → IsFirst a job m → ThenSliced (Holds a.past job) (JobEnds a.past job) told m.state →
+    HasLegalMinutes (noted m (end_of_sliced told))
 after_sliced a job m sliced.Nothing f h = goes_on a job m f h
 after_sliced a job m sliced.Going f h = goes_on a job m f h
 after_sliced a job m sliced.Border f h = goes_on a job m f h
 after_sliced a job m sliced.Backing f h = goes_on a job m f h
 after_sliced a job m (sliced.Ended o) f h = ends_well a job m o f h
 
-after_begun : (a : Account) (job : Request) (m : Machine) (told : Begun) → IsFirst a job m → ThenBegun (Holds a.past job) (JobEnds a.past job) told m.state → HasLegalMinutes (noted m (end_of_begun told))
+after_begun : (a : Account) (job : Request) (m : Machine) (told : Begun) → IsFirst a job m → ThenBegun (Holds a.past job) (JobEnds a.past job) told m.state →
+    HasLegalMinutes (noted m (end_of_begun told))
 after_begun a job m begun.Nothing f h = goes_on a job m f h
 after_begun a job m begun.Going f h = goes_on a job m f h
 after_begun a job m (begun.Ended o) f h = ends_well a job m o f h
 
 -- ---- slices
 
-slice_open : (a : Account) (waiting : List Request) (old : Machine) (m : ℕ) (asked : Bool) (told : Sliced) (state : State) → a.waiting ≡ waiting → Give new_account old.minutes a → IsOpen a waiting old →
+slice_open : (a : Account) (waiting : List Request) (old : Machine) (m : ℕ) (asked : Bool) (told : Sliced) (state : State) → a.waiting ≡ waiting →
+    Give new_account old.minutes a → IsOpen a waiting old →
     slices.IsSlice old.state m asked told state → HasLegalMinutes (noted (record old { state = state }) (end_of_sliced told))
 slice_open a [] old m asked told state e g h s = absurd h
 slice_open a (job ∷ rest) old m asked told state e g h s =
-    after_sliced a job (record old { state = state }) told (record { given = g; waiting = e ∙ ap (λ (queue : List Request). job ∷ queue) (sym h.0); counter = h.1 })
+    after_sliced a job (record old { state = state }) told
+    (record { given = g; waiting = e ∙ ap (λ (queue : List Request). job ∷ queue) (sym h.0); counter = h.1 })
     (slice_holds a.past job old.state.past old.state.job m asked told state h.2 s)
 
 -- with no open job a slice does nothing
-slice_idle : (old : Machine) (told : Sliced) (state : State) → HasLegalMinutes old → told ≡ sliced.Nothing → state ≡ old.state → HasLegalMinutes (noted (record old { state = state }) (end_of_sliced told))
+slice_idle : (old : Machine) (told : Sliced) (state : State) → HasLegalMinutes old → told ≡ sliced.Nothing → state ≡ old.state →
+    HasLegalMinutes (noted (record old { state = state }) (end_of_sliced told))
 slice_idle old told state k e f =
     subst (λ (t : Sliced). HasLegalMinutes (noted (record old { state = state }) (end_of_sliced t))) (sym e)
     (subst (λ (s : State). HasLegalMinutes (noted (record old { state = s }) None)) (sym f) (nothing_noted old k))
 
-slice_at : (old : Machine) (at : Open) (m : ℕ) (asked : Bool) (told : Sliced) (state : State) → HasLegalMinutes old → old.state.job ≡ at → slices.IsSlice old.state m asked told state →
+slice_at : (old : Machine) (at : Open) (m : ℕ) (asked : Bool) (told : Sliced) (state : State) → HasLegalMinutes old → old.state.job ≡ at →
+    slices.IsSlice old.state m asked told state →
     HasLegalMinutes (noted (record old { state = state }) (end_of_sliced told))
 slice_at old Idle m asked told state k j s =
     let nothing : slices.SlicesAt old.state.past Idle m asked told state = subst (λ (x : Open). slices.SlicesAt old.state.past x m asked told state) j s in
@@ -213,29 +234,34 @@ slice_at old (Border t) m asked told state k j s =
 slice_at old (Inside e) m asked told state k j s =
     slice_open k.account k.account.waiting old m asked told state refl k.given (subst (λ (x : Open). Agrees k.account old x) j k.agrees) s
 
-pub slice_known : (old : Machine) (m : ℕ) (asked : Bool) (told : Sliced) (new : Machine) → HasLegalMinutes old → IsSliceOf old m asked told new → HasLegalMinutes new
+pub slice_known : (old : Machine) (m : ℕ) (asked : Bool) (told : Sliced) (new : Machine) → HasLegalMinutes old → IsSliceOf old m asked told new →
+    HasLegalMinutes new
 slice_known old m asked told new k s =
     known_at (noted (record old { state = s.0 }) (end_of_sliced told)) new s.2 (slice_at old old.state.job m asked told s.0 k refl s.1)
 
 -- ---- begins
 
-taken : (closing : Bool) (a : Account) (job : Request) (m : Machine) (told : Begun) → IsFirst a job m → TakesUnless closing a.past job told m.state → HasLegalMinutes (noted m (end_of_begun told))
+taken : (closing : Bool) (a : Account) (job : Request) (m : Machine) (told : Begun) → IsFirst a job m → TakesUnless closing a.past job told m.state →
+    HasLegalMinutes (noted m (end_of_begun told))
 taken false a job m told f t = after_begun a job m told f (take_holds a.past job told m.state t)
 taken true a job m told f t =
     subst (λ (x : Begun). HasLegalMinutes (noted m (end_of_begun x))) (sym t.0)
     (ends a job m (outcome.Refused Closing) f (ap (λ (x : State). x.job) t.1) (inl (refl, ap (λ (x : State). record { past = x.past; job = Idle }) t.1)))
 
-enter_open : (a : Account) (waiting : List Request) (old : Machine) (t : Travel) (told : Begun) (state : State) → a.waiting ≡ waiting → Give new_account old.minutes a → IsOpen a waiting old → old.state.job ≡ Border t →
+enter_open : (a : Account) (waiting : List Request) (old : Machine) (t : Travel) (told : Begun) (state : State) → a.waiting ≡ waiting →
+    Give new_account old.minutes a → IsOpen a waiting old → old.state.job ≡ Border t →
     Enters old.state.past t told state → HasLegalMinutes (noted (record old { state = state }) (end_of_begun told))
 enter_open a [] old t told state e g h j s = absurd h
 enter_open a (job ∷ rest) old t told state e g h j s =
-    after_begun a job (record old { state = state }) told (record { given = g; waiting = e ∙ ap (λ (queue : List Request). job ∷ queue) (sym h.0); counter = h.1 })
+    after_begun a job (record old { state = state }) told
+    (record { given = g; waiting = e ∙ ap (λ (queue : List Request). job ∷ queue) (sym h.0); counter = h.1 })
     (enter_holds a.past job old.state.past t told state (subst (λ (x : Open). Holds a.past job (record { past = old.state.past; job = x })) j h.2) s)
 
 nothing_begun : (old mid : Machine) (told : Begun) → HasLegalMinutes old → told ≡ begun.Nothing → mid ≡ old → HasLegalMinutes (noted mid (end_of_begun told))
 nothing_begun old mid told k e f = subst (λ (t : Begun). HasLegalMinutes (noted mid (end_of_begun t))) (sym e) (nothing_noted mid (known_at old mid f k))
 
-begin_at : (old : Machine) (at : Open) (queue : List Request) (told : Begun) (mid : Machine) → HasLegalMinutes old → old.state.job ≡ at → old.queue ≡ queue → BeginsAt old at queue told mid → HasLegalMinutes (noted mid (end_of_begun told))
+begin_at : (old : Machine) (at : Open) (queue : List Request) (told : Begun) (mid : Machine) → HasLegalMinutes old → old.state.job ≡ at → old.queue ≡ queue →
+    BeginsAt old at queue told mid → HasLegalMinutes (noted mid (end_of_begun told))
 begin_at old Idle [] told mid k j q b = nothing_begun old mid told k b.0 b.1
 begin_at old Idle (first ∷ rest) told mid k j q b =
     let idle : Agrees k.account old Idle = subst (λ (x : Open). Agrees k.account old x) j k.agrees in
@@ -253,11 +279,13 @@ begin_known old told new k b = known_at (noted b.0 (end_of_begun told)) new b.2 
 
 -- ---- posts
 
-open_more : (a : Account) (waiting : List Request) (m : Machine) (lane : ℕ) (job : Request) → IsOpen a waiting m → IsOpen (record a { waiting = a.waiting ++ job ∷ [] }) (waiting ++ job ∷ []) (posted m lane job)
+open_more : (a : Account) (waiting : List Request) (m : Machine) (lane : ℕ) (job : Request) → IsOpen a waiting m →
+    IsOpen (record a { waiting = a.waiting ++ job ∷ [] }) (waiting ++ job ∷ []) (posted m lane job)
 open_more a [] m lane job h = absurd h
 open_more a (first ∷ rest) m lane job h = (ap (λ (queue : List Request). queue ++ job ∷ []) h.0, h.1, h.2)
 
-agrees_more : (a : Account) (m : Machine) (lane : ℕ) (job : Request) (at : Open) → Agrees a m at → Agrees (record a { waiting = a.waiting ++ job ∷ [] }) (posted m lane job) at
+agrees_more : (a : Account) (m : Machine) (lane : ℕ) (job : Request) (at : Open) → Agrees a m at →
+    Agrees (record a { waiting = a.waiting ++ job ∷ [] }) (posted m lane job) at
 agrees_more a m lane job Idle h = (h.0, h.1, ap (λ (queue : List Request). queue ++ job ∷ []) h.2)
 agrees_more a m lane job (Border t) h = open_more a a.waiting m lane job h
 agrees_more a m lane job (Inside e) h = open_more a a.waiting m lane job h
@@ -269,7 +297,8 @@ posted_known old lane job k = record {
   agrees = agrees_more k.account old lane job old.state.job k.agrees;
 }
 
-pub post_known : (old : Machine) (lane : ℕ) (job : Request) (answer : Result ℕ PostFault) (new : Machine) → HasLegalMinutes old → IsPost old lane job answer new → HasLegalMinutes new
+pub post_known : (old : Machine) (lane : ℕ) (job : Request) (answer : Result ℕ PostFault) (new : Machine) → HasLegalMinutes old →
+    IsPost old lane job answer new → HasLegalMinutes new
 post_known old lane job (Ok number) new k p = known_at (posted old lane job) new p.2 (posted_known old lane job k)
 post_known old lane job (Err fault) new k p = known_at old new p.1 k
 
@@ -302,14 +331,18 @@ new_known = record { account = new_account; given = refl; agrees = (refl, refl, 
 pub new_kept : IsLegalMachine new_machine
 new_kept = record { state = new_is_legal.0; minutes = new_known }
 
-pub post_kept : (old : Machine) (lane : ℕ) (job : Request) (answer : Result ℕ PostFault) (new : Machine) → IsLegalMachine old → IsPost old lane job answer new → IsLegalMachine new
-post_kept old lane job answer new k p = record { state = post_legal old lane job answer new k.state p; minutes = post_known old lane job answer new k.minutes p }
+pub post_kept : (old : Machine) (lane : ℕ) (job : Request) (answer : Result ℕ PostFault) (new : Machine) → IsLegalMachine old → IsPost old lane job answer new →
+    IsLegalMachine new
+post_kept old lane job answer new k p =
+    record { state = post_legal old lane job answer new k.state p; minutes = post_known old lane job answer new k.minutes p }
 
 pub begin_kept : (old : Machine) (told : Begun) (new : Machine) → IsLegalMachine old → IsBegin old told new → IsLegalMachine new
 begin_kept old told new k b = record { state = begin_legal old told new k.state b; minutes = begin_known old told new k.minutes b }
 
-pub slice_kept : (old : Machine) (m : ℕ) (asked : Bool) (told : Sliced) (new : Machine) → IsLegalMachine old → IsSliceOf old m asked told new → IsLegalMachine new
+pub slice_kept : (old : Machine) (m : ℕ) (asked : Bool) (told : Sliced) (new : Machine) → IsLegalMachine old → IsSliceOf old m asked told new →
+    IsLegalMachine new
 slice_kept old m asked told new k s = record { state = slice_legal old m asked told new k.state s; minutes = slice_known old m asked told new k.minutes s }
 
 pub shut_kept : (old new : Machine) → IsLegalMachine old → new ≡ shut old → IsLegalMachine new
-shut_kept old new k s = record { state = legal_at old.state new.state (ap (λ (m : Machine). m.state) s) k.state; minutes = known_at (shut old) new s (shut_known old k.minutes) }
+shut_kept old new k s =
+    record { state = legal_at old.state new.state (ap (λ (m : Machine). m.state) s) k.state; minutes = known_at (shut old) new s (shut_known old k.minutes) }

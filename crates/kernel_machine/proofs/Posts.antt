@@ -1,7 +1,8 @@
 -- The posts that stand in the minutes: what each step makes of them, and their numbers.
 use Rattle.std.specs.Prelude.{nat_lt}
 use Rattle.std.proofs.lemmas.Bool.Decides.{nat_tests}
-use Rattle.std.proofs.Common.{◌≡◌, ℕ, ◌+◌, ◌*◌, ◌<◌, ◌≤◌, Bool, true, false, List, [], ◌∷◌, ◌++◌, length, get_or, drop, suc, refl, sym, ap, ◌∙◌, arith, append_assoc, append-nil, length-append, Option, None, Some, Ok, Err}
+use Rattle.std.proofs.Common.{◌≡◌, ℕ, ◌+◌, ◌*◌, ◌<◌, ◌≤◌, Bool, true, false, List, [], ◌∷◌, ◌++◌, length, get_or, drop, suc, refl, sym, ap, ◌∙◌, arith}
+use Rattle.std.proofs.Common.{append_assoc, append-nil, length-append, Option, None, Some, Ok, Err}
 use Rattle.kernel_machine.specs.State.{Job as Open, Idle, Border, Inside}
 use Rattle.kernel_machine.specs.Request.{Request}
 use Rattle.kernel_machine.specs.Minutes.{Entry, Posted, Ended, Post, posts_of, posted_in, ended_in, IsNumberOf, HavePlaces, minutes_limit}
@@ -35,8 +36,13 @@ entry_count (Ended number o count node ∷ xs) = let rest = entry_count xs in om
 
 -- a post keeps its number
 pub number_stays : (entries more : List Entry) (number : ℕ) (post : Post) → IsNumberOf entries number post → IsNumberOf (entries ++ more) number post
-number_stays entries more number post h =
-    (h.0, h.1 ++ posts_of more, posts-append entries more ∙ ap (λ (posts : List Post). posts ++ posts_of more) h.2 ∙ append_assoc h.0 (post ∷ h.1) (posts_of more), h.3)
+number_stays entries more number post h = (
+  h.0,
+  h.1 ++ posts_of more,
+  posts-append entries more ∙ ap (λ (posts : List Post). posts ++ posts_of more) h.2
+      ∙ append_assoc h.0 (post ∷ h.1) (posts_of more),
+  h.3,
+)
 
 same_place : (xs zs ys ws : List Post) (p q : Post) → xs ++ p ∷ ys ≡ zs ++ q ∷ ws → length xs ≡ length zs → p ≡ q
 same_place [] [] ys ws p q e l = ap (λ (posts : List Post). get_or posts 0 p) e
@@ -54,10 +60,12 @@ one_post entries number p q a b =
 -- ---- steps
 
 -- a post is one more, and has its number
-pub post_adds : (old : Machine) (lane : ℕ) (job : Request) (number : ℕ) (new : Machine) → IsPost old lane job (Ok number) new → posts_of new.minutes ≡ posts_of old.minutes ++ record { lane = lane; job = job } ∷ []
+pub post_adds : (old : Machine) (lane : ℕ) (job : Request) (number : ℕ) (new : Machine) → IsPost old lane job (Ok number) new →
+    posts_of new.minutes ≡ posts_of old.minutes ++ record { lane = lane; job = job } ∷ []
 post_adds old lane job number new p = ap (λ (m : Machine). posts_of m.minutes) p.2 ∙ posts-append old.minutes (Posted lane job ∷ [])
 
-pub post_has_number : (old : Machine) (lane : ℕ) (job : Request) (number : ℕ) (new : Machine) → IsPost old lane job (Ok number) new → IsNumberOf new.minutes number (record { lane = lane; job = job })
+pub post_has_number : (old : Machine) (lane : ℕ) (job : Request) (number : ℕ) (new : Machine) → IsPost old lane job (Ok number) new →
+    IsNumberOf new.minutes number (record { lane = lane; job = job })
 post_has_number old lane job number new p = (posts_of old.minutes, [], post_adds old lane job number new p, p.1)
 
 -- a refused post changes nothing
@@ -69,7 +77,8 @@ noted_posts m None = ap posts_of (append-nil m.minutes)
 noted_posts m (Some o) = posts-append m.minutes _ ∙ append-nil (posts_of m.minutes)
 
 -- a begin writes nothing down but ends, and shuts nothing
-pub begins_minutes : (old : Machine) (at : Open) (queue : List Request) (answer : Begun) (mid : Machine) → BeginsAt old at queue answer mid → (mid.minutes ≡ old.minutes) × (mid.closing ≡ old.closing)
+pub begins_minutes : (old : Machine) (at : Open) (queue : List Request) (answer : Begun) (mid : Machine) → BeginsAt old at queue answer mid →
+    (mid.minutes ≡ old.minutes) × (mid.closing ≡ old.closing)
 begins_minutes old Idle [] answer mid b = (ap (λ (m : Machine). m.minutes) b.1, ap (λ (m : Machine). m.closing) b.1)
 begins_minutes old Idle (first ∷ rest) answer mid b = (ap (λ (m : Machine). m.minutes) b.2, ap (λ (m : Machine). m.closing) b.2)
 begins_minutes old (Border t) queue answer mid b = (ap (λ (m : Machine). m.minutes) b.2, ap (λ (m : Machine). m.closing) b.2)
@@ -81,7 +90,8 @@ begin_keeps_posts old answer new b =
     ap (λ (m : Machine). posts_of m.minutes) b.2 ∙ noted_posts b.0 (end_of_begun answer)
     ∙ ap posts_of (begins_minutes old old.state.job old.queue answer b.0 b.1).0
 
-pub slice_keeps_posts : (old : Machine) (m : ℕ) (asked : Bool) (answer : Sliced) (new : Machine) → IsSliceOf old m asked answer new → posts_of new.minutes ≡ posts_of old.minutes
+pub slice_keeps_posts : (old : Machine) (m : ℕ) (asked : Bool) (answer : Sliced) (new : Machine) → IsSliceOf old m asked answer new →
+    posts_of new.minutes ≡ posts_of old.minutes
 slice_keeps_posts old m asked answer new s =
     ap (λ (x : Machine). posts_of x.minutes) s.2 ∙ noted_posts (record old { state = s.0 }) (end_of_sliced answer)
 
@@ -93,11 +103,13 @@ begin_closing old answer new b = ap (λ (m : Machine). m.closing) b.2 ∙ (begin
 
 -- ---- a post is always refused for want of memory, if for nothing else
 
-full_queue : (m : Machine) (full : Bool) → nat_lt (length m.queue) queue_limit ≡ full → m.closing ≡ false → HavePlaces m.minutes → (fault : PostFault) × IsRefusal m fault
+full_queue : (m : Machine) (full : Bool) → nat_lt (length m.queue) queue_limit ≡ full → m.closing ≡ false → HavePlaces m.minutes → (fault : PostFault) ×
+    IsRefusal m fault
 full_queue m true e serves places = (Memory, record { serves = serves; places = places; room = grind (arith, nat_tests) })
 full_queue m false e serves places = (QueueFull, (serves, places, grind (arith, nat_tests)))
 
-full_minutes : (m : Machine) (full : Bool) → nat_lt minutes_limit (2 * suc (posted_in m.minutes)) ≡ full → m.closing ≡ false → (fault : PostFault) × IsRefusal m fault
+full_minutes : (m : Machine) (full : Bool) → nat_lt minutes_limit (2 * suc (posted_in m.minutes)) ≡ full → m.closing ≡ false → (fault : PostFault) ×
+    IsRefusal m fault
 full_minutes m true e serves = (MinutesFull, (serves, λ h. absurd (full (2 * suc (posted_in m.minutes)) e h)))
   where
     full : (n : ℕ) → nat_lt minutes_limit n ≡ true → n ≤ minutes_limit → ⊥

@@ -15,7 +15,8 @@ run_more old mid new (d ∷ events) (u ∷ answers) e t r s = (r.0, r.1, run_mor
 
 -- and so do its writes
 pub writes_more : (old mid new : Seen) (events : List Event) (answers : List Told) (e : Event) (t : Told) →
-    WritesOnRun old events answers mid → Step mid.machine e t new.machine → WritesOnEvent mid.machine e mid.writes new.writes → WritesOnRun old (events ++ e ∷ []) (answers ++ t ∷ []) new
+    WritesOnRun old events answers mid → Step mid.machine e t new.machine → WritesOnEvent mid.machine e mid.writes new.writes →
+    WritesOnRun old (events ++ e ∷ []) (answers ++ t ∷ []) new
 writes_more old mid new [] [] e t r s w =
     (new, subst (λ (k : Seen). Step k.machine e t new.machine) r s, subst (λ (k : Seen). WritesOnEvent k.machine e k.writes new.writes) r w, refl)
 writes_more old mid new [] (u ∷ answers) e t r s w = absurd r

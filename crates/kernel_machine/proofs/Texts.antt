@@ -54,15 +54,18 @@ refuses_syntax w text (syntax_fault.DelocalName at) found = found
 refuses_syntax w text syntax_fault.Memory found = tt
 
 -- the heads that were checked over find what those of the world's procedures find
-unformed : (w : World) (text : List ℕ) (f : check.CheckFault) (t : tree.Cell) (g : Shape) (hs : Heads) → HasTree text t → g ≡ shape_of w.store → AreSameHeads hs (heads_of w.procedures) → (f ≡ check_fault.Memory → ⊥) → (f ≢ check_fault.Memory → IsFirst f (cell_faults g hs t)) → IsUnformed w text f
+unformed : (w : World) (text : List ℕ) (f : check.CheckFault) (t : tree.Cell) (g : Shape) (hs : Heads) → HasTree text t → g ≡ shape_of w.store →
+    AreSameHeads hs (heads_of w.procedures) → (f ≡ check_fault.Memory → ⊥) → (f ≢ check_fault.Memory → IsFirst f (cell_faults g hs t)) → IsUnformed w text f
 unformed w text f t g hs is same heads real first = record {
   tree = t;
   is_tree = is;
   real = real;
-  first = subst (λ (h : Shape). IsFirst f (cell_faults h (heads_of w.procedures) t)) same (subst (λ fs. IsFirst f fs) (faults_same g hs (heads_of w.procedures) t heads) (first real));
+  first = subst (λ (h : Shape). IsFirst f (cell_faults h (heads_of w.procedures) t)) same
+      (subst (λ fs. IsFirst f fs) (faults_same g hs (heads_of w.procedures) t heads) (first real));
 }
 
-pub refuses_check : (w : World) (text : List ℕ) (f : check.CheckFault) (t : tree.Cell) (g : Shape) (hs : Heads) → HasTree text t → g ≡ shape_of w.store → AreSameHeads hs (heads_of w.procedures) → (f ≢ check_fault.Memory → IsFirst f (cell_faults g hs t)) → Refuses w text (refused_by_check f)
+pub refuses_check : (w : World) (text : List ℕ) (f : check.CheckFault) (t : tree.Cell) (g : Shape) (hs : Heads) → HasTree text t → g ≡ shape_of w.store →
+    AreSameHeads hs (heads_of w.procedures) → (f ≢ check_fault.Memory → IsFirst f (cell_faults g hs t)) → Refuses w text (refused_by_check f)
 refuses_check w text (check_fault.Declared at) t g hs is same heads first = unformed w text _ t g hs is same heads (λ e. cc) first
 refuses_check w text (check_fault.Unknown at) t g hs is same heads first = unformed w text _ t g hs is same heads (λ e. cc) first
 refuses_check w text (check_fault.WrongKind at) t g hs is same heads first = unformed w text _ t g hs is same heads (λ e. cc) first

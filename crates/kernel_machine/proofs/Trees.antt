@@ -1,5 +1,6 @@
 -- Lemmas on trees: their worlds, the walks up and down, and that a tree stays legal with a new node, a step up and a step down.
-use Rattle.std.proofs.Common.{◌≡◌, ℕ, ◌+◌, ◌-◌, ◌<◌, ◌≤◌, ◌==◌, ◌⊎◌, inl, inr, Bool, false, IsTrue, List, [], ◌∷◌, ◌++◌, length, zero, suc, get_or, set, refl, sym, ap, ◌∙◌, subst, arith, length-append, length-set, if◌then◌else◌}
+use Rattle.std.proofs.Common.{◌≡◌, ℕ, ◌+◌, ◌-◌, ◌<◌, ◌≤◌, ◌==◌, ◌⊎◌, inl, inr, Bool, false, IsTrue, List, [], ◌∷◌, ◌++◌, length, zero, suc, get_or, set, refl}
+use Rattle.std.proofs.Common.{sym, ap, ◌∙◌, subst, arith, length-append, length-set, if◌then◌else◌}
 use Rattle.std.proofs.lemmas.List.{get_or_append_left, get_or_at, get_or-set_same, get_or-set_other}
 use Rattle.std.proofs.lemmas.Bool.{cases_eq}
 use Rattle.std.proofs.lemmas.Bool.Decides.{nat_tests}
@@ -12,7 +13,8 @@ use Rattle.kernel_machine.specs.Slices.{cells, stepped, moved, grown}
 use Rattle.kernel_machine.proofs.LanguageLaws.{sound_good, exec_sound, exec_same, exec_inverted, end_of_root, empty_sound}
 
 pub worlds-more : (worlds : List World) (nodes : List Node) (node : Node) →
-    worlds_from worlds (nodes ++ node ∷ []) ≡ worlds_from worlds nodes ++ end_of node.cell (get_or (worlds_from worlds nodes) node.parent empty_world) node.steps ∷ []
+    worlds_from worlds (nodes ++ node ∷ []) ≡ worlds_from worlds nodes ++ end_of node.cell (get_or (worlds_from worlds nodes) node.parent empty_world)
+    node.steps ∷ []
 unfolding worlds_from
 worlds-more worlds [] node = refl
 worlds-more worlds (n ∷ nodes) node = worlds-more (worlds ++ end_of n.cell (get_or worlds n.parent empty_world) n.steps ∷ []) nodes node
@@ -86,7 +88,8 @@ legal_up s g =
           ∙ sym (ancestor_of_parent s.nodes s.position j);
     }
 
-child_set : (s : Past) (c i : ℕ) → IsLegal s → IsNext s c → i < length s.nodes → 0 < get_or (set s.favourites s.position c) i 0 → HasFavouriteChild s.nodes (set s.favourites s.position c) i
+child_set : (s : Past) (c i : ℕ) → IsLegal s → IsNext s c → i < length s.nodes → 0 < get_or (set s.favourites s.position c) i 0 →
+    HasFavouriteChild s.nodes (set s.favourites s.position c) i
 child_set s c i g next l above = elim (cases_eq i s.position) [
   | inl same ↦
       (let it : get_or (set s.favourites s.position c) i 0 ≡ c = rw same (get_or-set_same s.favourites s.position c 0 (rw g.favourites g.position)) in
@@ -120,7 +123,8 @@ pub undo_above : (nodes : List Node) (n k : ℕ) → 0 < k → IsTrue (can_undo 
 undo_above nodes n zero l h = absurd (omega arith)
 undo_above nodes n (suc k) l h = let e : suc k - 1 ≡ k = omega arith in rw e (not_zero n _ h)
 
-pub redo_below : (favourites : List ℕ) (n k : ℕ) → 0 < k → IsTrue (can_redo favourites n k) → (0 < get_or favourites n 0) × IsTrue (can_redo favourites (get_or favourites n 0) (k - 1))
+pub redo_below : (favourites : List ℕ) (n k : ℕ) → 0 < k → IsTrue (can_redo favourites n k) → (0 < get_or favourites n 0) ×
+    IsTrue (can_redo favourites (get_or favourites n 0) (k - 1))
 redo_below favourites n zero l h = absurd (omega arith)
 redo_below favourites n (suc k) l h = let e : suc k - 1 ≡ k = omega arith in rw e (not_zero (get_or favourites n 0) _ h)
 
@@ -131,23 +135,27 @@ run_kept : (s : Past) (new : Node) (w : World) (i : ℕ) → IsLegal s → 0 < i
 run_kept s new w i g above l =
     let run : IsRun s.nodes s.worlds i = g.ran i above l in
     let node : get_or (s.nodes ++ new ∷ []) i root ≡ get_or s.nodes i root = get_or_append_left s.nodes (new ∷ []) root i l in
-    let world : get_or (s.worlds ++ w ∷ []) i empty_world ≡ get_or s.worlds i empty_world = get_or_append_left s.worlds (w ∷ []) empty_world i (rw g.worlds l) in
+    let world : get_or (s.worlds ++ w ∷ []) i empty_world ≡ get_or s.worlds i empty_world =
+    get_or_append_left s.worlds (w ∷ []) empty_world i (rw g.worlds l) in
     let low : (get_or s.nodes i root).parent < length s.worlds = rw g.worlds (let h = run.parent in omega arith) in
-    let parent : get_or (s.worlds ++ w ∷ []) (get_or s.nodes i root).parent empty_world ≡ get_or s.worlds (get_or s.nodes i root).parent empty_world = get_or_append_left s.worlds (w ∷ []) empty_world _ low in
+    let parent : get_or (s.worlds ++ w ∷ []) (get_or s.nodes i root).parent empty_world ≡ get_or s.worlds (get_or s.nodes i root).parent empty_world =
+    get_or_append_left s.worlds (w ∷ []) empty_world _ low in
     record {
       parent = rw node run.parent;
       formed = rw (node, parent) run.formed;
       ran = rw (node, world, parent) run.ran;
     }
 
-run_new : (s : Past) (program : Cell) (n : ℕ) (w : World) (i : ℕ) → IsLegal s → i ≡ length s.nodes → IsFormed program (here s) → CodeExec (Forward program) (here s) n w →
+run_new : (s : Past) (program : Cell) (n : ℕ) (w : World) (i : ℕ) → IsLegal s → i ≡ length s.nodes → IsFormed program (here s) →
+    CodeExec (Forward program) (here s) n w →
     IsRun (s.nodes ++ record { parent = s.position; cell = program; steps = n } ∷ []) (s.worlds ++ w ∷ []) i
 run_new s program n w i g same formed e =
     let new : Node = record { parent = s.position; cell = program; steps = n } in
     let node : get_or (s.nodes ++ new ∷ []) i root ≡ new = rw same (get_or_at s.nodes new [] root (length s.nodes) refl) in
     let world : get_or (s.worlds ++ w ∷ []) i empty_world ≡ w = rw same (get_or_at s.worlds w [] empty_world (length s.nodes) g.worlds) in
     let low : s.position < length s.worlds = rw g.worlds g.position in
-    let parent : get_or (s.worlds ++ w ∷ []) s.position empty_world ≡ get_or s.worlds s.position empty_world = get_or_append_left s.worlds (w ∷ []) empty_world s.position low in
+    let parent : get_or (s.worlds ++ w ∷ []) s.position empty_world ≡ get_or s.worlds s.position empty_world =
+    get_or_append_left s.worlds (w ∷ []) empty_world s.position low in
     record {
       parent = rw (node, same) g.position;
       formed = rw (node, parent) formed;
@@ -158,21 +166,26 @@ child_none : (s : Past) (i : ℕ) → IsLegal s → i ≡ length s.nodes → get
 child_none s i g same =
     get_or_at (set s.favourites s.position (length s.nodes)) 0 [] 0 i (length-set s.favourites s.position (length s.nodes) ∙ g.favourites ∙ sym same)
 
-child_kept : (s : Past) (new : Node) (i : ℕ) → IsLegal s → new.parent ≡ s.position → i < length s.nodes → 0 < get_or (set s.favourites s.position (length s.nodes) ++ 0 ∷ []) i 0 →
+child_kept : (s : Past) (new : Node) (i : ℕ) → IsLegal s → new.parent ≡ s.position → i < length s.nodes →
+    0 < get_or (set s.favourites s.position (length s.nodes) ++ 0 ∷ []) i 0 →
     HasFavouriteChild (s.nodes ++ new ∷ []) (set s.favourites s.position (length s.nodes) ++ 0 ∷ []) i
 child_kept s new i g from l above =
     let size : length (s.nodes ++ new ∷ []) ≡ length s.nodes + 1 = length-append s.nodes (new ∷ []) in
     let low : i < length (set s.favourites s.position (length s.nodes)) = rw (length-set s.favourites s.position (length s.nodes), g.favourites) l in
-    let here : get_or (set s.favourites s.position (length s.nodes) ++ 0 ∷ []) i 0 ≡ get_or (set s.favourites s.position (length s.nodes)) i 0 = get_or_append_left _ (0 ∷ []) 0 i low in
+    let here : get_or (set s.favourites s.position (length s.nodes) ++ 0 ∷ []) i 0 ≡ get_or (set s.favourites s.position (length s.nodes)) i 0 =
+    get_or_append_left _ (0 ∷ []) 0 i low in
     elim (cases_eq i s.position) [
       | inl same ↦
-          (let it : get_or (set s.favourites s.position (length s.nodes) ++ 0 ∷ []) i 0 ≡ length s.nodes = here ∙ rw same (get_or-set_same s.favourites s.position (length s.nodes) 0 (rw g.favourites g.position)) in
+          (let it : get_or (set s.favourites s.position (length s.nodes) ++ 0 ∷ []) i 0 ≡ length s.nodes = here
+          ∙ rw same (get_or-set_same s.favourites s.position (length s.nodes) 0 (rw g.favourites g.position)) in
           let node : get_or (s.nodes ++ new ∷ []) (length s.nodes) root ≡ new = get_or_at s.nodes new [] root (length s.nodes) refl in
           record { known = omega arith; parent = rw (it, node) (from ∙ sym same) })
       | inr other ↦
-          (let it : get_or (set s.favourites s.position (length s.nodes) ++ 0 ∷ []) i 0 ≡ get_or s.favourites i 0 = here ∙ get_or-set_other s.favourites s.position i (length s.nodes) 0 other in
+          (let it : get_or (set s.favourites s.position (length s.nodes) ++ 0 ∷ []) i 0 ≡ get_or s.favourites i 0 = here
+          ∙ get_or-set_other s.favourites s.position i (length s.nodes) 0 other in
           let child : HasFavouriteChild s.nodes s.favourites i = g.children i l (omega arith) in
-          let node : get_or (s.nodes ++ new ∷ []) (get_or s.favourites i 0) root ≡ get_or s.nodes (get_or s.favourites i 0) root = get_or_append_left s.nodes (new ∷ []) root _ child.known in
+          let node : get_or (s.nodes ++ new ∷ []) (get_or s.favourites i 0) root ≡ get_or s.nodes (get_or s.favourites i 0) root =
+          get_or_append_left s.nodes (new ∷ []) root _ child.known in
           record { known = (let k = child.known in omega arith); parent = rw (it, node) child.parent })
     ]
 
@@ -190,7 +203,8 @@ undo_stop nodes n i k l at =
     let e : k - i ≡ suc (k - (i + 1)) = omega arith in
     rw (e, at) refl
 
-pub redo_step : (favourites : List ℕ) (n i k : ℕ) → i < k → (get_or favourites n 0 ≡ 0 → ⊥) → can_redo favourites n (k - i) ≡ can_redo favourites (get_or favourites n 0) (k - (i + 1))
+pub redo_step : (favourites : List ℕ) (n i k : ℕ) → i < k → (get_or favourites n 0 ≡ 0 → ⊥) →
+    can_redo favourites n (k - i) ≡ can_redo favourites (get_or favourites n 0) (k - (i + 1))
 redo_step favourites n i k l above =
     let e : k - i ≡ suc (k - (i + 1)) = omega arith in
     rw e (not_zero_is (get_or favourites n 0) _ above)
@@ -204,7 +218,8 @@ grown_parent : (s : Past) (new : Node) (i : ℕ) → i < length s.nodes → (get
 grown_parent s new i l = ap (λ (n : Node). n.parent) (get_or_append_left s.nodes (new ∷ []) root i l)
 
 -- above a new node stand the position and what is above it
-grown_ancestor : (s : Past) (new : Node) (j : ℕ) → IsLegal s → new.parent ≡ s.position → ancestor (s.nodes ++ new ∷ []) (length s.nodes) (suc j) ≡ ancestor s.nodes s.position j
+grown_ancestor : (s : Past) (new : Node) (j : ℕ) → IsLegal s → new.parent ≡ s.position →
+    ancestor (s.nodes ++ new ∷ []) (length s.nodes) (suc j) ≡ ancestor s.nodes s.position j
 grown_ancestor s new zero g from = ap (λ (n : Node). n.parent) (get_or_at s.nodes new [] root (length s.nodes) refl) ∙ from
 grown_ancestor s new (suc j) g from =
     let before : ancestor (s.nodes ++ new ∷ []) (length s.nodes) (suc j) ≡ ancestor s.nodes s.position j = grown_ancestor s new j g from in
@@ -212,18 +227,22 @@ grown_ancestor s new (suc j) g from =
     ap (λ (k : ℕ). (get_or (s.nodes ++ new ∷ []) k root).parent) before ∙ grown_parent s new (ancestor s.nodes s.position j) low
 
 -- the favourites as they are with a new node, at an old one and at the position
-grown_favourite : (s : Past) (i : ℕ) → IsLegal s → i < s.position → get_or (set s.favourites s.position (length s.nodes) ++ 0 ∷ []) i 0 ≡ get_or s.favourites i 0
+grown_favourite : (s : Past) (i : ℕ) → IsLegal s → i < s.position →
+    get_or (set s.favourites s.position (length s.nodes) ++ 0 ∷ []) i 0 ≡ get_or s.favourites i 0
 grown_favourite s i g l =
-    let low : i < length (set s.favourites s.position (length s.nodes)) = rw (length-set s.favourites s.position (length s.nodes), g.favourites) (let p = g.position in omega arith) in
+    let low : i < length (set s.favourites s.position (length s.nodes)) =
+    rw (length-set s.favourites s.position (length s.nodes), g.favourites) (let p = g.position in omega arith) in
     get_or_append_left _ (0 ∷ []) 0 i low ∙ get_or-set_other s.favourites s.position i (length s.nodes) 0 (λ e. absurd (omega arith))
 
 position_favourite : (s : Past) → IsLegal s → get_or (set s.favourites s.position (length s.nodes) ++ 0 ∷ []) s.position 0 ≡ length s.nodes
 position_favourite s g =
-    let low : s.position < length (set s.favourites s.position (length s.nodes)) = rw (length-set s.favourites s.position (length s.nodes), g.favourites) g.position in
+    let low : s.position < length (set s.favourites s.position (length s.nodes)) =
+    rw (length-set s.favourites s.position (length s.nodes), g.favourites) g.position in
     get_or_append_left _ (0 ∷ []) 0 s.position low ∙ get_or-set_same s.favourites s.position (length s.nodes) 0 (rw g.favourites g.position)
 
 favoured_grown : (s : Past) (program : Cell) (n : ℕ) (w : World) (j : ℕ) → IsLegal s → 0 < ancestor (grown s program n w).nodes (length s.nodes) j →
-    get_or (grown s program n w).favourites (ancestor (grown s program n w).nodes (length s.nodes) (suc j)) 0 ≡ ancestor (grown s program n w).nodes (length s.nodes) j
+    get_or (grown s program n w).favourites (ancestor (grown s program n w).nodes (length s.nodes) (suc j)) 0 ≡ ancestor (grown s program n w).nodes
+    (length s.nodes) j
 favoured_grown s program n w zero g above =
     let new : Node = record { parent = s.position; cell = program; steps = n } in
     ap (λ (k : ℕ). get_or (set s.favourites s.position (length s.nodes) ++ 0 ∷ []) k 0) (grown_ancestor s new 0 g refl) ∙ position_favourite s g
@@ -236,10 +255,12 @@ favoured_grown s program n w (suc j) g above =
     let within : ancestor s.nodes s.position j < length s.nodes = let p = g.position in omega arith in
     let run : IsRun s.nodes s.worlds (ancestor s.nodes s.position j) = g.ran (ancestor s.nodes s.position j) some within in
     let below : ancestor s.nodes s.position (suc j) < s.position = let h = run.parent in omega arith in
-    ap (λ (k : ℕ). get_or (set s.favourites s.position (length s.nodes) ++ 0 ∷ []) k 0) there ∙ grown_favourite s (ancestor s.nodes s.position (suc j)) g below ∙ g.favoured j some ∙ sym here
+    ap (λ (k : ℕ). get_or (set s.favourites s.position (length s.nodes) ++ 0 ∷ []) k 0) there ∙ grown_favourite s (ancestor s.nodes s.position (suc j)) g below
+    ∙ g.favoured j some ∙ sym here
 
 -- a cell that ended well is a new node
-pub legal_grown : (s : Past) (program : Cell) (n : ℕ) (w : World) → IsLegal s → IsFormed program (here s) → CodeExec (Forward program) (here s) n w → IsLegal (grown s program n w)
+pub legal_grown : (s : Past) (program : Cell) (n : ℕ) (w : World) → IsLegal s → IsFormed program (here s) → CodeExec (Forward program) (here s) n w →
+    IsLegal (grown s program n w)
 legal_grown s program n w g formed e =
     let new : Node = record { parent = s.position; cell = program; steps = n } in
     let count : length (s.nodes ++ new ∷ []) ≡ length s.nodes + 1 = length-append s.nodes (new ∷ []) in
@@ -251,7 +272,8 @@ legal_grown s program n w g formed e =
       rooted = omega arith;
       nothing_at_root = worlds-old 0 g.rooted ∙ g.nothing_at_root;
       worlds = omega (arith, length-append s.worlds (w ∷ []), g.worlds);
-      favourites = omega (arith, length-append (set s.favourites s.position (length s.nodes)) (0 ∷ []), length-set s.favourites s.position (length s.nodes), g.favourites);
+      favourites = omega
+          (arith, length-append (set s.favourites s.position (length s.nodes)) (0 ∷ []), length-set s.favourites s.position (length s.nodes), g.favourites);
       ran = λ i above l. elim (split i (length s.nodes) (omega arith)) [
         | inl below ↦ run_kept s new w i g above below
         | inr same ↦ run_new s program n w i g same formed e
@@ -270,14 +292,17 @@ legal_grown s program n w g formed e =
     }
 
 -- above the older nodes stand the worlds that stood there, and above the new one the position's
-pub world_above_kept : (s : Past) (program : Cell) (n : ℕ) (w : World) (i : ℕ) → IsLegal s → 0 < i → i < length s.nodes → world_at (grown s program n w) (node_at (grown s program n w) i).parent ≡ world_at s (node_at s i).parent
+pub world_above_kept : (s : Past) (program : Cell) (n : ℕ) (w : World) (i : ℕ) → IsLegal s → 0 < i → i < length s.nodes →
+    world_at (grown s program n w) (node_at (grown s program n w) i).parent ≡ world_at s (node_at s i).parent
 world_above_kept s program n w i g above low =
     let new : Node = record { parent = s.position; cell = program; steps = n } in
     let run : IsRun s.nodes s.worlds i = g.ran i above low in
     let known : (node_at s i).parent < length s.worlds = let h = run.parent in rw g.worlds (omega arith) in
-    ap (λ (k : ℕ). get_or (s.worlds ++ w ∷ []) k empty_world) (grown_parent s new i low) ∙ get_or_append_left s.worlds (w ∷ []) empty_world (node_at s i).parent known
+    ap (λ (k : ℕ). get_or (s.worlds ++ w ∷ []) k empty_world) (grown_parent s new i low)
+    ∙ get_or_append_left s.worlds (w ∷ []) empty_world (node_at s i).parent known
 
-pub world_above_new : (s : Past) (program : Cell) (n : ℕ) (w : World) → IsLegal s → world_at (grown s program n w) (node_at (grown s program n w) (length s.nodes)).parent ≡ here s
+pub world_above_new : (s : Past) (program : Cell) (n : ℕ) (w : World) → IsLegal s →
+    world_at (grown s program n w) (node_at (grown s program n w) (length s.nodes)).parent ≡ here s
 world_above_new s program n w g =
     let new : Node = record { parent = s.position; cell = program; steps = n } in
     ap (λ (x : Node). get_or (s.worlds ++ w ∷ []) x.parent empty_world) (get_or_at s.nodes new [] root (length s.nodes) refl)
@@ -310,7 +335,8 @@ formed_below s c g next =
     rw next.parent at run.formed
 
 -- the inverse of the position's cell leads to where that cell's statements began
-pub run_above : (s : Past) → IsLegal s → 0 < s.position → CodeExec (Backward (node_at s s.position).cell) (here s) (node_at s s.position).steps (entered (node_at s s.position).cell (world_at s (node_at s s.position).parent))
+pub run_above : (s : Past) → IsLegal s → 0 < s.position → CodeExec (Backward (node_at s s.position).cell) (here s) (node_at s s.position).steps
+    (entered (node_at s s.position).cell (world_at s (node_at s s.position).parent))
 run_above s g l = exec_inverted _ _ _ _ (sound_good _ (parent_sound s g l)) (run_here s g l).ran
 
 -- the world at the end of an undone cell, and of a redone one
@@ -372,7 +398,8 @@ next_by Undo s down g l w = absurd (let e = w.0 in omega arith)
 next_by Redo s down g l w = favourite_next s g (redo_below s.favourites s.position down l w.1).0
 next_by (Goto n) s down g l w = goto_next s n down g l w
 
-pub next_below : (s : Past) (travel : Travel) → IsLegal s → next_way travel ≡ Down → IsPossible s.nodes s.favourites s.position travel → IsNext s (below s travel)
+pub next_below : (s : Past) (travel : Travel) → IsLegal s → next_way travel ≡ Down → IsPossible s.nodes s.favourites s.position travel →
+    IsNext s (below s travel)
 next_below s travel g way p =
     let none : travel.up ≡ 0 = way_down travel.up way in
     let some = p.some in
@@ -423,14 +450,20 @@ down_possible s travel g way p =
 
 -- after a cell the tree is legal, and the rest of the travel can be gone
 moved_by : (s : Past) (travel : Travel) (way : Way) → next_way travel ≡ way → IsLegal s → IsPossible s.nodes s.favourites s.position travel →
-    IsLegal (moved s travel) × CanGo (stepped travel).aim (moved s travel).nodes (moved s travel).favourites (moved s travel).position (stepped travel).up (stepped travel).down
+    IsLegal (moved s travel) × CanGo (stepped travel).aim (moved s travel).nodes (moved s travel).favourites (moved s travel).position (stepped travel).up
+    (stepped travel).down
 moved_by s travel Up way g p = rw (way, moved, stepped) (legal_up s g, (up_possible s travel way p).1)
 moved_by s travel Down way g p =
     let none : travel.up ≡ 0 = way_down travel.up way in
-    rw (way, moved, stepped) (legal_down s (below s travel) g (next_below s travel g way p), subst (λ (up : ℕ). CanGo travel.aim s.nodes (set s.favourites s.position (below s travel)) (below s travel) up (travel.down - 1)) (sym none) (down_possible s travel g way p))
+    rw (way, moved, stepped) (
+      legal_down s (below s travel) g (next_below s travel g way p),
+      subst (λ (up : ℕ). CanGo travel.aim s.nodes (set s.favourites s.position (below s travel)) (below s travel) up (travel.down - 1)) (sym none)
+          (down_possible s travel g way p),
+    )
 
 pub moved_legal : (s : Past) (travel : Travel) → IsLegal s → IsPossible s.nodes s.favourites s.position travel →
-    IsLegal (moved s travel) × CanGo (stepped travel).aim (moved s travel).nodes (moved s travel).favourites (moved s travel).position (stepped travel).up (stepped travel).down
+    IsLegal (moved s travel) × CanGo (stepped travel).aim (moved s travel).nodes (moved s travel).favourites (moved s travel).position (stepped travel).up
+    (stepped travel).down
 moved_legal s travel g p = moved_by s travel (next_way travel) refl g p
 
 stays_at_root : (s : Past) (n i j : ℕ) → IsLegal s → ancestor s.nodes n i ≡ 0 → ancestor s.nodes n (i + j) ≡ 0

@@ -27,7 +27,9 @@ length_numbered parent stamp n (x ∷ xs) = ap (λ k. suc k) (length_numbered pa
 
 -- the headers of an answer's messages, for its reply and its broadcasts apart
 headers_in_order : (asker : Asker) (stamp : Stamp) (reply : Option Said) (more : List Said)
-    → map (λ m. m.header) (option_to_list (option_map (reply_message asker stamp stamp.next) reply) ++ numbered asker.header stamp (stamp.next + length (option_to_list reply)) more) ≡ headers_from stamp stamp.next (option_to_list reply ++ more)
+    → map (λ m. m.header)
+    (option_to_list (option_map (reply_message asker stamp stamp.next) reply) ++ numbered asker.header stamp (stamp.next + length (option_to_list reply))
+    more) ≡ headers_from stamp stamp.next (option_to_list reply ++ more)
 headers_in_order asker stamp None more =
     let first : stamp.next + 0 ≡ stamp.next = omega arith in
     headers_numbered asker.header stamp (stamp.next + 0) more ∙ ap (λ n. headers_from stamp n more) first
@@ -38,7 +40,9 @@ pub numbered_in_order : NumberedInOrder
 numbered_in_order asker stamp says = headers_in_order asker stamp says.reply says.broadcasts
 
 counted_in_order : (asker : Asker) (stamp : Stamp) (reply : Option Said) (more : List Said)
-    → stamp.next + length (option_to_list reply) + length more ≡ stamp.next + length (option_to_list (option_map (reply_message asker stamp stamp.next) reply) ++ numbered asker.header stamp (stamp.next + length (option_to_list reply)) more)
+    → stamp.next + length (option_to_list reply) + length more ≡ stamp.next + length
+    (option_to_list (option_map (reply_message asker stamp stamp.next) reply) ++ numbered asker.header stamp (stamp.next + length (option_to_list reply))
+    more)
 counted_in_order asker stamp None more = let same = length_numbered asker.header stamp (stamp.next + 0) more in omega arith
 counted_in_order asker stamp (Some said) more = let same = length_numbered asker.header stamp (stamp.next + 1) more in omega arith
 
@@ -47,13 +51,17 @@ next_counts_messages asker stamp says = counted_in_order asker stamp says.reply 
 
 parents_numbered : (parent : List ℕ) (stamp : Stamp) (n : ℕ) (said : List Said) → All (λ m. m.parent ≡ parent) (numbered parent stamp n said)
 parents_numbered parent stamp n [] = All-nil (λ m. m.parent ≡ parent)
-parents_numbered parent stamp n (x ∷ xs) = All-cons (λ m. m.parent ≡ parent) (broadcast_message parent stamp n x) (numbered parent stamp (n + 1) xs) refl (parents_numbered parent stamp (n + 1) xs)
+parents_numbered parent stamp n (x ∷ xs) = All-cons (λ m. m.parent ≡ parent) (broadcast_message parent stamp n x) (numbered parent stamp (n + 1) xs) refl
+    (parents_numbered parent stamp (n + 1) xs)
 
 parents_in_order : (asker : Asker) (stamp : Stamp) (reply : Option Said) (more : List Said)
-    → All (λ m. m.parent ≡ asker.header) (option_to_list (option_map (reply_message asker stamp stamp.next) reply) ++ numbered asker.header stamp (stamp.next + length (option_to_list reply)) more)
+    → All (λ m. m.parent ≡ asker.header)
+    (option_to_list (option_map (reply_message asker stamp stamp.next) reply) ++ numbered asker.header stamp (stamp.next + length (option_to_list reply))
+    more)
 parents_in_order asker stamp None more = parents_numbered asker.header stamp (stamp.next + 0) more
 parents_in_order asker stamp (Some said) more =
-    All-cons (λ m. m.parent ≡ asker.header) (reply_message asker stamp stamp.next said) (numbered asker.header stamp (stamp.next + 1) more) refl (parents_numbered asker.header stamp (stamp.next + 1) more)
+    All-cons (λ m. m.parent ≡ asker.header) (reply_message asker stamp stamp.next said) (numbered asker.header stamp (stamp.next + 1) more) refl
+    (parents_numbered asker.header stamp (stamp.next + 1) more)
 
 pub answer_their_request : AnswerTheirRequest
 answer_their_request asker stamp says = parents_in_order asker stamp says.reply says.broadcasts

@@ -21,7 +21,8 @@ header_with date session connection n msg_type = compact_text (record_of (
     ∷ (codes "version", text (codes "5.4"))
     ∷ []))
 
-is_header_with : (s : Stamp) (n : ℕ) (msg_type : List ℕ) → compact_text (header s n msg_type) ≡ header_with s.date (string_bytes s.session) s.connection n msg_type
+is_header_with : (s : Stamp) (n : ℕ) (msg_type : List ℕ) → compact_text (header s n msg_type) ≡ header_with s.date (string_bytes s.session)
+    s.connection n msg_type
 unfolding header_with
 is_header_with s n msg_type = refl
 
@@ -33,7 +34,8 @@ same_header s t n msg_type same =
     ∙ ap (λ connection. header_with t.date (string_bytes t.session) connection n msg_type) same.connection
     ∙ sym (is_header_with t n msg_type)
 
-same_message : (identities : List (List ℕ)) (parent : List ℕ) (s t : Stamp) (n : ℕ) (said : Said) → IsSameStamp s t → message identities parent s n said ≡ message identities parent t n said
+same_message : (identities : List (List ℕ)) (parent : List ℕ) (s t : Stamp) (n : ℕ) (said : Said) → IsSameStamp s t →
+    message identities parent s n said ≡ message identities parent t n said
 same_message identities parent s t n said same =
     ap (λ h. record { identities = identities; header = h; parent = parent; metadata = codes "{}"; content = compact_text said.content; buffers = [] })
     (same_header s t n said.msg_type same)
@@ -44,7 +46,8 @@ same_numbered parent s t n (x ∷ xs) same =
     ap (λ m. m ∷ numbered parent s (n + 1) xs) (same_message (x.msg_type ∷ []) parent s t n x same)
     ∙ ap (λ ms. broadcast_message parent t n x ∷ ms) (same_numbered parent s t (n + 1) xs same)
 
-same_reply : (asker : Asker) (s t : Stamp) (n : ℕ) (reply : Option Said) → IsSameStamp s t → option_map (reply_message asker s n) reply ≡ option_map (reply_message asker t n) reply
+same_reply : (asker : Asker) (s t : Stamp) (n : ℕ) (reply : Option Said) → IsSameStamp s t →
+    option_map (reply_message asker s n) reply ≡ option_map (reply_message asker t n) reply
 same_reply asker s t n None same = refl
 same_reply asker s t n (Some said) same = ap Some (same_message asker.identities asker.header s t n said same)
 
@@ -53,7 +56,8 @@ same_sent asker s t says same =
     let replies = length (option_to_list says.reply) in
     ap (λ n. record { reply = option_map (reply_message asker s n) says.reply; broadcasts = numbered asker.header s (n + replies) says.broadcasts }) same.next
     ∙ ap (λ r. record { reply = r; broadcasts = numbered asker.header s (t.next + replies) says.broadcasts }) (same_reply asker s t t.next says.reply same)
-    ∙ ap (λ bs. record { reply = option_map (reply_message asker t t.next) says.reply; broadcasts = bs }) (same_numbered asker.header s t (t.next + replies) says.broadcasts same)
+    ∙ ap (λ bs. record { reply = option_map (reply_message asker t t.next) says.reply; broadcasts = bs })
+    (same_numbered asker.header s t (t.next + replies) says.broadcasts same)
 
 pub answers_are_equal : AnswersAreEqual
 answers_are_equal asker s t says out other same first second = first ∙ same_sent asker s t says same ∙ sym second

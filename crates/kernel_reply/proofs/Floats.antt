@@ -1,5 +1,6 @@
 -- What is said has no floats.
-use Rattle.std.proofs.Common.{◌≡◌, ℕ, ℤ, Bool, true, false, ◌||◌, List, [], ◌∷◌, map, refl, ap, ◌∙◌, String, string_bytes, Option, Result, Ok, Err, if◌then◌else◌}
+use Rattle.std.proofs.Common.{◌≡◌, ℕ, ℤ, Bool, true, false, ◌||◌, List, [], ◌∷◌, map, refl, ap, ◌∙◌, String, string_bytes, Option, Result, Ok, Err}
+use Rattle.std.proofs.Common.{if◌then◌else◌}
 use Rattle.std.specs.declared.alloc.Global.{Global}
 use Rattle.std.specs.Ordering.{nat_cmp, match_ordering}
 use Rattle.std.specs.Cmp.Lexicographic.{slice_cmp}
@@ -39,7 +40,8 @@ right_false : (a b : Bool) → a || b ≡ false → b ≡ false
 right_false true b e = elim b as (λ c. c ≡ false) [ true ↦ e | false ↦ refl ]
 right_false false b e = e
 
-placed_plain : (o : Ordering) (k l : List ℕ) (d e : Data) (ms more : Members) → has_float d ≡ false → has_float e ≡ false → members_have_float ms ≡ false → members_have_float more ≡ false
+placed_plain : (o : Ordering) (k l : List ℕ) (d e : Data) (ms more : Members) → has_float d ≡ false → has_float e ≡ false → members_have_float ms ≡ false →
+    members_have_float more ≡ false
     → members_have_float (match_ordering o (member k d (member l e ms)) (member l d ms) (member l e more)) ≡ false
 placed_plain ordering.Less k l d e ms more hd he hm hp = both_false _ _ hd (both_false _ _ he hm)
 placed_plain ordering.Equal k l d e ms more hd he hm hp = both_false _ _ hd hm
@@ -58,7 +60,8 @@ value_plain (Err f) = refl
 
 values_plain_from : (ms : Members) (vs : List NamedValue) → members_have_float ms ≡ false → members_have_float (with_values ms vs) ≡ false
 values_plain_from ms [] h = h
-values_plain_from ms (v ∷ vs) h = values_plain_from (put (string_bytes v.name) (value_shown v.value) ms) vs (put_plain (string_bytes v.name) (value_shown v.value) ms (value_plain v.value) h)
+values_plain_from ms (v ∷ vs) h =
+    values_plain_from (put (string_bytes v.name) (value_shown v.value) ms) vs (put_plain (string_bytes v.name) (value_shown v.value) ms (value_plain v.value) h)
 
 pub values_plain : (vs : List NamedValue) → members_have_float (with_values no_members vs) ≡ false
 values_plain vs = values_plain_from no_members vs refl

@@ -1,5 +1,6 @@
 -- What stands under the names of the list of open comms and of that of the values of expressions.
-use Rattle.std.proofs.Common.{◌≡◌, ℕ, zero, suc, Bool, true, false, List, [], ◌∷◌, drop, Option, Some, None, refl, sym, ap, ◌∙◌, subst, string_bytes, Contains, inl, inr}
+use Rattle.std.proofs.Common.{◌≡◌, ℕ, zero, suc, Bool, true, false, List, [], ◌∷◌, drop, Option, Some, None, refl, sym, ap, ◌∙◌, subst, string_bytes, Contains}
+use Rattle.std.proofs.Common.{inl, inr}
 use Rattle.std.specs.declared.cmp.Ordering.{Ordering}
 use Rattle.std.specs.declared.cmp.Ordering.TheVariants as ordering
 use Rattle.std.specs.Ordering.{nat_cmp, is_eq, match_ordering}
@@ -47,8 +48,10 @@ other_name x k d (member l e ms) other = other_at (slice_cmp nat_cmp k l) x k l 
 
 -- ---- open comms
 
-still_by : (b : Bool) (id x : List ℕ) (ms : Members) → bytes_eq id x ≡ b → get_member id ms ≡ Some comm_shown → get_member id (put x comm_shown ms) ≡ Some comm_shown
-still_by true id x ms e h = subst (λ (k : List ℕ). get_member id (put k comm_shown ms) ≡ Some comm_shown) ((bytes_eq-Decides id x).0 e) (get_member-put id comm_shown ms)
+still_by : (b : Bool) (id x : List ℕ) (ms : Members) → bytes_eq id x ≡ b → get_member id ms ≡ Some comm_shown →
+    get_member id (put x comm_shown ms) ≡ Some comm_shown
+still_by true id x ms e h = subst (λ (k : List ℕ). get_member id (put k comm_shown ms) ≡ Some comm_shown) ((bytes_eq-Decides id x).0 e)
+    (get_member-put id comm_shown ms)
 still_by false id x ms e h = other_name id x comm_shown ms (λ same. (let f : true ≡ false = sym ((bytes_eq-Decides id x).1 same) ∙ e in cc)) ∙ h
 
 still_listed : (id : List ℕ) (ms : Members) (ids : List (List ℕ)) → get_member id ms ≡ Some comm_shown → get_member id (with_comms ms ids) ≡ Some comm_shown
@@ -58,7 +61,8 @@ still_listed id ms (x ∷ ids) h = still_listed id (put x comm_shown ms) ids (st
 listed : (ms : Members) (ids : List (List ℕ)) (id : List ℕ) → Contains ids id → get_member id (with_comms ms ids) ≡ Some comm_shown
 listed ms [] id h = absurd (contains_none id h)
 listed ms (x ∷ ids) id h = elim (contains_cases ids x id h) as (λ _. get_member id (with_comms (put x comm_shown ms) ids) ≡ Some comm_shown) [
-  | inl e ↦ still_listed id (put x comm_shown ms) ids (subst (λ (k : List ℕ). get_member k (put x comm_shown ms) ≡ Some comm_shown) e (get_member-put x comm_shown ms))
+  | inl e ↦ still_listed id (put x comm_shown ms) ids
+      (subst (λ (k : List ℕ). get_member k (put x comm_shown ms) ≡ Some comm_shown) e (get_member-put x comm_shown ms))
   | inr later ↦ listed (put x comm_shown ms) ids id later
 ]
 
@@ -73,7 +77,8 @@ still_told x ms (v ∷ vs) none =
     still_told x (put (string_bytes v.name) (value_shown v.value) ms) vs (λ h. none (contains_later (names_of vs) (string_bytes v.name) x h))
     ∙ other_name x (string_bytes v.name) (value_shown v.value) ms (λ e. none (contains_first (names_of vs) (string_bytes v.name) x (sym e)))
 
-value_told : (ms : Members) (vs : List NamedValue) (k : ℕ) (v : NamedValue) → slice_get vs k ≡ Some v → (Contains (names_of (drop (suc k) vs)) (string_bytes v.name) → ⊥)
+value_told : (ms : Members) (vs : List NamedValue) (k : ℕ) (v : NamedValue) → slice_get vs k ≡ Some v →
+    (Contains (names_of (drop (suc k) vs)) (string_bytes v.name) → ⊥)
     → get_member (string_bytes v.name) (with_values ms vs) ≡ Some (value_shown v.value)
 value_told ms [] k v at none = absurd (let f : None ≡ Some v = at in cc)
 value_told ms (w ∷ vs) zero v at none =

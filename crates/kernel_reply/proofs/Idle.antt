@@ -1,5 +1,6 @@
 -- Answers end with the status idle.
-use Rattle.std.proofs.Common.{ℕ, ◌+◌, Bool, true, false, ◌&&◌, List, [], ◌∷◌, ◌++◌, length, map, Option, Some, None, option_map, string_bytes, ap, sym, ◌∙◌, refl, arith, if◌then◌else◌}
+use Rattle.std.proofs.Common.{ℕ, ◌+◌, Bool, true, false, ◌&&◌, List, [], ◌∷◌, ◌++◌, length, map, Option, Some, None, option_map, string_bytes, ap, sym, ◌∙◌}
+use Rattle.std.proofs.Common.{refl, arith, if◌then◌else◌}
 use Rattle.std.specs.Option.{option_to_list}
 use Rattle.std.proofs.lemmas.List.{length-append, append_assoc}
 use Rattle.serde_json.specs.Data.{Data}
@@ -22,15 +23,19 @@ use Rattle.kernel_message.specs.declared.stamp.Stamp.{Stamp}
 use Rattle.kernel_message.proofs.Numbers.{numbered_more}
 use Rattle.kernel_reply.specs.Status.{idle}
 use Rattle.kernel_reply.specs.Problems.{Problem, cell_problem, post_problem}
-use Rattle.kernel_reply.specs.Replies.{kernel_info_reply, complete_reply, inspect_reply, is_complete_reply, history_reply, no_search_reply, interrupt_reply, shutdown_reply}
+use Rattle.kernel_reply.specs.Replies.{kernel_info_reply, complete_reply, inspect_reply, is_complete_reply, history_reply, no_search_reply, interrupt_reply}
+use Rattle.kernel_reply.specs.Replies.{shutdown_reply}
 use Rattle.kernel_reply.specs.Execution.{execute_input, execute_result, error, execute_broadcasts, execute_reply, error_reply}
 use Rattle.kernel_reply.specs.Comms.{is_target, asks_target, comm_info_reply, comm_msg, comm_close, state_shown}
 use Rattle.kernel_reply.specs.Moves.{move_shown, unposted_shown}
-use Rattle.kernel_reply.specs.Answers.{only, status_alone, tells, tells_on_comm, is_of_cell, cell_says, cell_says_with, completion_says, inspection_says, completeness_says, inputs_say, history_says, open_comms_say, comms_say, comm_open_says, state_says, comm_says, job_says, job_says_with, unposted_says, unposted_says_with, refusal_says, refusal_says_with, ask_says}
+use Rattle.kernel_reply.specs.Answers.{only, status_alone, tells, tells_on_comm, is_of_cell, cell_says, cell_says_with, completion_says, inspection_says}
+use Rattle.kernel_reply.specs.Answers.{completeness_says, inputs_say, history_says, open_comms_say, comms_say, comm_open_says, state_says, comm_says, job_says}
+use Rattle.kernel_reply.specs.Answers.{job_says_with, unposted_says, unposted_says_with, refusal_says, refusal_says_with, ask_says}
 use Rattle.kernel_reply.specs.Laws.{EndsIdle, JobsEndIdle, AsksEndIdle, RefusalsEndIdle}
 
 -- a reply or none, broadcasts, and then the status idle
-ends_idle : (asker : Asker) (stamp : Stamp) (reply : Option Said) (said : List Said) → EndsIdle asker stamp (record { reply = reply; broadcasts = said ++ idle ∷ [] })
+ends_idle : (asker : Asker) (stamp : Stamp) (reply : Option Said) (said : List Said) →
+    EndsIdle asker stamp (record { reply = reply; broadcasts = said ++ idle ∷ [] })
 ends_idle asker stamp reply said =
     let first = stamp.next + length (option_to_list reply) in
     let replies = option_to_list (option_map (reply_message asker stamp stamp.next) reply) in
@@ -75,7 +80,8 @@ module _ (asker : Asker) (stamp : Stamp) where
   job_ends : (r : RequestContent) (done : Done) → Ends (job_says r done)
   job_ends (request.Execute r) done =
       either_ends (is_of_cell done.outcome) (cell_says r done) status_alone
-      (cell_ends (execute_reply done.count (cell_problem done.outcome) done.values.items) r.silent (string_bytes r.code) done.count (cell_problem done.outcome) (option_map string_bytes done.shown))
+      (cell_ends (execute_reply done.count (cell_problem done.outcome) done.values.items) r.silent (string_bytes r.code) done.count (cell_problem done.outcome)
+      (option_map string_bytes done.shown))
       alone_ends
   job_ends (request.CommMessage r) done = on_comm_ends (string_bytes r.comm_id) (move_shown r.ask done.node done.outcome)
   job_ends request.KernelInfo done = alone_ends
@@ -115,7 +121,8 @@ module _ (asker : Asker) (stamp : Stamp) where
   job_with_ends : (r : RequestContent) (code : List ℕ) (done : Done) → Ends (job_says_with r code done)
   job_with_ends (request.Execute r) code done =
       either_ends (is_of_cell done.outcome) (cell_says_with r.silent code done) status_alone
-      (cell_ends (execute_reply done.count (cell_problem done.outcome) done.values.items) r.silent code done.count (cell_problem done.outcome) (option_map string_bytes done.shown))
+      (cell_ends (execute_reply done.count (cell_problem done.outcome) done.values.items) r.silent code done.count (cell_problem done.outcome)
+      (option_map string_bytes done.shown))
       alone_ends
   job_with_ends request.KernelInfo code done = job_ends request.KernelInfo done
   job_with_ends (request.Complete r) code done = job_ends (request.Complete r) done

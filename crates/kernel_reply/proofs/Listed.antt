@@ -1,5 +1,6 @@
 -- The list of open comms and that of the values of expressions, as tables.
-use Rattle.std.proofs.Common.{◌≡◌, ℕ, Bool, true, false, IsTrue, nat_eq, List, [], ◌∷◌, ◌⊎◌, refl, sym, ap, ◌∙◌, subst, string_bytes, Contains, if◌then◌else◌, inl, inr}
+use Rattle.std.proofs.Common.{◌≡◌, ℕ, Bool, true, false, IsTrue, nat_eq, List, [], ◌∷◌, ◌⊎◌, refl, sym, ap, ◌∙◌, subst, string_bytes, Contains, if◌then◌else◌}
+use Rattle.std.proofs.Common.{inl, inr}
 use Rattle.std.specs.declared.cmp.Ordering.{Ordering}
 use Rattle.std.specs.declared.cmp.Ordering.TheVariants as ordering
 use Rattle.std.specs.Ordering.{nat_cmp, match_ordering, ordering_reverse}
@@ -45,24 +46,29 @@ names_told ms [] = refl
 names_told ms (v ∷ vs) =
     let name = string_bytes v.name in
     names_told (put name (value_shown v.value) ms) vs
-    ∙ ap (λ ns. with_matches [] ns (names_of vs)) (names_put ms name (value_shown v.value) ∙ sym (ap (λ (b : Bool). if b then with_name (names ms) name else names ms) (begins name)))
+    ∙ ap (λ ns. with_matches [] ns (names_of vs))
+    (names_put ms name (value_shown v.value) ∙ sym (ap (λ (b : Bool). if b then with_name (names ms) name else names ms) (begins name)))
 
 -- ---- the names rise
 
-later : (x k : List ℕ) (ks : List (List ℕ)) → slice_cmp nat_cmp x k ≡ ordering.Less → AllByRecursion (λ q. slice_cmp nat_cmp k q ≡ ordering.Less) ks → AllByRecursion (λ q. slice_cmp nat_cmp x q ≡ ordering.Less) ks
+later : (x k : List ℕ) (ks : List (List ℕ)) → slice_cmp nat_cmp x k ≡ ordering.Less → AllByRecursion (λ q. slice_cmp nat_cmp k q ≡ ordering.Less) ks →
+    AllByRecursion (λ q. slice_cmp nat_cmp x q ≡ ordering.Less) ks
 later x k [] e h = h
 later x k (y ∷ ks) e h = (nat_list_cmp_total.trans x k y e h.0, later x k ks e h.1)
 
-before_all : (x k : List ℕ) (ks : List (List ℕ)) → slice_cmp nat_cmp x k ≡ ordering.Less → AllByRecursion (λ q. slice_cmp nat_cmp x q ≡ ordering.Less) ks → AllByRecursion (λ q. slice_cmp nat_cmp x q ≡ ordering.Less) (with_name ks k)
+before_all : (x k : List ℕ) (ks : List (List ℕ)) → slice_cmp nat_cmp x k ≡ ordering.Less → AllByRecursion (λ q. slice_cmp nat_cmp x q ≡ ordering.Less) ks →
+    AllByRecursion (λ q. slice_cmp nat_cmp x q ≡ ordering.Less) (with_name ks k)
 before_all x k [] e h = (e, h)
 before_all x k (y ∷ ks) e h = at (slice_cmp nat_cmp k y) (before_all x k ks e h.1)
   where
-    at : (o : Ordering) → AllByRecursion (λ q. slice_cmp nat_cmp x q ≡ ordering.Less) (with_name ks k) → AllByRecursion (λ q. slice_cmp nat_cmp x q ≡ ordering.Less) (match_ordering o (k ∷ y ∷ ks) (y ∷ ks) (y ∷ with_name ks k))
+    at : (o : Ordering) → AllByRecursion (λ q. slice_cmp nat_cmp x q ≡ ordering.Less) (with_name ks k) →
+        AllByRecursion (λ q. slice_cmp nat_cmp x q ≡ ordering.Less) (match_ordering o (k ∷ y ∷ ks) (y ∷ ks) (y ∷ with_name ks k))
     at ordering.Less rest = (e, h)
     at ordering.Equal rest = h
     at ordering.Greater rest = (h.0, rest)
 
-sorted_at : (k x : List ℕ) (ks : List (List ℕ)) (o : Ordering) → slice_cmp nat_cmp k x ≡ o → IsStrictlySortedBy (slice_cmp nat_cmp) (x ∷ ks) → IsStrictlySortedBy (slice_cmp nat_cmp) (with_name ks k) →
+sorted_at : (k x : List ℕ) (ks : List (List ℕ)) (o : Ordering) → slice_cmp nat_cmp k x ≡ o → IsStrictlySortedBy (slice_cmp nat_cmp) (x ∷ ks) →
+    IsStrictlySortedBy (slice_cmp nat_cmp) (with_name ks k) →
     IsStrictlySortedBy (slice_cmp nat_cmp) (match_ordering o (k ∷ x ∷ ks) (x ∷ ks) (x ∷ with_name ks k))
 unfolding IsStrictlySortedBy
 sorted_at k x ks ordering.Less e h rest = ((e, later k x ks e h.0), h)
@@ -74,7 +80,8 @@ unfolding IsStrictlySortedBy
 name_sorted [] k h = (h, h)
 name_sorted (x ∷ ks) k h = sorted_at k x ks (slice_cmp nat_cmp k x) refl h (name_sorted ks k h.1)
 
-match_sorted : (b : Bool) (known : List (List ℕ)) (k : List ℕ) → IsStrictlySortedBy (slice_cmp nat_cmp) known → IsStrictlySortedBy (slice_cmp nat_cmp) (if b then with_name known k else known)
+match_sorted : (b : Bool) (known : List (List ℕ)) (k : List ℕ) → IsStrictlySortedBy (slice_cmp nat_cmp) known →
+    IsStrictlySortedBy (slice_cmp nat_cmp) (if b then with_name known k else known)
 match_sorted true known k h = name_sorted known k h
 match_sorted false known k h = h
 

@@ -18,7 +18,8 @@ unopened : (ids : List (List ℕ)) (id : List ℕ) → can_open ids id ≡ false
 unopened ids id e = ap (λ b. if b then insert_key (slice_cmp nat_cmp) ids id else ids) e
 
 -- the answer is that of whether it is for the target, and its comm open
-opens_nothing : (r : CommOpen) (ids : List (List ℕ)) (b : Bool) → opened ids (string_bytes r.comm_id) ≡ ids → is_target (string_bytes r.target_name) && is_open ids (string_bytes r.comm_id) ≡ b
+opens_nothing : (r : CommOpen) (ids : List (List ℕ)) (b : Bool) → opened ids (string_bytes r.comm_id) ≡ ids →
+    is_target (string_bytes r.target_name) && is_open ids (string_bytes r.comm_id) ≡ b
     → OpensNothing r ids (if b then status_alone else tells (comm_close (string_bytes r.comm_id)))
 opens_nothing r ids b same is = record {
   as_before = same;
@@ -31,13 +32,15 @@ pub opens_past_the_limit_close : OpensPastTheLimitClose
 opens_past_the_limit_close r ids full closed =
     let id = string_bytes r.comm_id in
     let ours = is_target (string_bytes r.target_name) in
-    opens_nothing r ids false (unopened ids id (ap (λ b. b && not (is_open ids id)) (le-ltb (length ids) comm_limit full))) (ap (λ b. ours && b) closed ∙ and-false ours)
+    opens_nothing r ids false (unopened ids id (ap (λ b. b && not (is_open ids id)) (le-ltb (length ids) comm_limit full)))
+    (ap (λ b. ours && b) closed ∙ and-false ours)
 
 pub opens_of_open_comms : OpensOfOpenComms
 opens_of_open_comms r ids is =
     let id = string_bytes r.comm_id in
     let ours = is_target (string_bytes r.target_name) in
-    opens_nothing r ids ours (unopened ids id (ap (λ b. nat_lt (length ids) comm_limit && not b) is ∙ and-false (nat_lt (length ids) comm_limit))) (ap (λ b. ours && b) is ∙ and-true ours)
+    opens_nothing r ids ours (unopened ids id (ap (λ b. nat_lt (length ids) comm_limit && not b) is ∙ and-false (nat_lt (length ids) comm_limit)))
+    (ap (λ b. ours && b) is ∙ and-true ours)
 
 pub opens_for_other_targets_close : OpensForOtherTargetsClose
 opens_for_other_targets_close r is other = ap (λ b. if b && is then status_alone else tells (comm_close (string_bytes r.comm_id))) other

@@ -1,5 +1,6 @@
 -- Requests are replied to by their own type.
-use Rattle.std.proofs.Common.{◌≡◌, ℕ, Bool, true, false, ◌&&◌, List, [], Option, Some, None, map, codes, option_map, string_bytes, refl, sym, ap, subst, if◌then◌else◌}
+use Rattle.std.proofs.Common.{◌≡◌, ℕ, Bool, true, false, ◌&&◌, List, [], Option, Some, None, map, codes, option_map, string_bytes, refl, sym, ap, subst}
+use Rattle.std.proofs.Common.{if◌then◌else◌}
 use Rattle.serde_json.specs.Data.{Data}
 use Rattle.jupyter_msg.specs.declared.comm.CommAsk.{CommAsk}
 use Rattle.jupyter_msg.specs.declared.comm.CommAsk.TheVariants as ask
@@ -22,8 +23,11 @@ use Rattle.kernel_reply.specs.Replies.{inspect_reply}
 use Rattle.kernel_reply.specs.Execution.{error_reply, ran_reply, execute_reply}
 use Rattle.kernel_reply.specs.Comms.{is_target, asks_target, comm_close, comm_info_reply}
 use Rattle.kernel_reply.specs.Moves.{move_shown, unposted_shown}
-use Rattle.kernel_reply.specs.Answers.{status_alone, tells, tells_on_comm, is_of_cell, cell_says_with, completion_says, inspection_says, completeness_says, inputs_say, history_says, only, open_comms_say, comms_say, comm_open_says, state_says, comm_says, refusal_says_with, ask_says}
-use Rattle.kernel_reply.specs.Laws.{IsReplied, is_completion, is_inspection, is_completeness, is_inputs, is_comms, is_comms_for, is_state, is_history_for, is_end_for, is_refusal_for, is_answer_for, EndsAreReplied, RefusalsAreReplied, AnswersAreReplied}
+use Rattle.kernel_reply.specs.Answers.{status_alone, tells, tells_on_comm, is_of_cell, cell_says_with, completion_says, inspection_says, completeness_says}
+use Rattle.kernel_reply.specs.Answers.{inputs_say, history_says, only, open_comms_say, comms_say, comm_open_says, state_says, comm_says, refusal_says_with}
+use Rattle.kernel_reply.specs.Answers.{ask_says}
+use Rattle.kernel_reply.specs.Laws.{IsReplied, is_completion, is_inspection, is_completeness, is_inputs, is_comms, is_comms_for, is_state, is_history_for}
+use Rattle.kernel_reply.specs.Laws.{is_end_for, is_refusal_for, is_answer_for, EndsAreReplied, RefusalsAreReplied, AnswersAreReplied}
 
 -- the type of the reply, if there is one
 abbrev type_of : Says → Option (List ℕ)
@@ -63,7 +67,8 @@ ends_are_replied (request.CommInfo r) code done e = absurd cc
 ends_are_replied request.Interrupt code done e = absurd cc
 ends_are_replied (request.Shutdown r) code done e = absurd cc
 
-cell_refused : (r : ExecuteRequest) (code : List ℕ) (f : PostFault) (c : Content) → is_state c ≡ true → type_of (refusal_says_with (request.Execute r) code f c) ≡ Some (codes "execute_reply")
+cell_refused : (r : ExecuteRequest) (code : List ℕ) (f : PostFault) (c : Content) → is_state c ≡ true →
+    type_of (refusal_says_with (request.Execute r) code f c) ≡ Some (codes "execute_reply")
 cell_refused r code f (content.State s) e = ap Some (error_typed s.count (post_problem f))
 cell_refused r code f _ e = absurd cc
 
@@ -115,7 +120,8 @@ inputs_typed : (output : Bool) (c : Content) → is_inputs c ≡ true → type_o
 inputs_typed output (content.History inputs) e = refl
 inputs_typed output _ e = absurd cc
 
-history_typed : (access : HistoryAccess) (output : Bool) (c : Content) → is_history_for access c ≡ true → type_of (history_says access output c) ≡ Some (codes "history_reply")
+history_typed : (access : HistoryAccess) (output : Bool) (c : Content) → is_history_for access c ≡ true →
+    type_of (history_says access output c) ≡ Some (codes "history_reply")
 history_typed Range output c e = inputs_typed output c e
 history_typed Tail output c e = inputs_typed output c e
 history_typed Search output c e = refl

@@ -64,9 +64,11 @@ none_in_front : (fs us : List Frame) → fs ++ us ≡ [] → fs ≡ []
 none_in_front [] us e = refl
 none_in_front (f ∷ fs) us e = cc
 
-pub agrees_before : (k : ℕ) (t : Procedures) (b : Book) (c : Cursor) (h : StoreState) (blk : Blk) → IsWhole h → stacks_in h.slots ≡ k → IsStanding t b c h → place_of h.names t b c h.callers ≡ BeforeBlock blk [] → Agrees k t b c h
+pub agrees_before : (k : ℕ) (t : Procedures) (b : Book) (c : Cursor) (h : StoreState) (blk : Blk) → IsWhole h → stacks_in h.slots ≡ k → IsStanding t b c h →
+    place_of h.names t b c h.callers ≡ BeforeBlock blk [] → Agrees k t b c h
 agrees_before k t b c h blk whole stacks standing place =
-    let frames : frames_of (place_in h.names t b c) ++ outside_of h.names t b c h.callers ≡ [] = sym (frames_within (outside_of h.names t b c h.callers) (place_in h.names t b c)) ∙ ap frames_of place in
+    let frames : frames_of (place_in h.names t b c) ++ outside_of h.names t b c h.callers ≡ [] =
+    sym (frames_within (outside_of h.names t b c h.callers) (place_in h.names t b c)) ∙ ap frames_of place in
     let none : frames_of (place_in h.names t b c) ≡ [] = none_in_front (frames_of (place_in h.names t b c)) (outside_of h.names t b c h.callers) frames in
     let lent : stacks_lent h.callers ≡ 0 = ap stacks_lent whole.callers in
     let own : own_names h.declared h.callers ≡ h.declared = ap (own_names h.declared) whole.callers in
@@ -75,7 +77,8 @@ agrees_before k t b c h blk whole stacks standing place =
     record {
       stacks = (let e : live_stacks h ≡ k = omega arith in e) ∙ sym (ap (live k) (ap frames_of place));
       size = omega arith;
-      callers = subst (λ (cs : List Call). HaveLocals h.names t b h.declared c.direction cs h.callers) (sym (no_calls h.names t b c.direction (calls_of c) h.callers whole.callers standing.calls)) tt;
+      callers = subst (λ (cs : List Call). HaveLocals h.names t b h.declared c.direction cs h.callers)
+          (sym (no_calls h.names t b c.direction (calls_of c) h.callers whole.callers standing.calls)) tt;
     }
 
 -- ---- entering a cell
@@ -85,13 +88,15 @@ heads_defined [] ps = refl
 heads_defined (p ∷ more) ps = heads_defined more (p ∷ ps)
 
 never_broken : (entries : List Name) (cell : Cell) (w : World) → IsSound w → IsFormed cell w → AreListed entries (entered cell w).procedures →
-    NeverBroken (procedures_in entries (entered cell w).procedures) (stacks_in (entered cell w).store) (block_of entries cell.block (entered cell w)) (slots_of (entered cell w))
+    NeverBroken (procedures_in entries (entered cell w).procedures) (stacks_in (entered cell w).store) (block_of entries cell.block (entered cell w))
+    (slots_of (entered cell w))
 never_broken entries cell w sound formed listed =
     let start : World = entered cell w in
     (blocks_are_safe (procedures_in entries start.procedures) (stacks_in start.store) (block_of entries cell.block start) (slots_of start)).no_stop (λ n stop.
     well_formed_is_safe (around start) n (Block cell.block) start.store Broken (entered_formed cell w sound.formed formed.formed).procedures
     (subst (λ (hs : Heads). IsBlk hs (shape_of start.store) cell.block) (sym (heads_defined cell.procedures w.procedures))
-    (subst (λ (g : Shape). IsBlk (with_heads (heads_of w.procedures) cell.procedures) g cell.block) (sym (shape_declared cell.declarations w.store)) formed.formed.block))
+    (subst (λ (g : Shape). IsBlk (with_heads (heads_of w.procedures) cell.procedures) g cell.block) (sym (shape_declared cell.declarations w.store))
+    formed.formed.block))
     ((runs_are_the_same entries (around start) cell.block start.store n listed).stopped Broken stop))
 
 -- ---- a table of procedures' names that goes on
@@ -109,15 +114,18 @@ defined_in_slots es [] ps = refl
 defined_in_slots es (p ∷ more) ps = defined_in_slots es more (p ∷ ps)
 
 -- the bodies of a program stay where they are, and its code as it is, where as many bodies are kept
-ready_still : {L : Type 0} (old new : Runner L) (sight : List Name) (program : Program) → GoOn old.store.names new.store.names → new.entries ≡ old.entries → kept_in new.procedures ≡ kept_in old.procedures →
+ready_still : {L : Type 0} (old new : Runner L) (sight : List Name) (program : Program) → GoOn old.store.names new.store.names → new.entries ≡ old.entries →
+    kept_in new.procedures ≡ kept_in old.procedures →
     IsReady old.store.names old.entries sight old.procedures program → IsReady new.store.names new.entries sight new.procedures program
 ready_still old new sight program names entries kept h =
-    let more = ready_grows old.store.names new.store.names names old.entries new.entries (same_more old.entries new.entries entries) sight old.procedures program h in
+    let more = ready_grows old.store.names new.store.names names old.entries new.entries (same_more old.entries new.entries entries)
+    sight old.procedures program h in
     record {
       meant = more.meant;
       numbered = more.numbered;
       within = subst (λ bodies. program.first + length (procedures_of program) ≤ length bodies) (sym kept) more.within;
-      bodies = λ es onward. bodies_from_same new.store.names (kept_in old.procedures) (kept_in new.procedures) program.first (procedures_in es (procedures_of program)) kept (more.bodies es onward);
+      bodies = λ es onward. bodies_from_same new.store.names (kept_in old.procedures) (kept_in new.procedures) program.first
+          (procedures_in es (procedures_of program)) kept (more.bodies es onward);
     }
 
 -- what a cursor promises before a block, over these names
@@ -127,7 +135,8 @@ pub record IsBefore (xs : List Name) (cursor : Cursor) (book : Book) (blk : Blk)
   pub counts : (cursor.count ≡ 0) × (cursor.turned ≡ false)
 
 pub entered_here : {L : Type 0} (old new : Runner L) (program : Program) (from : ShownWorld) → CanEnter old program from →
-    Becomes old.store new.store (declare (cell_of_program program).declarations (shown_store old.store)) → kept_in new.procedures ≡ kept_in old.procedures → new.entries ≡ old.entries →
+    Becomes old.store new.store (declare (cell_of_program program).declarations (shown_store old.store)) → kept_in new.procedures ≡ kept_in old.procedures →
+    new.entries ≡ old.entries →
     AreDefined new.procedures (with_bodies program from.bodies) →
     IsBefore new.store.names new.cursor program.book (block_in new.store.names program.book Forward) → Stands new program (entry program from) false
 entered_here old new program from can becomes kept entries defined before =
@@ -137,16 +146,22 @@ entered_here old new program from can becomes kept entries defined before =
     let shows : shown_store new.store ≡ start.store = becomes.shown ∙ ap (declare cell.declarations) can.is.0.store in
     let is : IsStoreOf new.store start.store = whole_is new.store start.store becomes.whole becomes.texts shows in
     let standing = before.stands new.procedures new.store becomes.whole.callers in
-    let ready : IsReady new.store.names es (names_in start.store) new.procedures program = ready_still old new (names_in start.store) program becomes.names entries kept can.ready in
+    let ready : IsReady new.store.names es (names_in start.store) new.procedures program =
+    ready_still old new (names_in start.store) program becomes.names entries kept can.ready in
     let meant : block_in new.store.names program.book Forward ≡ block_of es cell.block start = ready.meant es (no_more es) in
-    let place : place_of new.store.names new.procedures program.book new.cursor new.store.callers ≡ BeforeBlock (block_of es cell.block start) [] = before.place new.procedures new.store.callers ∙ ap (λ (b : Blk). BeforeBlock b []) meant in
+    let place : place_of new.store.names new.procedures program.book new.cursor new.store.callers ≡ BeforeBlock (block_of es cell.block start) [] =
+    before.place new.procedures new.store.callers ∙ ap (λ (b : Blk). BeforeBlock b []) meant in
     let stacks : stacks_in new.store.slots ≡ stacks_in start.store = ap stacks_in is.slots ∙ stacks_same start.store in
-    let listed : AreListed es start.procedures = subst (λ (es : List Name). AreListed es start.procedures) (sym entries) (listed_more old.entries cell.procedures from.world.procedures can.named can.is.0.listed) in
+    let listed : AreListed es start.procedures =
+    subst (λ (es : List Name). AreListed es start.procedures) (sym entries)
+    (listed_more old.entries cell.procedures from.world.procedures can.named can.is.0.listed) in
     let grown : Define new.store.names old.procedures from.bodies (procedures_in es from.world.procedures) =
     subst (λ (es : List Name). Define new.store.names old.procedures from.bodies (procedures_in es from.world.procedures)) (sym entries)
-    (defined_grow old.store.names new.store.names becomes.names old.procedures from.bodies (procedures_in old.entries from.world.procedures) can.is.0.defined) in
+    (defined_grow old.store.names new.store.names becomes.names old.procedures from.bodies (procedures_in old.entries from.world.procedures)
+    can.is.0.defined) in
     let bodies : AreBodiesFrom new.store.names (kept_in old.procedures) program.first (procedures_in es (procedures_of program)) =
-    (ready_grows old.store.names new.store.names becomes.names old.entries es (same_more old.entries es entries) (names_in start.store) old.procedures program can.ready).bodies es (no_more es) in
+    (ready_grows old.store.names new.store.names becomes.names old.entries es (same_more old.entries es entries) (names_in start.store)
+    old.procedures program can.ready).bodies es (no_more es) in
     let as_many : length (procedures_in es (procedures_of program)) ≡ length (procedures_of program) = length-map (procedures_of program) (procedure_in es) in
     record {
       cell = refl;
@@ -157,13 +172,16 @@ entered_here old new program from can becomes kept entries defined before =
       standing = standing;
       declared = becomes.whole.declared ∙ ap size_of is.slots ∙ size_same start.store;
       texts = is.texts;
-      agrees = agrees_before (stacks_in start.store) new.procedures program.book new.cursor new.store (block_of es cell.block start) becomes.whole stacks standing place;
+      agrees = agrees_before (stacks_in start.store) new.procedures program.book new.cursor new.store (block_of es cell.block start)
+          becomes.whole stacks standing place;
       ready = ready;
       slots = becomes.slots;
       listed = listed;
       defined = subst (λ (n : ℕ). Define new.store.names new.procedures (onto program.first n from.bodies) (procedures_in es start.procedures)) as_many
-          (subst (λ (ps : List Proc). Define new.store.names new.procedures (onto program.first (length (procedures_in es (procedures_of program))) from.bodies) ps) (sym (defined_in_slots es cell.procedures from.world.procedures))
-          (all_defined new.store.names old.procedures new.procedures program.first (procedures_in es (procedures_of program)) from.bodies (procedures_in es from.world.procedures) kept grown bodies
+          (subst (λ (ps : List Proc). Define new.store.names new.procedures (onto program.first (length (procedures_in es (procedures_of program))) from.bodies)
+          ps) (sym (defined_in_slots es cell.procedures from.world.procedures))
+          (all_defined new.store.names old.procedures new.procedures program.first (procedures_in es (procedures_of program)) from.bodies
+          (procedures_in es from.world.procedures) kept grown bodies
           (subst (λ (n : ℕ). AreDefined new.procedures (onto program.first n from.bodies)) (sym as_many) defined)));
       faces = (
         ap (λ (r : Store). To (BeforeBlock (block_of es cell.block start) []) r) (sym is.slots) ∙ ap (λ (p : Place). To p new.store.slots) (sym place),
@@ -173,7 +191,8 @@ entered_here old new program from can becomes kept entries defined before =
 
 -- ---- and its inverse
 
-pub entered_inverse_here : {L : Type 0} (old new : Runner L) (program : Program) (from : ShownWorld) → CanReturn old program from → new.store ≡ old.store → new.procedures ≡ old.procedures → new.entries ≡ old.entries →
+pub entered_inverse_here : {L : Type 0} (old new : Runner L) (program : Program) (from : ShownWorld) → CanReturn old program from → new.store ≡ old.store →
+    new.procedures ≡ old.procedures → new.entries ≡ old.entries →
     IsBefore new.store.names new.cursor program.book (block_in new.store.names program.book Inverse) → Stands new program (inverse_entry program from) false
 unfolding CodeExec
 entered_inverse_here old new program from can store procedures entries before =
@@ -181,19 +200,23 @@ entered_inverse_here old new program from can store procedures entries before =
     let es : List Name = new.entries in
     let start : World = from.world in
     let inverse : Blk = inverse_block cell.block in
-    let back = worlds_reverse (entered cell can.before) cell.block can.steps start (entered_is_good cell can.before (sound_good can.before can.sound)) can.ran in
+    let back = worlds_reverse (entered cell can.before) cell.block can.steps start (entered_is_good cell can.before (sound_good can.before can.sound))
+    can.ran in
     let listed : AreListed es start.procedures = subst (λ (es : List Name). AreListed es start.procedures) (sym entries) can.is.0.listed in
     let never : NeverBroken (procedures_in es start.procedures) (stacks_in start.store) (block_of es inverse start) (slots_of start) =
     (blocks_are_safe (procedures_in es start.procedures) (stacks_in start.store) (block_of es inverse start) (slots_of start)).ended can.steps _
     ((runs_are_the_same es (around start) inverse start.store can.steps listed).ends _ back.back.ran) in
     let now : IsWhole new.store = subst (λ (h : StoreState). IsWhole h) (sym store) can.is.1 in
-    let is : IsStoreOf new.store start.store = subst (λ (h : StoreState). IsStoreOf h start.store) (sym store) (whole_is old.store start.store can.is.1 can.is.0.texts can.is.0.store) in
+    let is : IsStoreOf new.store start.store =
+    subst (λ (h : StoreState). IsStoreOf h start.store) (sym store) (whole_is old.store start.store can.is.1 can.is.0.texts can.is.0.store) in
     let standing = before.stands new.procedures new.store now.callers in
     let ready : IsReady new.store.names es (names_in start.store) new.procedures program =
-    ready_still old new (names_in start.store) program (same_more old.store.names new.store.names (ap (λ (h : StoreState). h.names) store)) entries (ap kept_in procedures) can.ready in
+    ready_still old new (names_in start.store) program (same_more old.store.names new.store.names (ap (λ (h : StoreState). h.names) store)) entries
+    (ap kept_in procedures) can.ready in
     let turned : block_in new.store.names program.book Inverse ≡ block_of es inverse start =
     books_turn new.store.names program.book ∙ ap inverse_block (ready.meant es (no_more es)) ∙ slots_stay.inverse es (names_in start.store) cell.block in
-    let place : place_of new.store.names new.procedures program.book new.cursor new.store.callers ≡ BeforeBlock (block_of es inverse start) [] = before.place new.procedures new.store.callers ∙ ap (λ (b : Blk). BeforeBlock b []) turned in
+    let place : place_of new.store.names new.procedures program.book new.cursor new.store.callers ≡ BeforeBlock (block_of es inverse start) [] =
+    before.place new.procedures new.store.callers ∙ ap (λ (b : Blk). BeforeBlock b []) turned in
     let stacks : stacks_in new.store.slots ≡ stacks_in start.store = ap stacks_in is.slots ∙ stacks_same start.store in
     record {
       cell = refl;
@@ -211,7 +234,10 @@ entered_inverse_here old new program from can store procedures entries before =
       defined = subst (λ (h : StoreState). Define h.names new.procedures from.bodies (procedures_in es start.procedures)) (sym store)
           (subst (λ (t : Procedures). Define old.store.names t from.bodies (procedures_in es start.procedures)) (sym procedures)
           (subst (λ (es : List Name). Define old.store.names old.procedures from.bodies (procedures_in es start.procedures)) (sym entries) can.is.0.defined));
-      faces = (ap (λ (r : Store). To (BeforeBlock (block_of es inverse start) []) r) (sym is.slots) ∙ ap (λ (p : Place). To p new.store.slots) (sym place), never);
+      faces = (
+        ap (λ (r : Store). To (BeforeBlock (block_of es inverse start) []) r) (sym is.slots) ∙ ap (λ (p : Place). To p new.store.slots) (sym place),
+        never,
+      );
     }
 
 -- ---- leaving a cell
@@ -222,17 +248,23 @@ left_here old new program to can becomes kept entries defined =
     let cell = cell_of_program program in
     let es : List Name = old.entries in
     let as_many : length (procedures_in es (procedures_of program)) ≡ length (procedures_of program) = length-map (procedures_of program) (procedure_in es) in
-    let before : Define new.store.names old.procedures (onto program.first (length (procedures_in es (procedures_of program))) to.bodies) (define (procedures_in es cell.procedures) (procedures_in es to.world.procedures)) =
-    subst (λ (n : ℕ). Define new.store.names old.procedures (onto program.first n to.bodies) (define (procedures_in es cell.procedures) (procedures_in es to.world.procedures))) (sym as_many)
-    (subst (λ (ps : List Proc). Define new.store.names old.procedures (with_bodies program to.bodies) ps) (defined_in_slots es cell.procedures to.world.procedures)
-    (defined_grow old.store.names new.store.names becomes.names old.procedures (with_bodies program to.bodies) (procedures_in es (entered cell to.world).procedures) can.is.0.defined)) in (
+    let before : Define new.store.names old.procedures (onto program.first (length (procedures_in es (procedures_of program))) to.bodies)
+    (define (procedures_in es cell.procedures) (procedures_in es to.world.procedures)) =
+    subst (λ (n : ℕ). Define new.store.names old.procedures (onto program.first n to.bodies)
+    (define (procedures_in es cell.procedures) (procedures_in es to.world.procedures))) (sym as_many)
+    (subst (λ (ps : List Proc). Define new.store.names old.procedures (with_bodies program to.bodies) ps)
+    (defined_in_slots es cell.procedures to.world.procedures)
+    (defined_grow old.store.names new.store.names becomes.names old.procedures (with_bodies program to.bodies)
+    (procedures_in es (entered cell to.world).procedures) can.is.0.defined)) in (
       record {
         store = becomes.shown;
         texts = becomes.texts;
         slots = becomes.slots;
-        listed = subst (λ (es : List Name). AreListed es to.world.procedures) (sym entries) (listed_less es cell.procedures to.world.procedures can.is.0.listed);
+        listed = subst (λ (es : List Name). AreListed es to.world.procedures) (sym entries)
+            (listed_less es cell.procedures to.world.procedures can.is.0.listed);
         defined = subst (λ (es : List Name). Define new.store.names new.procedures to.bodies (procedures_in es to.world.procedures)) (sym entries)
-            (all_retired new.store.names old.procedures new.procedures program.first (procedures_in es (procedures_of program)) to.bodies (procedures_in es to.world.procedures) kept before defined);
+            (all_retired new.store.names old.procedures new.procedures program.first (procedures_in es (procedures_of program)) to.bodies
+            (procedures_in es to.world.procedures) kept before defined);
       },
       becomes.whole,
     )

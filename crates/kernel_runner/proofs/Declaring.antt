@@ -1,5 +1,6 @@
 -- Names that are declared one after another, and retired again.
-use Rattle.std.proofs.Common.{get_or, ◌≡◌, ℕ, pos, ◌+◌, ◌-◌, ◌<◌, ◌≤◌, inl, inr, List, [], ◌∷◌, length, map, take, zero, suc, Bool, true, false, Some, None, refl, ap, sym, ◌∙◌, subst, arith}
+use Rattle.std.proofs.Common.{get_or, ◌≡◌, ℕ, pos, ◌+◌, ◌-◌, ◌<◌, ◌≤◌, inl, inr, List, [], ◌∷◌, length, map, take, zero, suc, Bool, true, false, Some, None}
+use Rattle.std.proofs.Common.{refl, ap, sym, ◌∙◌, subst, arith}
 use Rattle.std.proofs.lemmas.Bool.{cases_lt}
 use Rattle.std.proofs.lemmas.Option.{same_Some}
 use Rattle.janus_meaning.specs.Fault.{Res, Bad, Broken}
@@ -70,7 +71,8 @@ first_in_slots s h = subst (λ (t : Store). IsFirstOnTop (in_slots t)) (sym h.3)
 some_is_none : {P : Type 0} (k : Kind) → Some k ≡ None → P
 some_is_none k h = cc
 
-absent_at : (b : Bool) (x y : Name) (v : Val) (g : Shape) (r : Res Val) → same_name x y ≡ b → kind_at x (with_slot y (kind_of v) g) ≡ None → (kind_at x g ≡ None → r ≡ Bad Broken) → look_at b v r ≡ Bad Broken
+absent_at : (b : Bool) (x y : Name) (v : Val) (g : Shape) (r : Res Val) → same_name x y ≡ b → kind_at x (with_slot y (kind_of v) g) ≡ None →
+    (kind_at x g ≡ None → r ≡ Bad Broken) → look_at b v r ≡ Bad Broken
 absent_at true x y (Num n) g r s e f = some_is_none ANumber (sym (ap (λ b. pick_newest b ANumber (kind_at x g)) s) ∙ e)
 absent_at true x y (Arr l) g r s e f = some_is_none AnArray (sym (ap (λ b. pick_newest b AnArray (kind_at x g)) s) ∙ e)
 absent_at true x y (Stk l) g r s e f = some_is_none AStack (sym (ap (λ b. pick_newest b AStack (kind_at x g)) s) ∙ e)
@@ -91,13 +93,15 @@ declared_shape (DeclareArray x n) s = refl
 declared_shape (DeclareStack x) s = refl
 
 -- each of the names is new behind those before it
-pub new_at : (ds : List Declaration) (s : Store) (i : ℕ) (d : Declaration) → AreNew (shape_of s) ds → i < length ds → look (declared_name (get_or ds i d)) (declare (take i ds) s) ≡ Bad Broken
+pub new_at : (ds : List Declaration) (s : Store) (i : ℕ) (d : Declaration) → AreNew (shape_of s) ds → i < length ds →
+    look (declared_name (get_or ds i d)) (declare (take i ds) s) ≡ Bad Broken
 new_at [] s i d new l = absurd (omega arith)
 new_at (e ∷ ds) s zero d new l = absent_look (declared_name e) s new.0.name
 new_at (e ∷ ds) s (suc i) d new l = new_at ds (declare_one e s) i d (subst (λ g. AreNew g ds) (sym (declared_shape e s)) new.1) (omega arith)
 
 -- one name more
-pub declared_more : (ds : List Declaration) (s : Store) (i : ℕ) (d : Declaration) → i < length ds → declare (take (suc i) ds) s ≡ declare_one (get_or ds i d) (declare (take i ds) s)
+pub declared_more : (ds : List Declaration) (s : Store) (i : ℕ) (d : Declaration) → i < length ds →
+    declare (take (suc i) ds) s ≡ declare_one (get_or ds i d) (declare (take i ds) s)
 declared_more [] s i d l = absurd (omega arith)
 declared_more (e ∷ ds) s zero d l = refl
 declared_more (e ∷ ds) s (suc i) d l = declared_more ds (declare_one e s) i d (omega arith)
@@ -161,10 +165,12 @@ room_by (DeclareArray x n) s h r = tt
 room_by (DeclareStack x) s h r = subst (λ n. n < live_stack_limit) (stacks_counted s h) r
 
 -- there is room for each of the stacks behind those before it
-pub room_at : (ds : List Declaration) (s : Store) (i : ℕ) (d : Declaration) → LendNothing s → AreNew (shape_of s) ds → i < length ds → HasStackRoom (get_or ds i d) (declare (take i ds) s)
+pub room_at : (ds : List Declaration) (s : Store) (i : ℕ) (d : Declaration) → LendNothing s → AreNew (shape_of s) ds → i < length ds →
+    HasStackRoom (get_or ds i d) (declare (take i ds) s)
 room_at [] s i d h new l = absurd (omega arith)
 room_at (e ∷ ds) s zero d h new l = room_by e s h new.0.extent
-room_at (e ∷ ds) s (suc i) d h new l = room_at ds (declare_one e s) i d (declared_lend_nothing (e ∷ []) s h) (subst (λ g. AreNew g ds) (sym (declared_shape e s)) new.1) (omega arith)
+room_at (e ∷ ds) s (suc i) d h new l =
+    room_at ds (declare_one e s) i d (declared_lend_nothing (e ∷ []) s h) (subst (λ g. AreNew g ds) (sym (declared_shape e s)) new.1) (omega arith)
 
 pub room_in_slots : (d : Declaration) (s : Store) → HasStackRoom d s → HasStackRoom d (in_slots s)
 room_in_slots (DeclareInt x) s h = tt
@@ -190,11 +196,13 @@ true_is_false : {P : Type 0} → true ≡ false → P
 true_is_false e = cc
 
 -- the newest name is another one, where the name is out of sight
-other_newest : (x y : Name) (k : Kind) (g : Shape) (b : Bool) → same_name x y ≡ b → kind_at x ((y, k) ∷ g) ≡ None → (same_name x y ≡ false) × (kind_at x g ≡ None)
+other_newest : (x y : Name) (k : Kind) (g : Shape) (b : Bool) → same_name x y ≡ b → kind_at x ((y, k) ∷ g) ≡ None → (same_name x y ≡ false) ×
+    (kind_at x g ≡ None)
 other_newest x y k g true e none = some_is_none k (sym (ap (λ b. pick_newest b k (kind_at x g)) e) ∙ none)
 other_newest x y k g false e none = (e, sym (ap (λ b. pick_newest b k (kind_at x g)) e) ∙ none)
 
-unmet_newest : (x y : Name) (k : Kind) (s : Store) → kind_at x ((y, k) ∷ shape_of s) ≡ None → (kind_at x (shape_of s) ≡ None → IsUnmet (names_in s) x) → IsUnmet (y ∷ names_in s) x
+unmet_newest : (x y : Name) (k : Kind) (s : Store) → kind_at x ((y, k) ∷ shape_of s) ≡ None → (kind_at x (shape_of s) ≡ None → IsUnmet (names_in s) x) →
+    IsUnmet (y ∷ names_in s) x
 unmet_newest x y k s none rest zero at =
     let other = other_newest x y k (shape_of s) (same_name x y) refl none in
     true_is_false (sym (same_name_self x) ∙ ap (same_name x) (sym (same_Some y x at)) ∙ other.0)
@@ -213,10 +221,12 @@ out_of_sight x (Slot y (Stk l) s) h e = unmet_newest x y AStack s e (out_of_sigh
 out_of_sight x (Slot y Lent s) h e = absurd h
 
 -- each of the names is new behind those before it
-pub unmet_at : (ds : List Declaration) (s : Store) (i : ℕ) (d : Declaration) → LendNothing s → AreNew (shape_of s) ds → i < length ds → IsUnmet (names_in (declare (take i ds) s)) (declared_name (get_or ds i d))
+pub unmet_at : (ds : List Declaration) (s : Store) (i : ℕ) (d : Declaration) → LendNothing s → AreNew (shape_of s) ds → i < length ds →
+    IsUnmet (names_in (declare (take i ds) s)) (declared_name (get_or ds i d))
 unmet_at [] s i d h new l = absurd (omega arith)
 unmet_at (e ∷ ds) s zero d h new l = out_of_sight (declared_name e) s h new.0.name
-unmet_at (e ∷ ds) s (suc i) d h new l = unmet_at ds (declare_one e s) i d (declared_lend_nothing (e ∷ []) s h) (subst (λ g. AreNew g ds) (sym (declared_shape e s)) new.1) (omega arith)
+unmet_at (e ∷ ds) s (suc i) d h new l =
+    unmet_at ds (declare_one e s) i d (declared_lend_nothing (e ∷ []) s h) (subst (λ g. AreNew g ds) (sym (declared_shape e s)) new.1) (omega arith)
 
 -- ---- what a store becomes
 
@@ -225,10 +235,12 @@ pub becomes_itself : (h : StoreState) → IsWhole h → length h.texts ≡ h.dec
 becomes_itself h whole many slots = record { shown = refl; texts = many; whole = whole; names = no_more h.names; slots = slots }
 
 pub becomes_then : (a b c : StoreState) (s t : Store) → Becomes a b s → Becomes b c t → Becomes a c t
-becomes_then a b c s t h k = record { shown = k.shown; texts = k.texts; whole = k.whole; names = more_yet a.names b.names c.names h.names k.names; slots = k.slots }
+becomes_then a b c s t h k =
+    record { shown = k.shown; texts = k.texts; whole = k.whole; names = more_yet a.names b.names c.names h.names k.names; slots = k.slots }
 
 -- one name more is declared
-pub becomes_declared : (old new : StoreState) (x : Name) (v : Val) → IsWhole old → length old.texts ≡ old.declared → AreSlots new.names → Declares old new x v → Becomes old new (Slot x v (shown_store old))
+pub becomes_declared : (old new : StoreState) (x : Name) (v : Val) → IsWhole old → length old.texts ≡ old.declared → AreSlots new.names → Declares old new x v →
+    Becomes old new (Slot x v (shown_store old))
 becomes_declared old new x v whole many slots h =
     let depth : length (names_in old.slots) ≡ old.declared = names_size old.slots ∙ sym whole.declared in
     let now : IsWhole new = record {
@@ -240,14 +252,16 @@ becomes_declared old new x v whole many slots h =
       shown = ap (under_names (reverse new.texts)) (whole_in_sight new now ∙ h.slots)
           ∙ ap (λ (g : List Name). under_names g (Slot (slot old.declared) v old.slots)) (ap reverse h.texts ∙ reverse-append old.texts (x ∷ []))
           ∙ ap (λ (s : Store). Slot x v (under_names (reverse old.texts) s)) (sym (whole_in_sight old whole));
-      texts = ap length h.texts ∙ length-append old.texts (x ∷ []) ∙ (let e : length old.texts + 1 ≡ suc (length old.texts) = omega arith in e) ∙ ap suc many ∙ sym h.declared;
+      texts = ap length h.texts ∙ length-append old.texts (x ∷ []) ∙ (let e : length old.texts + 1 ≡ suc (length old.texts) = omega arith in e) ∙ ap suc many
+          ∙ sym h.declared;
       whole = now;
       names = h.names;
       slots = slots;
     }
 
 -- what is declared stays
-pub becomes_kept : (old new : StoreState) → IsWhole old → length old.texts ≡ old.declared → AreSlots new.names → KeepsSight old new → Becomes old new (shown_store old)
+pub becomes_kept : (old new : StoreState) → IsWhole old → length old.texts ≡ old.declared → AreSlots new.names → KeepsSight old new →
+    Becomes old new (shown_store old)
 becomes_kept old new whole many slots h =
     let now : IsWhole new = record {
       declared = h.declared ∙ whole.declared ∙ sym (ap size_of h.slots);
@@ -255,7 +269,8 @@ becomes_kept old new whole many slots h =
       slots = ap in_slots h.slots ∙ whole.slots ∙ sym h.slots;
     } in
     record {
-      shown = ap (under_names (reverse new.texts)) (whole_in_sight new now ∙ h.slots ∙ sym (whole_in_sight old whole)) ∙ ap (λ (g : List Name). under_names (reverse g) (declared_store old)) h.texts;
+      shown = ap (under_names (reverse new.texts)) (whole_in_sight new now ∙ h.slots ∙ sym (whole_in_sight old whole))
+          ∙ ap (λ (g : List Name). under_names (reverse g) (declared_store old)) h.texts;
       texts = ap length h.texts ∙ many ∙ sym h.declared;
       whole = now;
       names = h.names;
@@ -287,19 +302,29 @@ last_taken : (ys : List Name) → reverse (take (length (reverse ys) - 1) (rever
 last_taken [] = refl
 last_taken (y ∷ ys) =
     let all : reverse (y ∷ ys) ≡ reverse ys ++ y ∷ [] = reverse-append (y ∷ []) ys in
-    let less : length (reverse (y ∷ ys)) - 1 ≡ length (reverse ys) = ap (λ (l : List Name). length l - 1) all ∙ ap (λ (n : ℕ). n - 1) (length-append (reverse ys) (y ∷ [])) ∙ (omega arith) in
-    ap (λ (n : ℕ). reverse (take n (reverse (y ∷ ys)))) less ∙ ap (λ (l : List Name). reverse (take (length (reverse ys)) l)) all ∙ ap reverse (take_at (reverse ys) (y ∷ []) (length (reverse ys)) refl) ∙ reverse-reverse ys
+    let less : length (reverse (y ∷ ys)) - 1 ≡ length (reverse ys) = ap (λ (l : List Name). length l - 1) all
+    ∙ ap (λ (n : ℕ). n - 1) (length-append (reverse ys) (y ∷ [])) ∙ (omega arith) in
+    ap (λ (n : ℕ). reverse (take n (reverse (y ∷ ys)))) less ∙ ap (λ (l : List Name). reverse (take (length (reverse ys)) l)) all
+    ∙ ap reverse (take_at (reverse ys) (y ∷ []) (length (reverse ys)) refl) ∙ reverse-reverse ys
 
 -- the newest name is taken away
 pub becomes_rest : (old new : StoreState) → IsWhole old → length old.texts ≡ old.declared → AreSlots old.names →
     new ≡ state_of (rest_of old.slots) (old.declared - 1) (take (old.declared - 1) old.texts) old.names [] → Becomes old new (rest_of (shown_store old))
 becomes_rest old new whole many slots e =
     let rest : StoreState = state_of (rest_of old.slots) (old.declared - 1) (take (old.declared - 1) old.texts) old.names [] in
-    let now : IsWhole rest = record { declared = ap (λ (n : ℕ). n - 1) whole.declared ∙ sym (rest_size old.slots); callers = refl; slots = rest_slots old.slots ∙ ap rest_of whole.slots } in
+    let now : IsWhole rest =
+    record {
+      declared = ap (λ (n : ℕ). n - 1) whole.declared ∙ sym (rest_size old.slots);
+      callers = refl;
+      slots = rest_slots old.slots
+          ∙ ap rest_of whole.slots;
+    } in
     let texts : reverse (take (old.declared - 1) old.texts) ≡ rest_names (reverse old.texts) =
-    ap (λ (n : ℕ). reverse (take (n - 1) old.texts)) (sym many) ∙ subst (λ (l : List Name). reverse (take (length l - 1) l) ≡ rest_names (reverse old.texts)) (reverse-reverse old.texts) (last_taken (reverse old.texts)) in
+    ap (λ (n : ℕ). reverse (take (n - 1) old.texts)) (sym many) ∙ subst (λ (l : List Name). reverse (take (length l - 1) l) ≡ rest_names (reverse old.texts))
+    (reverse-reverse old.texts) (last_taken (reverse old.texts)) in
     subst (λ (h : StoreState). Becomes old h (rest_of (shown_store old))) (sym e) (record {
-      shown = ap (under_names (reverse rest.texts)) (whole_in_sight rest now) ∙ ap (λ (g : List Name). under_names g (rest_of old.slots)) texts ∙ rest_under (reverse old.texts) old.slots
+      shown = ap (under_names (reverse rest.texts)) (whole_in_sight rest now) ∙ ap (λ (g : List Name). under_names g (rest_of old.slots)) texts
+          ∙ rest_under (reverse old.texts) old.slots
           ∙ ap (λ (s : Store). rest_of (under_names (reverse old.texts) s)) (sym (whole_in_sight old whole));
       texts = length-take-le (old.declared - 1) old.texts (omega (arith, many));
       whole = now;

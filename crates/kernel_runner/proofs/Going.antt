@@ -41,14 +41,17 @@ module _ {L : Type 0} (runner : Runner L) (program : Program) (at : Place) where
   in_effect back h = defined_in_effect runner.store.names runner.procedures at.bodies start_procedures (slots_once runner.store.names h.slots) h.defined
 
   -- the laws of the machine, at a runner
-  pub run_means : Stands runner program at false → RunMeans start_procedures (stacks_in (start_at at).store) start_block (slots_of (start_at at)) at.count runner.procedures program.book runner.cursor runner.store
+  pub run_means : Stands runner program at false → RunMeans start_procedures (stacks_in (start_at at).store) start_block (slots_of (start_at at))
+      at.count runner.procedures program.book runner.cursor runner.store
   run_means h = runs_mean _ _ _ _ _ _ _ _ _ h.standing h.faces.0
 
-  pub back_means : Stands runner program at true → BackMeans start_procedures (stacks_in (start_at at).store) start_block (slots_of (start_at at)) at.count runner.procedures program.book runner.cursor runner.store
+  pub back_means : Stands runner program at true → BackMeans start_procedures (stacks_in (start_at at).store) start_block (slots_of (start_at at))
+      at.count runner.procedures program.book runner.cursor runner.store
   back_means h = backs_mean _ _ _ _ _ _ _ _ _ (good_slots runner.entries (start_at at) h.good) h.standing h.faces
 
   -- that slots run as names do
-  pub the_same : (back : Bool) (n : ℕ) → Stands runner program at back → RunsTheSame runner.entries (around (start_at at)) (run_block at.code) (start_at at).store n
+  pub the_same : (back : Bool) (n : ℕ) → Stands runner program at back → RunsTheSame runner.entries (around (start_at at)) (run_block at.code)
+      (start_at at).store n
   the_same back n h = runs_are_the_same runner.entries (around (start_at at)) (run_block at.code) (start_at at).store n h.listed
 
   pub safe_on : (m : ℕ) → Stands runner program at false → IsSafeAhead runner.procedures program.book m runner.cursor runner.store
@@ -58,7 +61,8 @@ module _ {L : Type 0} (runner : Runner L) (program : Program) (at : Place) where
   safe_back m h = (back_means h).safe m (in_effect true h) h.agrees
 
   pub stops_at : (f : machine.Fault) → Stands runner program at false → at.count < step_limit →
-      next_of start_procedures (stacks_in (start_at at).store) runner.procedures program.book runner.cursor runner.store ≡ Halt (fault_of f) → CodeStop at.code at.world at.count (fault_of f)
+      next_of start_procedures (stacks_in (start_at at).store) runner.procedures program.book runner.cursor runner.store ≡ Halt (fault_of f) →
+      CodeStop at.code at.world at.count (fault_of f)
   unfolding CodeStop
   stops_at f h early halts = inl (early, (the_same false at.count h).stopped (fault_of f) ((run_means h).stop (fault_of f) halts))
 
@@ -75,7 +79,8 @@ module _ {L : Type 0} (runner : Runner L) (program : Program) (at : Place) where
     abbrev pub TakesSteps : ℕ → Type 0
     TakesSteps m =
         (ps : List Proc) (k : ℕ) → AreInEffect runner.store.names runner.procedures ps → Agrees k runner.procedures program.book runner.cursor runner.store
-        → NoneBroken ps k runner.procedures program.book m runner.cursor runner.store → AreSteps ps k t runner.procedures program.book runner.cursor runner.store cursor store
+        → NoneBroken ps k runner.procedures program.book m runner.cursor runner.store →
+        AreSteps ps k t runner.procedures program.book runner.cursor runner.store cursor store
 
     abbrev pub KeepsAgreement : Type 0
     KeepsAgreement = (k : ℕ) → Agrees k runner.procedures program.book runner.cursor runner.store → Agrees k runner.procedures program.book cursor store
@@ -83,7 +88,8 @@ module _ {L : Type 0} (runner : Runner L) (program : Program) (at : Place) where
     abbrev pub gone : Runner L
     gone = record { store = store; cursor = cursor; procedures = runner.procedures; entries = runner.entries }
 
-    pub gone_on : (m : ℕ) → Stands runner program at false → IsStanding runner.procedures program.book cursor store → KeepsMet runner.store store → KeepsAgreement → Counts t runner.cursor cursor → TakesSteps m
+    pub gone_on : (m : ℕ) → Stands runner program at false → IsStanding runner.procedures program.book cursor store → KeepsMet runner.store store →
+        KeepsAgreement → Counts t runner.cursor cursor → TakesSteps m
         → Stands gone program (at_count (at.count + t) at) false
     gone_on m h standing names agrees counts steps =
         let now : cursor.count ≡ at.count + t = counts.count ∙ ap (λ (b : Bool). counted b runner.cursor.count t) h.turned ∙ ap (λ (n : ℕ). n + t) h.counted in
@@ -101,14 +107,17 @@ module _ {L : Type 0} (runner : Runner L) (program : Program) (at : Place) where
           ready = subst (λ (xs : List Name). IsReady xs runner.entries (names_in (start_at at).store) runner.procedures program) (sym names.names) h.ready;
           slots = subst (λ (xs : List Name). AreSlots xs) (sym names.names) h.slots;
           listed = h.listed;
-          defined = subst (λ (xs : List Name). Define xs runner.procedures at.bodies (procedures_in runner.entries (start_at at).procedures)) (sym names.names) h.defined;
+          defined = subst (λ (xs : List Name). Define xs runner.procedures at.bodies (procedures_in runner.entries (start_at at).procedures)) (sym names.names)
+              h.defined;
           faces = (
-            (run_means runner program at h).more t cursor store (steps _ _ (in_effect runner program at false h) h.agrees ((run_means runner program at h).unbroken m h.faces.1)),
+            (run_means runner program at h).more t cursor store
+                (steps _ _ (in_effect runner program at false h) h.agrees ((run_means runner program at h).unbroken m h.faces.1)),
             h.faces.1,
           );
         }
 
-    pub gone_back : (m : ℕ) → Stands runner program at true → IsStanding runner.procedures program.book cursor store → KeepsMet runner.store store → KeepsAgreement → Counts t runner.cursor cursor → TakesSteps m
+    pub gone_back : (m : ℕ) → Stands runner program at true → IsStanding runner.procedures program.book cursor store → KeepsMet runner.store store →
+        KeepsAgreement → Counts t runner.cursor cursor → TakesSteps m
         → Stands gone program (at_count (at.count - t) at) true × (t ≤ at.count)
     gone_back m h standing names agrees counts steps =
         let means = back_means runner program at h in
@@ -128,21 +137,25 @@ module _ {L : Type 0} (runner : Runner L) (program : Program) (at : Place) where
             ready = subst (λ (xs : List Name). IsReady xs runner.entries (names_in (start_at at).store) runner.procedures program) (sym names.names) h.ready;
             slots = subst (λ (xs : List Name). AreSlots xs) (sym names.names) h.slots;
             listed = h.listed;
-            defined = subst (λ (xs : List Name). Define xs runner.procedures at.bodies (procedures_in runner.entries (start_at at).procedures)) (sym names.names) h.defined;
+            defined = subst (λ (xs : List Name). Define xs runner.procedures at.bodies (procedures_in runner.entries (start_at at).procedures))
+                (sym names.names) h.defined;
             faces = means.back t cursor store within taken;
           },
           within,
         )
 
     -- a slice back, by why it ends
-    pub back_cut : (m : ℕ) (e : ends.End) → Stands runner program at true → IsStanding runner.procedures program.book cursor store → KeepsMet runner.store store → KeepsAgreement → t ≤ m → Counts t runner.cursor cursor → TakesSteps m →
-        ((ps : List Proc) (k : ℕ) → AreInEffect runner.store.names runner.procedures ps → Agrees k runner.procedures program.book runner.cursor runner.store → SliceEndsBy ps k m t runner.procedures program.book cursor store e) → Stands gone program (at_count (at.count - m) at) true
+    pub back_cut : (m : ℕ) (e : ends.End) → Stands runner program at true → IsStanding runner.procedures program.book cursor store →
+        KeepsMet runner.store store → KeepsAgreement → t ≤ m → Counts t runner.cursor cursor → TakesSteps m →
+        ((ps : List Proc) (k : ℕ) → AreInEffect runner.store.names runner.procedures ps → Agrees k runner.procedures program.book runner.cursor runner.store →
+        SliceEndsBy ps k m t runner.procedures program.book cursor store e) → Stands gone program (at_count (at.count - m) at) true
     back_cut m end.Cut h standing names agrees low counts steps why =
         let s = gone_back m h standing names agrees counts steps in
         subst (λ (x : ℕ). Stands gone program (at_count (at.count - x) at) true) (why _ _ (in_effect runner program at true h) h.agrees).0 s.0
     back_cut m end.Ended h standing names agrees low counts steps why =
         let s = gone_back m h standing names agrees counts steps in
-        let start : at.count - t ≡ 0 = (back_means gone program (at_count (at.count - t) at) s.0).begun.0 (why _ _ (in_effect runner program at true h) h.agrees) in
+        let start : at.count - t ≡ 0 =
+        (back_means gone program (at_count (at.count - t) at) s.0).begun.0 (why _ _ (in_effect runner program at true h) h.agrees) in
         let e : at.count - t ≡ at.count - m = omega arith in
         subst (λ (x : ℕ). Stands gone program (at_count x at) true) e s.0
     back_cut m (end.Fault f) h standing names agrees low counts steps why =

@@ -28,10 +28,12 @@ module _ (xs ys : List Name) (g : GoOn xs ys) where
   pub defined_grow : (t : Procedures) (stack : List ℕ) (ps : List Proc) → Define xs t stack ps → Define ys t stack ps
   defined_grow t stack ps h = define_still xs ys g t stack ps h
 
-  pub ready_grows : (es fs : List Name) → GoOn es fs → (sight : List Name) (t : Procedures) (program : Program) → IsReady xs es sight t program → IsReady ys fs sight t program
+  pub ready_grows : (es fs : List Name) → GoOn es fs → (sight : List Name) (t : Procedures) (program : Program) → IsReady xs es sight t program →
+      IsReady ys fs sight t program
   ready_grows es fs onward sight t program h = record {
     meant = λ more yet. block_goes_on xs ys g program.book Forward h.numbered ∙ h.meant more (more_yet es fs more onward yet);
     numbered = book_goes_on xs ys g program.book h.numbered;
     within = h.within;
-    bodies = λ more yet. bodies_from_still xs ys g (kept_in t) program.first (procedures_in more (procedures_of program)) (h.bodies more (more_yet es fs more onward yet));
+    bodies = λ more yet. bodies_from_still xs ys g (kept_in t) program.first (procedures_in more (procedures_of program))
+        (h.bodies more (more_yet es fs more onward yet));
   }

@@ -62,14 +62,20 @@ module _ {L : Type 0} (runner : Runner L) (program : Program) (at : Place) where
   seen = seen_at (procedures_in runner.entries (start_at at).procedures) runner.procedures program.book runner.cursor runner.store
 
   -- the declared names, with what is seen at the cursor in their slots
-  shown_at : (back : Bool) → Stands runner program at back → shown_store runner.store ≡ under_names (names_in (start_at at).store) (oldest (size_of (start_at at).store) seen)
+  shown_at : (back : Bool) → Stands runner program at back → shown_store runner.store ≡ under_names (names_in (start_at at).store)
+      (oldest (size_of (start_at at).store) seen)
   shown_at back h =
       let size = size_of (start_at at).store in
-      let declared : declared_store runner.store ≡ oldest size seen = ap (λ (n : ℕ). oldest n (given_back runner.store.slots runner.store.callers)) h.declared ∙ ap (oldest size) (sym (seen_is (procedures_in runner.entries (start_at at).procedures) runner.procedures program.book runner.cursor runner.store h.standing)) in
-      ap (under_names (reverse runner.store.texts)) declared ∙ ap (λ (g : List Name). under_names g (oldest size seen)) (ap reverse h.texts ∙ reverse-reverse (names_in (start_at at).store))
+      let declared : declared_store runner.store ≡ oldest size seen = ap (λ (n : ℕ). oldest n (given_back runner.store.slots runner.store.callers)) h.declared
+      ∙ ap (oldest size)
+      (sym (seen_is (procedures_in runner.entries (start_at at).procedures) runner.procedures program.book runner.cursor runner.store h.standing)) in
+      ap (under_names (reverse runner.store.texts)) declared
+      ∙ ap (λ (g : List Name). under_names g (oldest size seen)) (ap reverse h.texts ∙ reverse-reverse (names_in (start_at at).store))
 
   -- the world shown is that after the counted steps
-  part_at : (back : Bool) → Stands runner program at back → Part (outside_in runner.entries (around (start_at at))) (Block (block_of runner.entries (run_block at.code) (start_at at))) (slots_of (start_at at)) at.count seen → CodePart at.code at.world at.count (world_inside at runner)
+  part_at : (back : Bool) → Stands runner program at back →
+      Part (outside_in runner.entries (around (start_at at))) (Block (block_of runner.entries (run_block at.code) (start_at at))) (slots_of (start_at at))
+      at.count seen → CodePart at.code at.world at.count (world_inside at runner)
   unfolding CodePart
   part_at back h part =
       let by = (the_same runner program at back at.count h).shown seen part in
@@ -108,7 +114,8 @@ module _ {L : Type 0} (runner : Runner L) (program : Program) (at : Place) where
   whole_at_end h ended =
       let end = ends_in h ended in
       record {
-        declared = h.declared ∙ sym (names_size (start_at at).store) ∙ ap length (sym end.names) ∙ names_size end.store ∙ sym (size_same end.store) ∙ ap size_of end.slots;
+        declared = h.declared ∙ sym (names_size (start_at at).store) ∙ ap length (sym end.names) ∙ names_size end.store ∙ sym (size_same end.store)
+            ∙ ap size_of end.slots;
         callers = ended_callers h.standing ended;
         slots = ap in_slots (sym end.slots) ∙ twice_same end.store ∙ end.slots;
       }
@@ -117,7 +124,8 @@ module _ {L : Type 0} (runner : Runner L) (program : Program) (at : Place) where
   unfolding CodeExec
   at_end h ended =
       let end = ends_in h ended in
-      let shows : shown_store runner.store ≡ end.store = shown_whole runner.store end.store (whole_at_end h ended) (record { slots = sym end.slots; texts = h.texts ∙ ap reverse (sym end.names) }) in
+      let shows : shown_store runner.store ≡ end.store =
+      shown_whole runner.store end.store (whole_at_end h ended) (record { slots = sym end.slots; texts = h.texts ∙ ap reverse (sym end.names) }) in
       record {
         limit = h.few;
         ran = subst (λ (s : Store). BlockExec (around (start_at at)) (Block (run_block at.code)) (start_at at).store at.count s) (sym shows) end.ran;
@@ -129,8 +137,12 @@ module _ {L : Type 0} (runner : Runner L) (program : Program) (at : Place) where
   unfolding CodeExec CodePart
   not_ended h going i u e =
       let means = run_means runner program at h in
-      let early : at.count ≤ i = (worlds_start_and_end (start_at at) (run_block at.code)).in_time i at.count u (world_inside at runner) e (stands_part false h) in
-      let other : i ≢ at.count = λ (same : i ≡ at.count). means.going going (in_slots u.store) ((the_same runner program at false at.count h).ends u.store (subst (λ (x : ℕ). BlockExec (around (start_at at)) (Block (run_block at.code)) (start_at at).store x u.store) same e.ran)) in
+      let early : at.count ≤ i = (worlds_start_and_end (start_at at) (run_block at.code)).in_time i at.count u (world_inside at runner) e
+      (stands_part false h) in
+      let other : i ≢ at.count =
+      λ (same : i ≡ at.count). means.going going (in_slots u.store)
+      ((the_same runner program at false at.count h).ends u.store
+      (subst (λ (x : ℕ). BlockExec (around (start_at at)) (Block (run_block at.code)) (start_at at).store x u.store) same e.ran)) in
       omega arith
 
   limit_met : Stands runner program at false → at.count ≡ step_limit → has_ended runner.cursor ≡ false → CodeStop at.code at.world at.count StepLimit
@@ -150,10 +162,12 @@ module _ {L : Type 0} (runner : Runner L) (program : Program) (at : Place) where
 
   -- why the next step is refused
   pub refused_at : (f : machine.Fault) → Stands runner program at false → has_ended runner.cursor ≡ false →
-      Refuses (procedures_in runner.entries (start_at at).procedures) (stacks_in (start_at at).store) runner.procedures program.book runner.cursor runner.store f → CodeStop at.code at.world at.count (fault_of f)
+      Refuses (procedures_in runner.entries (start_at at).procedures) (stacks_in (start_at at).store) runner.procedures program.book runner.cursor runner.store
+      f → CodeStop at.code at.world at.count (fault_of f)
   refused_at f h going refuses =
       elim refuses [
-        | inl limited ↦ subst (λ (x : machine.Fault). CodeStop at.code at.world at.count (fault_of x)) (sym limited.1) (limit_met h (sym h.counted ∙ limited.0.all) going)
+        | inl limited ↦ subst (λ (x : machine.Fault). CodeStop at.code at.world at.count (fault_of x)) (sym limited.1)
+            (limit_met h (sym h.counted ∙ limited.0.all) going)
         | inr halted ↦
             let few = h.few in
             let other : at.count ≢ step_limit = λ (e : at.count ≡ step_limit). halted.0 (record { forward = h.turned; all = h.counted ∙ e }) in
@@ -163,7 +177,8 @@ module _ {L : Type 0} (runner : Runner L) (program : Program) (at : Place) where
   -- ---- turned round
 
   pub turned_round : (cursor : Cursor) → Stands runner program at false → IsStanding runner.procedures program.book cursor runner.store →
-      place_of runner.store.names runner.procedures program.book cursor runner.store.callers ≡ mirror (place_of runner.store.names runner.procedures program.book runner.cursor runner.store.callers) →
+      place_of runner.store.names runner.procedures program.book cursor runner.store.callers ≡ mirror
+      (place_of runner.store.names runner.procedures program.book runner.cursor runner.store.callers) →
       ((k : ℕ) → Agrees k runner.procedures program.book runner.cursor runner.store → Agrees k runner.procedures program.book cursor runner.store) →
       (cursor.count ≡ runner.cursor.count) × (cursor.turned ≡ not runner.cursor.turned) →
       Stands {L = L} (record { store = runner.store; cursor = cursor; procedures = runner.procedures; entries = runner.entries }) program at true
@@ -199,14 +214,18 @@ whole_at_start runner program at none h =
 
 module _ {L : Type 0} (runner : Runner L) (program : Program) (at : Place) (t m : ℕ) (s : Stands runner program (at_count (at.count + t) at) false) where
   -- a slice that left the block
-  pub run_ended : (n : ℕ) → t ≤ m → n ≡ runner.cursor.count → has_ended runner.cursor ≡ true → CodeExec at.code at.world n (world_inside at runner) × (n ≤ at.count + m)
+  pub run_ended : (n : ℕ) → t ≤ m → n ≡ runner.cursor.count → has_ended runner.cursor ≡ true → CodeExec at.code at.world n (world_inside at runner) ×
+      (n ≤ at.count + m)
   run_ended n low is ended =
-      let e : n ≡ at.count + t = is ∙ s.counted in
-      (subst (λ (x : ℕ). CodeExec at.code at.world x (world_inside at runner)) (sym e) (at_end runner program (at_count (at.count + t) at) s ended), omega arith)
+      let e : n ≡ at.count + t = is ∙ s.counted in (
+        subst (λ (x : ℕ). CodeExec at.code at.world x (world_inside at runner)) (sym e) (at_end runner program (at_count (at.count + t) at) s ended),
+        omega arith,
+      )
 
   -- one whose next step is refused
   pub run_stopped : (n : ℕ) (f : machine.Fault) → t < m → n ≡ runner.cursor.count → has_ended runner.cursor ≡ false →
-      Refuses (procedures_in runner.entries (start_at at).procedures) (stacks_in (start_at at).store) runner.procedures program.book runner.cursor runner.store f →
+      Refuses (procedures_in runner.entries (start_at at).procedures) (stacks_in (start_at at).store) runner.procedures program.book runner.cursor runner.store
+      f →
       CodePart at.code at.world n (world_inside at runner) × CodeStop at.code at.world n (fault_of f) × (n < at.count + m)
   run_stopped n f low is going refuses =
       let e : n ≡ at.count + t = is ∙ s.counted in (
@@ -216,11 +235,14 @@ module _ {L : Type 0} (runner : Runner L) (program : Program) (at : Place) (t m 
       )
 
   -- and one that took all its steps
-  pub run_went : t ≡ m → has_ended runner.cursor ≡ false → CodePart at.code at.world (at.count + m) (world_inside at runner) × ((n : ℕ) (u : World) → CodeExec at.code at.world n u → at.count + m < n)
+  pub run_went : t ≡ m → has_ended runner.cursor ≡ false → CodePart at.code at.world (at.count + m) (world_inside at runner) ×
+      ((n : ℕ) (u : World) → CodeExec at.code at.world n u → at.count + m < n)
   run_went all going =
-      subst (λ (x : ℕ). CodePart at.code at.world (at.count + x) (world_inside at runner) × ((n : ℕ) (u : World) → CodeExec at.code at.world n u → at.count + x < n)) all
+      subst (λ (x : ℕ). CodePart at.code at.world (at.count + x) (world_inside at runner) ×
+      ((n : ℕ) (u : World) → CodeExec at.code at.world n u → at.count + x < n)) all
       (stands_part runner program (at_count (at.count + t) at) false s, λ n u e. not_ended runner program (at_count (at.count + t) at) s going n u e)
 
 -- it stands at a count by another name
-pub stands_at : {L : Type 0} (runner : Runner L) (program : Program) (at : Place) (n k : ℕ) (back : Bool) → n ≡ k → Stands runner program (at_count n at) back → Stands runner program (at_count k at) back
+pub stands_at : {L : Type 0} (runner : Runner L) (program : Program) (at : Place) (n k : ℕ) (back : Bool) → n ≡ k → Stands runner program (at_count n at) back →
+    Stands runner program (at_count k at) back
 stands_at runner program at n k back e h = subst (λ (x : ℕ). Stands runner program (at_count x at) back) e h

@@ -42,7 +42,8 @@ whole_is h s whole many shows =
 -- and what it has, what it shows
 pub shown_whole : (h : StoreState) (s : Store) → IsWhole h → IsStoreOf h s → shown_store h ≡ s
 shown_whole h s whole is =
-    ap (under_names (reverse h.texts)) (whole_in_sight h whole ∙ is.slots) ∙ ap (λ (g : List Name). under_names g (in_slots s)) (ap reverse is.texts ∙ reverse-reverse (names_in s)) ∙ under_same s
+    ap (under_names (reverse h.texts)) (whole_in_sight h whole ∙ is.slots)
+    ∙ ap (λ (g : List Name). under_names g (in_slots s)) (ap reverse is.texts ∙ reverse-reverse (names_in s)) ∙ under_same s
 
 -- ---- numbers of slots
 

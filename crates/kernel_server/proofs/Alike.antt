@@ -37,19 +37,22 @@ IsWithin (Border t) = ⊥
 IsWithin (Inside e) = Unit {0}
 
 -- a slice that finds something to do comes inside a cell
-slice_within : (s : Past) (job : Open) (m : ℕ) (asked : Bool) (t : Sliced) (ts : List Told) (new : State) → SlicesAt s job m asked t new → AreBusy (told.Slice t ∷ ts) → IsWithin job
+slice_within : (s : Past) (job : Open) (m : ℕ) (asked : Bool) (t : Sliced) (ts : List Told) (new : State) → SlicesAt s job m asked t new →
+    AreBusy (told.Slice t ∷ ts) → IsWithin job
 slice_within s Idle m asked t ts new h busy = absurd (subst (λ (t : Sliced). AreBusy (told.Slice t ∷ ts)) h.0 busy)
 slice_within s (Border travel) m asked t ts new h busy = absurd (subst (λ (t : Sliced). AreBusy (told.Slice t ∷ ts)) h.0 busy)
 slice_within s (Inside e) m asked t ts new h busy = tt
 
-slice_inside : (old new : Machine) (m : ℕ) (asked : Bool) (t : Told) (ts : List Told) → Step old (event.Slice m asked) t new → AreBusy (t ∷ ts) → IsWithin old.state.job
+slice_inside : (old new : Machine) (m : ℕ) (asked : Bool) (t : Told) (ts : List Told) → Step old (event.Slice m asked) t new → AreBusy (t ∷ ts) →
+    IsWithin old.state.job
 slice_inside old new m asked (told.Slice t) ts h busy = slice_within old.state.past old.state.job m asked t ts h.0 h.1 busy
 slice_inside old new m asked (told.Begin t) ts h busy = absurd h
 slice_inside old new m asked (told.Post t) ts h busy = absurd h
 slice_inside old new m asked told.Shut ts h busy = absurd h
 
 -- and a begin elsewhere
-begin_without : (old : Machine) (job : Open) (queue : List Request) (t : Begun) (ts : List Told) (new : Machine) → BeginsAt old job queue t new → AreBusy (told.Begin t ∷ ts) → IsWithin job → ⊥
+begin_without : (old : Machine) (job : Open) (queue : List Request) (t : Begun) (ts : List Told) (new : Machine) → BeginsAt old job queue t new →
+    AreBusy (told.Begin t ∷ ts) → IsWithin job → ⊥
 begin_without old Idle queue t ts new h busy within = within
 begin_without old (Border travel) queue t ts new h busy within = within
 begin_without old (Inside e) queue t ts new h busy within = subst (λ (t : Begun). AreBusy (told.Begin t ∷ ts)) h.0 busy
@@ -82,13 +85,15 @@ no_cons : (t : Told) (ts : List Told) → t ∷ ts ≡ [] → ⊥
 no_cons t ts e = cc
 
 -- nothing comes behind the end
-over : (old new : Machine) (slices left : List Slice) (xs : List Event) (ts : List Told) → ts ≡ [] → Run old xs ts new → ArePaced slices xs left → (new ≡ old) × (left ≡ slices)
+over : (old new : Machine) (slices left : List Slice) (xs : List Event) (ts : List Told) → ts ≡ [] → Run old xs ts new → ArePaced slices xs left → (new ≡ old) ×
+    (left ≡ slices)
 over old new slices left [] [] e r p = (r, p)
 over old new slices left [] (t ∷ ts) e r p = absurd r
 over old new slices left (x ∷ xs) [] e r p = absurd r
 over old new slices left (x ∷ xs) (t ∷ ts) e r p = absurd (no_cons t ts e)
 
-both_over : (old new other : Machine) (slices left rest : List Slice) (xs ys : List Event) (ts us : List Told) (o p q : Outcome) → Run old xs ts new → ArePaced slices xs left → Run old ys us other → ArePaced slices ys rest
+both_over : (old new other : Machine) (slices left rest : List Slice) (xs ys : List Event) (ts us : List Told) (o p q : Outcome) → Run old xs ts new →
+    ArePaced slices xs left → Run old ys us other → ArePaced slices ys rest
     → (ts ≡ []) × (q ≡ o) → (us ≡ []) × (q ≡ p) → AreOne o p new other left rest
 both_over old new other slices left rest xs ys ts us o p q r paced s also e f =
     let a = over old new slices left xs ts e.0 r paced in
@@ -105,7 +110,8 @@ AreOneFrom xs =
     → RunsTo old slices xs ts o new left → RunsTo old slices ys us p other rest → AreOne o p new other left rest
 
 -- behind one answer
-behind_answer : (xs : List Event) → AreOneFrom xs → (t : Told) (mid new other : Machine) (slices left rest : List Slice) (ys : List Event) (ts us : List Told) (o p : Outcome) → IsLegalState mid.state
+behind_answer : (xs : List Event) → AreOneFrom xs → (t : Told) (mid new other : Machine) (slices left rest : List Slice) (ys : List Event) (ts us : List Told)
+    (o p : Outcome) → IsLegalState mid.state
     → Run mid xs ts new → ArePaced slices xs left → AreBusy (t ∷ ts) → EndsAs (t ∷ ts) o → AreAmple ts
     → Run mid ys us other → ArePaced slices ys rest → AreBusy (t ∷ us) → EndsAs (t ∷ us) p → AreAmple us
     → AreOne o p new other left rest
@@ -127,7 +133,8 @@ behind_answer xs more (told.Slice (sliced.Ended q)) mid new other slices left re
     both_over mid new other slices left rest xs ys ts us o p q r paced s also e f
 
 -- one event, and what comes behind it
-from_event : (e : Event) (xs : List Event) → AreOneFrom xs → (old new other mid there : Machine) (slices left rest : List Slice) (ys : List Event) (t u : Told) (ts us : List Told) (o p : Outcome) → IsLegalState old.state
+from_event : (e : Event) (xs : List Event) → AreOneFrom xs → (old new other mid there : Machine) (slices left rest : List Slice) (ys : List Event) (t u : Told)
+    (ts us : List Told) (o p : Outcome) → IsLegalState old.state
     → Step old e t mid → Run mid xs ts new → ArePaced slices xs left → AreBusy (t ∷ ts) → EndsAs (t ∷ ts) o → AreAmple (t ∷ ts)
     → Step old e u there → Run there ys us other → ArePaced slices ys rest → AreBusy (u ∷ us) → EndsAs (u ∷ us) p → AreAmple (u ∷ us)
     → AreOne o p new other left rest
@@ -143,7 +150,8 @@ step_as : (old new : Machine) (m n : ℕ) (a b : Bool) (t : Told) → m ≡ n �
 step_as old new m n a b t e f h = subst (λ (n : ℕ). Step old (event.Slice n b) t new) e (subst (λ (b : Bool). Step old (event.Slice m b) t new) f h)
 
 -- two runs to the end, event by event
-one_run : (xs : List Event) (old new other : Machine) (slices left rest : List Slice) (ys : List Event) (ts us : List Told) (o p : Outcome) → IsLegalState old.state
+one_run : (xs : List Event) (old new other : Machine) (slices left rest : List Slice) (ys : List Event) (ts us : List Told) (o p : Outcome) →
+    IsLegalState old.state
     → RunsTo old slices xs ts o new left → RunsTo old slices ys us p other rest → AreOne o p new other left rest
 one_run [] old new other slices left rest ys [] us o p legal a b = absurd a.3
 one_run [] old new other slices left rest ys (t ∷ ts) us o p legal a b = absurd a.0

@@ -102,7 +102,8 @@ calls_ran : (old new : Lone) (calls : List Call) → Leads lone_leads old calls 
 calls_ran old new [] h = same old new h
 calls_ran old new (call ∷ calls) h = ran_on old h.0 new (call_ran old h.0 call h.1) (calls_ran h.0 new calls h.2)
 
-module _ {W : Type 0} (contents : W → Option (List ℕ)) (socket : Socket) (key : List ℕ) (before : List Action) (writer writer' : W) (desk desk' : Lone) (old : State) (stamp' : Stamp) where
+module _ {W : Type 0} (contents : W → Option (List ℕ)) (socket : Socket) (key : List ℕ) (before : List Action) (writer writer' : W) (desk desk' : Lone)
+    (old : State) (stamp' : Stamp) where
   -- however a connection ends
   pub connection_ran : (result : Result (Unit {0}) ServeFault) (input : List ℕ) (left : Option (List ℕ))
       → ends_by contents lone_leads socket key before writer writer' desk desk' old stamp' result input left → RanOn desk desk'
@@ -122,7 +123,8 @@ module _ {W : Type 0} (contents : W → Option (List ℕ)) (socket : Socket) (ke
 -- ---- the broadcasts
 
 -- a call that hands over nothing leaves the broadcasts
-nothing_handed : (old new : Lone) → new.kept ≡ old.kept → new.is_whole ≡ old.is_whole → new.is_whole ≡ true → (old.is_whole ≡ true) × (new.kept ≡ old.kept ++ [])
+nothing_handed : (old new : Lone) → new.kept ≡ old.kept → new.is_whole ≡ old.is_whole → new.is_whole ≡ true → (old.is_whole ≡ true) ×
+    (new.kept ≡ old.kept ++ [])
 nothing_handed old new k e w = (sym e ∙ w, k ∙ sym (append-nil old.kept))
 
 left_alone : (old new : Lone) → new ≡ old → new.is_whole ≡ true → (old.is_whole ≡ true) × (new.kept ≡ old.kept ++ [])

@@ -31,31 +31,55 @@ module _ (slices left : List Slice) (o : Outcome) (new : Machine) where
   first = next_slice slices
 
   pub ends_by_slice : (old : Machine) → IsSliceOf old first.steps first.is_asked (sliced.Ended o) new → left ≡ behind slices → Finishes old slices o new left
-  ends_by_slice old s e =
-      (event.Slice first.steps first.is_asked ∷ [], record { answers = told.Slice (sliced.Ended o) ∷ []; run = (new, s, refl); paced = (refl, refl, e); busy = tt; ends = (refl, refl) })
-
-  pub ends_at_border : (old border : Machine) → IsSliceOf old first.steps first.is_asked sliced.Border border → IsBegin border (begun.Ended o) new → left ≡ behind slices → Finishes old slices o new left
-  ends_at_border old border s b e = (
-    event.Slice first.steps first.is_asked ∷ event.Begin ∷ [],
-    record { answers = told.Slice sliced.Border ∷ told.Begin (begun.Ended o) ∷ []; run = (border, s, (new, b, refl)); paced = (refl, refl, e); busy = tt; ends = (refl, refl) },
+  ends_by_slice old s e = (
+    event.Slice first.steps first.is_asked ∷ [],
+    record { answers = told.Slice (sliced.Ended o) ∷ []; run = (new, s, refl); paced = (refl, refl, e); busy = tt; ends = (refl, refl) },
   )
 
-  pub goes_on : (old mid : Machine) → IsSliceOf old first.steps first.is_asked sliced.Going mid → Finishes mid (behind slices) o new left → Finishes old slices o new left
+  pub ends_at_border : (old border : Machine) → IsSliceOf old first.steps first.is_asked sliced.Border border → IsBegin border (begun.Ended o) new →
+      left ≡ behind slices → Finishes old slices o new left
+  ends_at_border old border s b e = (
+    event.Slice first.steps first.is_asked ∷ event.Begin ∷ [],
+    record {
+      answers = told.Slice sliced.Border ∷ told.Begin (begun.Ended o) ∷ [];
+      run = (border, s, (new, b, refl));
+      paced = (refl, refl, e);
+      busy = tt;
+      ends =
+          (refl, refl);
+    },
+  )
+
+  pub goes_on : (old mid : Machine) → IsSliceOf old first.steps first.is_asked sliced.Going mid → Finishes mid (behind slices) o new left →
+      Finishes old slices o new left
   goes_on old mid s f =
-      let h = f.1 in
-      (event.Slice first.steps first.is_asked ∷ f.0, record { answers = told.Slice sliced.Going ∷ h.answers; run = (mid, s, h.run); paced = (refl, refl, h.paced); busy = h.busy; ends = h.ends })
+      let h = f.1 in (
+        event.Slice first.steps first.is_asked ∷ f.0,
+        record { answers = told.Slice sliced.Going ∷ h.answers; run = (mid, s, h.run); paced = (refl, refl, h.paced); busy = h.busy; ends = h.ends },
+      )
 
-  pub goes_back : (old mid : Machine) → IsSliceOf old first.steps first.is_asked sliced.Backing mid → Finishes mid (behind slices) o new left → Finishes old slices o new left
+  pub goes_back : (old mid : Machine) → IsSliceOf old first.steps first.is_asked sliced.Backing mid → Finishes mid (behind slices) o new left →
+      Finishes old slices o new left
   goes_back old mid s f =
-      let h = f.1 in
-      (event.Slice first.steps first.is_asked ∷ f.0, record { answers = told.Slice sliced.Backing ∷ h.answers; run = (mid, s, h.run); paced = (refl, refl, h.paced); busy = h.busy; ends = h.ends })
+      let h = f.1 in (
+        event.Slice first.steps first.is_asked ∷ f.0,
+        record { answers = told.Slice sliced.Backing ∷ h.answers; run = (mid, s, h.run); paced = (refl, refl, h.paced); busy = h.busy; ends = h.ends },
+      )
 
-  pub next_cell : (old border mid : Machine) → IsSliceOf old first.steps first.is_asked sliced.Border border → IsBegin border begun.Going mid → Finishes mid (behind slices) o new left
+  pub next_cell : (old border mid : Machine) → IsSliceOf old first.steps first.is_asked sliced.Border border → IsBegin border begun.Going mid →
+      Finishes mid (behind slices) o new left
       → Finishes old slices o new left
   next_cell old border mid s b f =
       let h = f.1 in (
         event.Slice first.steps first.is_asked ∷ event.Begin ∷ f.0,
-        record { answers = told.Slice sliced.Border ∷ told.Begin begun.Going ∷ h.answers; run = (border, s, (mid, b, h.run)); paced = (refl, refl, h.paced); busy = h.busy; ends = h.ends },
+        record {
+          answers = told.Slice sliced.Border ∷ told.Begin begun.Going ∷ h.answers;
+          run = (border, s, (mid, b, h.run));
+          paced =
+              (refl, refl, h.paced);
+          busy = h.busy;
+          ends = h.ends;
+        },
       )
 
   pub begun_later : (posted inside : Machine) → IsBegin posted begun.Going inside → Finishes inside slices o new left → RunsOut posted slices o new left
@@ -63,7 +87,8 @@ module _ (slices left : List Slice) (o : Outcome) (new : Machine) where
       let h = f.1 in
       (f.0, record { answers = told.Begin begun.Going ∷ h.answers; run = (inside, b, h.run); paced = h.paced; busy = h.busy; ends = h.ends })
 
-pub begun_at_once : (posted new : Machine) (slices left : List Slice) (o : Outcome) → IsBegin posted (begun.Ended o) new → left ≡ slices → RunsOut posted slices o new left
+pub begun_at_once : (posted new : Machine) (slices left : List Slice) (o : Outcome) → IsBegin posted (begun.Ended o) new → left ≡ slices →
+    RunsOut posted slices o new left
 begun_at_once posted new slices left o b e =
     ([], record { answers = told.Begin (begun.Ended o) ∷ []; run = (new, b, refl); paced = e; busy = tt; ends = (refl, refl) })
 

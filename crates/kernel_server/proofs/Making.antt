@@ -1,5 +1,6 @@
 -- What a job made, and what is shown of it.
-use Rattle.std.proofs.Common.{◌≡◌, ◌⊎◌, ◌∙◌, ℕ, ◌<◌, Bool, true, false, List, [], ◌∷◌, Option, None, inl, inr, length, refl, sym, ap, subst, ⊎_elim, Ok, arith, length-append}
+use Rattle.std.proofs.Common.{◌≡◌, ◌⊎◌, ◌∙◌, ℕ, ◌<◌, Bool, true, false, List, [], ◌∷◌, Option, None, inl, inr, length, refl, sym, ap, subst, ⊎_elim, Ok, arith}
+use Rattle.std.proofs.Common.{length-append}
 use Rattle.std.proofs.lemmas.List.{get_or_at}
 use Rattle.janus_meaning.specs.World.{World, Cell}
 use Rattle.kernel_core.specs.State.{Past, State, Node, Idle, root, here}
@@ -98,7 +99,8 @@ pub run_made : JobsEnd → (old posted new : Machine) (slices left : List Slice)
 run_made ends old posted new slices left r n o rooted idle alone p h =
     let next = posted_alone old posted r n idle alone p in
     let still : length posted.state.past.nodes ≡ length old.state.past.nodes = ap (λ (m : Machine). length m.state.past.nodes) p.2 in
-    unless_made posted.closing posted.state.past r o new.state (subst (λ (k : ℕ). 0 < k) (sym still) rooted) (ends posted new r h.0 h.1.answers o next.0 ([], next.1) h.1.run h.1.ends)
+    unless_made posted.closing posted.state.past r o new.state (subst (λ (k : ℕ). 0 < k) (sym still) rooted)
+    (ends posted new r h.0 h.1.answers o next.0 ([], next.1) h.1.run h.1.ends)
 
 -- ---- what is shown of it
 

@@ -110,10 +110,13 @@ arrives_nearer m s travel on zero c told new e f h =
     subst (λ t. Nearer m (inside (Move travel) c GoesOn) t new.job) (sym h.0) (ap (λ x. x.job) h.1)
 arrives_nearer m s travel on (suc n) c told new e f h =
     let there : left new.job ≡ in_all (suc n) (step_limit + step_limit + 3) = ap (λ x. left x.job) h.1 ∙ ap (λ k. in_all k (step_limit + step_limit + 3)) f in
-    subst (λ t. Nearer m (inside (Move travel) c GoesOn) t new.job) (sym h.0)
-    ((_, ap (λ x. x.job) h.1), less_is_nearer m _ _ (subst (λ n. n < left (inside (Move travel) c GoesOn)) (sym there) (one_less (cells travel) n (turn_left GoesOn c) e)))
+    subst (λ t. Nearer m (inside (Move travel) c GoesOn) t new.job) (sym h.0) (
+      (_, ap (λ x. x.job) h.1),
+      less_is_nearer m _ _ (subst (λ n. n < left (inside (Move travel) c GoesOn)) (sym there) (one_less (cells travel) n (turn_left GoesOn c) e)),
+    )
 
-settles_nearer : (m : ℕ) (s : Past) (work : Work) (c n : ℕ) (w : World) (told : Sliced) (new : State) → Settles s work n w told new → Nearer m (inside work c GoesOn) told new.job
+settles_nearer : (m : ℕ) (s : Past) (work : Work) (c n : ℕ) (w : World) (told : Sliced) (new : State) → Settles s work n w told new →
+    Nearer m (inside work c GoesOn) told new.job
 settles_nearer m s (Posted cell) c n w told new h = subst (λ t. Nearer m (inside (Posted cell) c GoesOn) t new.job) (sym h.0) (ap (λ x. x.job) h.1)
 settles_nearer m s (Move travel) c n w told new h =
     arrives_nearer m (moved s travel) travel (stepped travel) (cells (stepped travel)) c told new (sym (stepped_left travel (next_way travel) refl)) refl h
@@ -123,7 +126,8 @@ part_limit : (code : Code) (w v : World) (j : ℕ) → CodePart code w j v → j
 unfolding CodePart
 part_limit code w v j h = h.limit
 
-comes_nearer : (m : ℕ) (s : Past) (work : Work) (c : ℕ) (ran : Progress) (w : World) (told : Sliced) (new : State) → Reaches (code_of s work) (here s) (c + m) ran w → Comes s work (c + m) ran w told new
+comes_nearer : (m : ℕ) (s : Past) (work : Work) (c : ℕ) (ran : Progress) (w : World) (told : Sliced) (new : State) →
+    Reaches (code_of s work) (here s) (c + m) ran w → Comes s work (c + m) ran w told new
     → Nearer m (inside work c GoesOn) told new.job
 comes_nearer m s work c Went w told new r h =
     let le = part_limit (code_of s work) (here s) w (c + m) r.0 in
@@ -134,9 +138,11 @@ comes_nearer m s work c (Ended n) w told new r h = settles_nearer m s work c n w
 comes_nearer m s work c (Stopped j fault) w told new r h =
     let le = part_limit (code_of s work) (here s) w j r.0 in
     backs_nearer m s work _ (inside work c GoesOn) j told new
-    (λ n e. less_is_nearer m _ _ (in_all_less (cells_left work) (suc n) (turn_left GoesOn c) (on_is_more step_limit c (suc n) (subst (λ k. k ≤ step_limit) e le)))) h
+    (λ n e. less_is_nearer m
+    _ _ (in_all_less (cells_left work) (suc n) (turn_left GoesOn c) (on_is_more step_limit c (suc n) (subst (λ k. k ≤ step_limit) e le)))) h
 
-slices_nearer : (m : ℕ) (asked : Bool) (s : Past) (work : Work) (c : ℕ) (heading : Heading) (told : Sliced) (new : State) → SlicesIn s work c heading m asked told new → Nearer m (inside work c heading) told new.job
+slices_nearer : (m : ℕ) (asked : Bool) (s : Past) (work : Work) (c : ℕ) (heading : Heading) (told : Sliced) (new : State) →
+    SlicesIn s work c heading m asked told new → Nearer m (inside work c heading) told new.job
 slices_nearer m false s work c GoesOn told new h = comes_nearer m s work c h.0 h.1 told new h.2 h.3
 slices_nearer m true s work c GoesOn told new h =
     backs_nearer m s work (WasAsked c) (inside work c GoesOn) (c - m) told new
@@ -146,11 +152,13 @@ slices_nearer m asked s work c (GoesBack why) told new h =
     (λ n e. in_all_nearer (cells_left work) m (suc n) c (back_falls c n m e)) h
 
 -- a slice of a job inside a cell
-pub slice_nearer : (old new : Machine) (m : ℕ) (asked : Bool) (told : Sliced) → IsInside old.state.job → IsSliceOf old m asked told new → Nearer m old.state.job told new.state.job
+pub slice_nearer : (old new : Machine) (m : ℕ) (asked : Bool) (told : Sliced) → IsInside old.state.job → IsSliceOf old m asked told new →
+    Nearer m old.state.job told new.state.job
 slice_nearer old new m asked told i h =
     let at : SlicesAt old.state.past (Inside i.0) m asked told h.0 = subst (λ job. SlicesAt old.state.past job m asked told h.0) i.1 h.1 in
     subst (λ job. Nearer m job told new.state.job) (sym i.1)
-    (subst (λ state. Nearer m (Inside i.0) told state.job) (sym (ap (λ m. m.state) h.2)) (slices_nearer m asked old.state.past i.0.work i.0.count i.0.heading told h.0 at))
+    (subst (λ state. Nearer m (Inside i.0) told state.job) (sym (ap (λ m. m.state) h.2))
+    (slices_nearer m asked old.state.past i.0.work i.0.count i.0.heading told h.0 at))
 
 -- ---- begins at a border
 
@@ -166,8 +174,11 @@ enter_less n limit = omega arith
 enters_nearer : (s : Past) (t : Travel) (told : Begun) (new : State) → Enters s t told new → Begins (Border t) told new.job
 enters_nearer s t told new h =
     ⊎_elim
-    (λ h. subst (λ b. Begins (Border t) b new.job) (sym h.0)
-    ((_, ap (λ x. x.job) h.1), subst (λ n. n < left (Border t)) (sym (ap (λ x. left x.job) h.1)) (enter_less (cells t * (step_limit + step_limit + 4)) step_limit)))
+    (λ h. subst (λ b. Begins (Border t) b new.job) (sym h.0) (
+      (_, ap (λ x. x.job) h.1),
+      subst (λ n. n < left (Border t)) (sym (ap (λ x. left x.job) h.1))
+          (enter_less (cells t * (step_limit + step_limit + 4)) step_limit),
+    ))
     (λ h. subst (λ b. Begins (Border t) b new.job) (sym h.0) (ap (λ x. x.job) h.2))
     h
 

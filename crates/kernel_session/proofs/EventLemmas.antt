@@ -1,5 +1,6 @@
 -- What one event brings, from its parts.
-use Rattle.std.proofs.Common.{◌≡◌, ℕ, suc, ◌+◌, ◌<◌, List, [], ◌∷◌, ◌++◌, length, get_or, drop, drop-cons, add-one, append_assoc, Option, Result, IfOk, OnErr, ◌⊎◌, inl, inr, refl, sym, ap, ◌∙◌, subst}
+use Rattle.std.proofs.Common.{◌≡◌, ℕ, suc, ◌+◌, ◌<◌, List, [], ◌∷◌, ◌++◌, length, get_or, drop, drop-cons, add-one, append_assoc, Option, Result, IfOk, OnErr}
+use Rattle.std.proofs.Common.{◌⊎◌, inl, inr, refl, sym, ap, ◌∙◌, subst}
 use Rattle.std.proofs.lemmas.List.{map-append}
 use Rattle.std.specs.Io.KnownBytes.{Appends}
 use Rattle.jupyter_msg.specs.declared.request.Request.{Request}
@@ -43,7 +44,8 @@ module _ {W D : Type 0} (contents : W → Option (List ℕ)) (leads : D → Call
       (λ q. inl (q.0, q.1, inl (r, asked, inl q.2), q.3)) p
 
   module _ (socket : Socket) (on : socket ≡ s) (event e : PeerEvent) (is : event ≡ e) where
-    pub turn_takes : {E : Type 0} → ((actions : List Action) (new : State) → IsTurn s key stamp frames actions new → IsStep s key stamp (event_of e) actions new)
+    pub turn_takes : {E : Type 0} →
+        ((actions : List Action) (new : State) → IsTurn s key stamp frames actions new → IsStep s key stamp (event_of e) actions new)
         → (result : Result Flow E) → IfOk result (λ flow. Turns flow)
         → IfOk result (λ flow. Takes contents leads socket key w w' d d' stamp (event_of event) (record { stamp = stamp2; flow = flow }))
     turn_takes step result p =
@@ -51,7 +53,8 @@ module _ {W D : Type 0} (contents : W → Option (List ℕ)) (leads : D → Call
         (λ (flow : Flow). Takes contents leads socket key w w' d d' stamp (event_of event) (record { stamp = stamp2; flow = flow }))
         (λ flow q. takes_event contents leads key w w' d d' stamp socket s on event e is q.0 _ (step q.0 _ q.1) q.2) p
 
-    pub turn_breaks : {E : Type 0} → ((actions : List Action) (new : State) → IsTurn s key stamp frames actions new → IsStep s key stamp (event_of e) actions new)
+    pub turn_breaks : {E : Type 0} →
+        ((actions : List Action) (new : State) → IsTurn s key stamp frames actions new → IsStep s key stamp (event_of e) actions new)
         → (result : Result Flow E) → OnErr result TurnsPart → OnErr result (Breaks contents leads socket key w w' d d' stamp (event_of event))
     turn_breaks step result p =
         on_err result TurnsPart (Breaks contents leads socket key w w' d d' stamp (event_of event))
@@ -125,4 +128,5 @@ module _ {W D : Type 0} (contents : W → Option (List ℕ)) (leads : D → Call
   cut_next p more events all =
       subst (λ (x : List Event). Cut contents leads socket key [] w w2 d d2 s x) all
       (cut_over contents leads socket key [] w w2 d d2 s (seen ++ e ∷ []) more
-      (whole_cut contents leads socket key [] w w1 w2 d d1 d2 s (going stamp) seen (e ∷ []) so_far refl (cut_one contents leads socket key w1 w2 d1 d2 stamp e p)))
+      (whole_cut contents leads socket key [] w w1 w2 d d1 d2 s (going stamp) seen (e ∷ []) so_far refl
+      (cut_one contents leads socket key w1 w2 d1 d2 stamp e p)))

@@ -1,5 +1,6 @@
 -- What holds of all sessions.
-use Rattle.std.proofs.Common.{◌≡◌, ◌≢◌, ℕ, Bool, true, false, List, [], ◌∷◌, ◌++◌, string_bytes, Option, Some, None, option_map, Result, Ok, Err, refl, sym, ap, ◌∙◌, subst, append_assoc, if◌then◌else◌}
+use Rattle.std.proofs.Common.{◌≡◌, ◌≢◌, ℕ, Bool, true, false, List, [], ◌∷◌, ◌++◌, string_bytes, Option, Some, None, option_map, Result, Ok, Err, refl, sym, ap}
+use Rattle.std.proofs.Common.{◌∙◌, subst, append_assoc, if◌then◌else◌}
 use Rattle.std.specs.Str.{bytes_eq}
 use Rattle.jupyter_msg.specs.declared.request.Request.{Request as Asked}
 use Rattle.jupyter_msg.specs.declared.request.RequestContent.TheVariants as request
@@ -31,7 +32,8 @@ use Rattle.kernel_session.specs.Order.{Order, AreOrders}
 use Rattle.kernel_session.specs.Action.{Action}
 use Rattle.kernel_session.specs.Talk.{Heard, Talk, before, ask, post, history, list_comms, open_then_ask, close_comm, if_open, follow, says_open, talk, says_of}
 use Rattle.kernel_session.specs.Session.{State, IsDated, opened, served, state_behind, IsSession}
-use Rattle.kernel_session.specs.Laws.{IsFramed, BusyFirstAndIdleLast, is_told_open, job_orders, history_orders, comm_info_orders, opening_orders, comm_orders, orders_wanted, OrdersWhatIsWanted, InTwo, SessionsGoOn}
+use Rattle.kernel_session.specs.Laws.{IsFramed, BusyFirstAndIdleLast, is_told_open, job_orders, history_orders, comm_info_orders, opening_orders, comm_orders}
+use Rattle.kernel_session.specs.Laws.{orders_wanted, OrdersWhatIsWanted, InTwo, SessionsGoOn}
 use Rattle.kernel_session.proofs.SessionLemmas.{session_join}
 
 -- ---- orders
@@ -94,7 +96,8 @@ orders_what_is_wanted (request.CommInfo r) h = comms_listed (option_map string_b
 orders_what_is_wanted request.Interrupt h = refl
 orders_what_is_wanted (request.Shutdown r) h = refl
 orders_what_is_wanted (request.CommOpen r) h =
-    chosen (bytes_eq (string_bytes r.target_name) undo_target) _ _ _ (order.Ask (IsOpen (string_bytes r.comm_id)) ∷ []) (opened_once (string_bytes r.comm_id) h.changed h.answer) refl
+    chosen (bytes_eq (string_bytes r.target_name) undo_target) _ _ _ (order.Ask (IsOpen (string_bytes r.comm_id)) ∷ [])
+    (opened_once (string_bytes r.comm_id) h.changed h.answer) refl
 orders_what_is_wanted (request.CommMessage r) h = on_open (string_bytes r.comm_id) h.comm (follow r.ask h) _ (followed r.ask h)
 orders_what_is_wanted (request.CommClose r) h = closed_once (string_bytes r.comm_id) h.changed
 
@@ -128,7 +131,8 @@ busy_first_and_idle_last key r stamp actions new p goes =
 
 -- ---- sessions
 
-session_in_two : (socket : Socket) (key : List ℕ) (old new : State) (xs ys : List Event) (actions : List Action) → IsSession socket key old (xs ++ ys) actions new
+session_in_two : (socket : Socket) (key : List ℕ) (old new : State) (xs ys : List Event) (actions : List Action) →
+    IsSession socket key old (xs ++ ys) actions new
     → InTwo socket key old xs ys actions new
 session_in_two socket key old new [] ys actions p =
     record { mid = old; first = []; second = actions; before = (refl, refl); behind = p; both = refl }

@@ -1,5 +1,6 @@
 -- How a connection goes on by its pieces, and how it ends by its last one.
-use Rattle.std.proofs.Common.{◌≡◌, ◌≢◌, ◌≤◌, arith, ℕ, List, [], ◌∷◌, ◌++◌, Option, Err, inl, inr, ◌⊎◌, refl, sym, ap, ◌∙◌, subst, subst₂, append_assoc, append-nil}
+use Rattle.std.proofs.Common.{◌≡◌, ◌≢◌, ◌≤◌, arith, ℕ, List, [], ◌∷◌, ◌++◌, Option, Err, inl, inr, ◌⊎◌, refl, sym, ap, ◌∙◌, subst, subst₂, append_assoc}
+use Rattle.std.proofs.Common.{append-nil}
 use Rattle.zmtp_peer.specs.declared.fault.PeerFault.{PeerFault}
 use Rattle.zmtp_peer.specs.Faults.{fault_of, want_of_memory}
 use Rattle.zmtp_peer.specs.Events.{Event, State as Stage, Opening, Open, Refused}
@@ -100,7 +101,8 @@ module _ {W D : Type 0} (contents : W → Option (List ℕ)) (leads : D → Call
   stops_midway w w' d d' a b piece es Memory m p q = (piece, [], sym (append-nil piece), es, p, q)
 
   -- the events were taken, and the fault behind them is told
-  pub stops_behind : (w w' : W) (d d' : D) (a b c : PeerState) (piece : List ℕ) (es : List Event) (fault : PeerFault) (told : ServeFault) (flow : Flow) → flow ≡ Going
+  pub stops_behind : (w w' : W) (d d' : D) (a b c : PeerState) (piece : List ℕ) (es : List Event) (fault : PeerFault) (told : ServeFault) (flow : Flow) →
+      flow ≡ Going
       → Brings a piece es b → comes_to contents leads socket key [] w w' d d' (going stamp) stamp2 flow es
       → (fault_of fault ≡ want_of_memory → Brings b [] [] c)
       → (fault_of fault ≢ want_of_memory → Brings b [] [] c × (c.state ≡ Refused (fault_of fault)))
@@ -162,7 +164,8 @@ module _ {W D : Type 0} (contents : W → Option (List ℕ)) (leads : D → Call
 -- a beginning, by the fault
 module _ {W D : Type 0} (contents : W → Option (List ℕ)) (leads : D → Call → D → Type 0) (socket : Socket) (key : List ℕ) (before : List Action)
     (w w' : W) (d d' : D) (s : State) (stamp2 : Stamp) (input : List ℕ) (events : List Event) (ending : Ending) (left : Option (List ℕ)) where
-  pub ends_midway : (fault : ServeFault) → IsMidway fault → PeerReads (role_of socket) input events ending → Cut contents leads socket key before w w' d d' s events
+  pub ends_midway : (fault : ServeFault) → IsMidway fault → PeerReads (role_of socket) input events ending →
+      Cut contents leads socket key before w w' d d' s events
       → ends_by contents leads socket key before w w' d d' s stamp2 (Err fault) input left
   ends_midway Read m p q = absurd m
   ends_midway (Peer f) m p q = absurd m

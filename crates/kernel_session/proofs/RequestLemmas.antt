@@ -1,5 +1,6 @@
 -- What one request brings, from its parts.
-use Rattle.std.proofs.Common.{◌≡◌, ℕ, ◌<◌, ◌≤◌, List, [], ◌∷◌, ◌++◌, map, Option, Some, None, Result, Ok, Err, IfOk, IfErr, OnOk, OnErr, inl, inr, refl, sym, ap, ◌∙◌, subst, append_assoc, append-nil, ◌⊎◌}
+use Rattle.std.proofs.Common.{◌≡◌, ℕ, ◌<◌, ◌≤◌, List, [], ◌∷◌, ◌++◌, map, Option, Some, None, Result, Ok, Err, IfOk, IfErr, OnOk, OnErr, inl, inr, refl, sym}
+use Rattle.std.proofs.Common.{ap, ◌∙◌, subst, append_assoc, append-nil, ◌⊎◌}
 use Rattle.std.proofs.lemmas.List.{map-append}
 use Rattle.std.specs.Io.KnownBytes.{Appends}
 use Rattle.jupyter_msg.specs.Message.{frames_of}
@@ -13,7 +14,8 @@ use Rattle.kernel_session.specs.Call.{Call, Published, Dated, Leads}
 use Rattle.exact_write.specs.Sent.{SentSome}
 use Rattle.kernel_session.specs.Action.{Action, Sent as SentOctet, Called, Acts, IsStartOf, sends, asks}
 use Rattle.kernel_session.specs.Talk.{Heard, IsHeld, talk, says_of}
-use Rattle.kernel_session.specs.Session.{State, IsServed, IsWorn, opened, asking, busy_frames, reply_octets, answered, outgoing, stamp_behind, flow_behind, state_behind, ends_with, served, last_next}
+use Rattle.kernel_session.specs.Session.{State, IsServed, IsWorn, opened, asking, busy_frames, reply_octets, answered, outgoing, stamp_behind, flow_behind}
+use Rattle.kernel_session.specs.Session.{state_behind, ends_with, served, last_next}
 use Rattle.kernel_session.specs.Parts.{LedPart, ActedPart, IsBegun, IsDatedAlone, IsTakenUp, IsTakenUpPart}
 use Rattle.kernel_session.proofs.ActsLemmas.{leads_join, acts_none, acts_join, acts_asks, acts_sends}
 use Rattle.kernel_session.proofs.TalkLemmas.{nobody}

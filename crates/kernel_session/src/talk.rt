@@ -11,7 +11,8 @@ ghost use Rattle.kernel_session.specs.Question.{question_of, wishes_of, Complete
 ghost use Rattle.kernel_reply.specs.Comms.{target as undo_target};
 ghost use Rattle.kernel_session.specs.Call.{Rang, Shut};
 ghost use Rattle.kernel_session.specs.Talk.{Heard, IsHeld, ask as ask_talk, post as post_talk, answered as answered_by, says_open as says_open_of};
-ghost use Rattle.kernel_session.specs.Talk.{history as history_talk, list_comms as list_talk, open_then_ask as open_then_ask_talk, open_comm as open_talk, close_comm as close_talk};
+ghost use Rattle.kernel_session.specs.Talk.{history as history_talk, list_comms as list_talk, open_then_ask as open_then_ask_talk};
+ghost use Rattle.kernel_session.specs.Talk.{open_comm as open_talk, close_comm as close_talk};
 ghost use Rattle.kernel_session.specs.Parts.{text_of, HasHandedOn};
 ghost use Rattle.kernel_session.specs.Talk.{follow as follow_talk, if_open, talk, only, no_answer as no_answer_is};
 

@@ -1,5 +1,6 @@
 -- The numbers of an array are written one after the other, and those of a stack.
-use Rattle.std.proofs.Common.{add-one, ◌≡◌, ℕ, ℤ, zero, suc, ◌+◌, ◌≤◌, List, [], ◌∷◌, ◌++◌, Option, Some, codes, length, take, drop, sym, ap, subst, ◌∙◌, append_assoc, append-nil, refl, slice_get, arith}
+use Rattle.std.proofs.Common.{add-one, ◌≡◌, ℕ, ℤ, zero, suc, ◌+◌, ◌≤◌, List, [], ◌∷◌, ◌++◌, Option, Some, codes, length, take, drop, sym, ap, subst, ◌∙◌}
+use Rattle.std.proofs.Common.{append_assoc, append-nil, refl, slice_get, arith}
 use Rattle.std.specs.Prelude.{◌<◌, if◌then◌else◌}
 use Rattle.std.proofs.lemmas.Bool.{lt-leb, le-leb}
 use Rattle.std.proofs.lemmas.List.{take-append-drop, take_all}
@@ -34,18 +35,22 @@ spaced_split : (k l : List ℤ) → spaced_text (k ++ l) ≡ spaced_text k ++ sp
 spaced_split [] l = refl
 spaced_split (n ∷ k) l = ap (λ t. one_text n ++ t) (spaced_split k l) ∙ sym (append_assoc (one_text n) (spaced_text k) (spaced_text l))
 
-pub number_then : (a b c : Option (List ℕ)) (l : List ℤ) (i : ℕ) (n : ℤ) → slice_get l i ≡ Some n → Appends a b (spaced_text (take i l)) → Appends b c (one_text n) → Appends a c (spaced_text (take (i + 1) l))
+pub number_then : (a b c : Option (List ℕ)) (l : List ℤ) (i : ℕ) (n : ℤ) → slice_get l i ≡ Some n → Appends a b (spaced_text (take i l)) →
+    Appends b c (one_text n) → Appends a c (spaced_text (take (i + 1) l))
 number_then a b c l i n h p q =
     subst (Appends a c) (sym (spaced_next l i n h) ∙ ap (λ k. spaced_text (take k l)) (sym (add-one i))) (appends_join a b c _ _ p q)
 
 -- one more number behind those that are written
-pub number_added : (a b c : Option (List ℕ)) (l : List ℤ) (n : ℤ) → Appends a b (spaced_text l) → Appends b c (one_text n) → Appends a c (spaced_text (l ++ n ∷ []))
+pub number_added : (a b c : Option (List ℕ)) (l : List ℤ) (n : ℤ) → Appends a b (spaced_text l) → Appends b c (one_text n) →
+    Appends a c (spaced_text (l ++ n ∷ []))
 number_added a b c l n p q =
     subst (Appends a c) (ap (λ t. spaced_text l ++ t) (sym (append-nil (one_text n))) ∙ sym (spaced_split l (n ∷ []))) (appends_join a b c _ _ p q)
 
-pub number_failed : (a b c : Option (List ℕ)) (l : List ℤ) (i : ℕ) (n : ℤ) → slice_get l i ≡ Some n → Appends a b (spaced_text (take i l)) → SentSome b c (one_text n) → SentSome a c (spaced_text l)
+pub number_failed : (a b c : Option (List ℕ)) (l : List ℤ) (i : ℕ) (n : ℤ) → slice_get l i ≡ Some n → Appends a b (spaced_text (take i l)) →
+    SentSome b c (one_text n) → SentSome a c (spaced_text l)
 number_failed a b c l i n h p q =
-    let all : spaced_text l ≡ spaced_text (take (suc i) l) ++ spaced_text (drop (suc i) l) = ap spaced_text (sym (take-append-drop (suc i) l)) ∙ spaced_split (take (suc i) l) (drop (suc i) l) in
+    let all : spaced_text l ≡ spaced_text (take (suc i) l) ++ spaced_text (drop (suc i) l) = ap spaced_text (sym (take-append-drop (suc i) l))
+    ∙ spaced_split (take (suc i) l) (drop (suc i) l) in
     subst (SentSome a c) (sym all)
     (sent_first a c (spaced_text (take (suc i) l)) (spaced_text (drop (suc i) l))
     (subst (SentSome a c) (sym (spaced_next l i n h)) (sent_then a b c _ _ p q)))

@@ -1,5 +1,6 @@
 -- What is written is UTF-8.
-use Rattle.std.proofs.Common.{◌≡◌, ℕ, ℤ, pos, negsuc, zero, suc, ◌+◌, ◌<◌, ◌%◌, ◌/◌, ◌==◌, Bool, true, false, ◌&&◌, nat_lt, List, [], ◌∷◌, ◌++◌, Option, Some, None, refl, sym, subst, codes, arith}
+use Rattle.std.proofs.Common.{◌≡◌, ℕ, ℤ, pos, negsuc, zero, suc, ◌+◌, ◌<◌, ◌%◌, ◌/◌, ◌==◌, Bool, true, false, ◌&&◌, nat_lt, List, [], ◌∷◌, ◌++◌, Option, Some}
+use Rattle.std.proofs.Common.{None, refl, sym, subst, codes, arith}
 use Rattle.std.specs.Prelude.{slice_index, length, take, nat_le, if◌then◌else◌}
 use Rattle.std.specs.Fmt.{digits, digits_onto, digit_glyph, decimal, signed_decimal}
 use Rattle.std.specs.List.{list_all}
@@ -9,7 +10,8 @@ use Rattle.std.proofs.lemmas.Str.{IsUtf8-append, IsUtf8-from_ascii, IsUtf8-nil}
 use Rattle.janus_meaning.specs.Store.{Val, Num, Arr, Stk, Lent}
 use Rattle.janus_machine.specs.Faults as fault
 use Rattle.janus_machine.specs.declared.fault.Fault.{Fault}
-use Rattle.janus_machine.specs.declared.fault.Fault.TheVariants.{FiAssertion, EntryAssertion, LoopAssertion, DelocalMismatch, PopNotZero, PopEmpty, TopEmpty, DivisionByZero, IndexRange, StackFull, TooDeep, TooManyStacks, StepLimit}
+use Rattle.janus_machine.specs.declared.fault.Fault.TheVariants.{FiAssertion, EntryAssertion, LoopAssertion, DelocalMismatch, PopNotZero, PopEmpty, TopEmpty}
+use Rattle.janus_machine.specs.declared.fault.Fault.TheVariants.{DivisionByZero, IndexRange, StackFull, TooDeep, TooManyStacks, StepLimit}
 use Rattle.janus_syntax.specs.Fault as syntax
 use Rattle.janus_syntax.specs.declared.fault.SyntaxFault.{SyntaxFault}
 use Rattle.janus_syntax.specs.declared.fault.SyntaxFault.TheVariants as s
@@ -148,7 +150,8 @@ fault_utf8 f = numbered_utf8 (codes "fault ") (fault.number_of f) (fault.name_of
 pub refusal_utf8 : (r : Refusal) → IsUtf8 (refusal_text r)
 refusal_utf8 r =
     IsUtf8-append (numbered_text (codes "refused ") (refusal.number_of r) (refusal.name_of r)) (place_text (refusal.span_of r))
-    (numbered_utf8 (codes "refused ") (refusal.number_of r) (refusal.name_of r) (literal (codes "refused ") refl) (refusal_name_utf8 r)) (place_utf8 (refusal.span_of r))
+    (numbered_utf8 (codes "refused ") (refusal.number_of r) (refusal.name_of r) (literal (codes "refused ") refl) (refusal_name_utf8 r))
+    (place_utf8 (refusal.span_of r))
 
 post_name_utf8 : (f : PostFault) → IsUtf8 (post_fault.name_of f)
 post_name_utf8 p.Closing = literal (codes "Closing") refl

@@ -101,11 +101,13 @@ goto_down s n up down (suc j) some l =
     ∙ ap (λ (i : ℕ). ancestor s.nodes n i) f)
 
 goto_favours : (s : Past) (n up down j : ℕ) → j < down →
-    (gone s (travel_to (aim.Goto n) up down) (up + j + 1)).favourites ≡ favoured (gone s (travel_to (aim.Goto n) up down) (up + j)) (ancestor s.nodes n (down - j - 1))
+    (gone s (travel_to (aim.Goto n) up down) (up + j + 1)).favourites ≡ favoured (gone s (travel_to (aim.Goto n) up down) (up + j))
+    (ancestor s.nodes n (down - j - 1))
 goto_favours s n up down j l =
     let e : up + j + 1 ≡ suc (up + j) = omega arith in
     rw e (ap (λ (t : Travel). (moved (gone s (travel_to (aim.Goto n) up down) (up + j)) t).favourites) (after_down (aim.Goto n) up down j (omega arith))
-    ∙ ap (λ (nodes : List Node). favoured (gone s (travel_to (aim.Goto n) up down) (up + j)) (ancestor nodes n (down - j - 1))) (gone_nodes s (travel_to (aim.Goto n) up down) (up + j)))
+    ∙ ap (λ (nodes : List Node). favoured (gone s (travel_to (aim.Goto n) up down) (up + j)) (ancestor nodes n (down - j - 1)))
+    (gone_nodes s (travel_to (aim.Goto n) up down) (up + j)))
 
 pub goto_goes_there : GotoGoesThere
 goto_goes_there s n up down j = (
@@ -123,21 +125,24 @@ descendant_first favourites n zero = refl
 descendant_first favourites n (suc j) = ap (λ (k : ℕ). get_or favourites k 0) (descendant_first favourites n j)
 
 -- along the favourites back down
-back_down : (s : Past) (k : ℕ) → IsLegal s → ((j : ℕ) → j < k → 0 < ancestor s.nodes s.position j) → descendant s.favourites (ancestor s.nodes s.position k) k ≡ s.position
+back_down : (s : Past) (k : ℕ) → IsLegal s → ((j : ℕ) → j < k → 0 < ancestor s.nodes s.position j) →
+    descendant s.favourites (ancestor s.nodes s.position k) k ≡ s.position
 back_down s zero g above = refl
 back_down s (suc k) g above =
     descendant_first s.favourites (ancestor s.nodes s.position (suc k)) k
     ∙ ap (λ (n : ℕ). descendant s.favourites n k) (g.favoured k (above k (omega arith)))
     ∙ back_down s k g (λ j l. above j (omega arith))
 
-there_and_back : (s : Past) (k : ℕ) → IsLegal s → IsTrue (can_undo s.nodes s.position k) → gone (gone s (travel_to aim.Undo k 0) k) (travel_to aim.Redo 0 k) k ≡ s
+there_and_back : (s : Past) (k : ℕ) → IsLegal s → IsTrue (can_undo s.nodes s.position k) →
+    gone (gone s (travel_to aim.Undo k 0) k) (travel_to aim.Redo 0 k) k ≡ s
 there_and_back s k g can =
     ap (λ (x : Past). gone x (travel_to aim.Redo 0 k) k) (undo_goes_up_far s k k (omega arith))
     ∙ redo_goes_down_far (record s { position = ancestor s.nodes s.position k }) k k
     ∙ ap (λ (n : ℕ). record s { position = n }) (back_down s k g (λ j l. all_above s.nodes s.position k j can l))
 
 -- a whole undo, and a whole redo
-undid_all : (s : Past) (t : Travel) (k : ℕ) (can : Bool) (new : State) → cells t ≡ k → MoveEnds s t can (outcome.Undid k All) new → ((j : ℕ) (end : TravelEnd) → finished (after t j) end ≡ outcome.Undid k All → end ≡ All) →
+undid_all : (s : Past) (t : Travel) (k : ℕ) (can : Bool) (new : State) → cells t ≡ k → MoveEnds s t can (outcome.Undid k All) new →
+    ((j : ℕ) (end : TravelEnd) → finished (after t j) end ≡ outcome.Undid k All → end ≡ All) →
     (new ≡ record { past = gone s t k; job = Idle }) × (can ≡ true)
 undid_all s t k false new size m only = absurd (let e = m.0 in cc)
 undid_all s t k true new size m only =
@@ -145,7 +150,8 @@ undid_all s t k true new size m only =
     let j : m.0 ≡ k = m.2.all.0 end ∙ size in
     (m.2.stands ∙ ap (λ (n : ℕ). record { past = gone s t n; job = Idle }) j, refl)
 
-redid_all : (s : Past) (t : Travel) (k : ℕ) (can : Bool) (new : State) → cells t ≡ k → MoveEnds s t can (outcome.Redid k All) new → ((j : ℕ) (end : TravelEnd) → finished (after t j) end ≡ outcome.Redid k All → end ≡ All) →
+redid_all : (s : Past) (t : Travel) (k : ℕ) (can : Bool) (new : State) → cells t ≡ k → MoveEnds s t can (outcome.Redid k All) new →
+    ((j : ℕ) (end : TravelEnd) → finished (after t j) end ≡ outcome.Redid k All → end ≡ All) →
     new ≡ record { past = gone s t k; job = Idle }
 redid_all s t k false new size m only = absurd (let e = m.0 in cc)
 redid_all s t k true new size m only =
@@ -169,11 +175,13 @@ end_told t end = by_aim t.aim t.went_up t.went_down end
     by_aim (aim.Goto n) i j end = refl
 
 -- what ended otherwise than by a refusal was taken before a shutdown
-undone_open : (closing : Bool) (s : Past) (k : ℕ) (new : State) → EndsUnless closing s (Undo k) (outcome.Undid k All) new → MoveEnds s (travel_to aim.Undo k 0) (can_undo s.nodes s.position k) (outcome.Undid k All) new
+undone_open : (closing : Bool) (s : Past) (k : ℕ) (new : State) → EndsUnless closing s (Undo k) (outcome.Undid k All) new →
+    MoveEnds s (travel_to aim.Undo k 0) (can_undo s.nodes s.position k) (outcome.Undid k All) new
 undone_open false s k new h = h
 undone_open true s k new h = absurd (let e = h.0 in cc)
 
-redone_open : (closing : Bool) (s : Past) (k : ℕ) (new : State) → EndsUnless closing s (Redo k) (outcome.Redid k All) new → MoveEnds s (travel_to aim.Redo 0 k) (can_redo s.favourites s.position k) (outcome.Redid k All) new
+redone_open : (closing : Bool) (s : Past) (k : ℕ) (new : State) → EndsUnless closing s (Redo k) (outcome.Redid k All) new →
+    MoveEnds s (travel_to aim.Redo 0 k) (can_redo s.favourites s.position k) (outcome.Redid k All) new
 redone_open false s k new h = h
 redone_open true s k new h = absurd (let e = h.0 in cc)
 
@@ -182,10 +190,14 @@ unfolding end_of_outcome
 redo_gives_back old mid later new k undo redo told_undo told_redo g idle next run ends same then run_on ends_on =
     let size : k + 0 ≡ k = omega arith in
     let other : 0 + k ≡ k = omega arith in
-    let first = undid_all old.state.past (travel_to aim.Undo k 0) k _ mid.state size (undone_open old.closing old.state.past k mid.state (jobs_end old mid (Undo k) undo told_undo (outcome.Undid k All) idle next run ends)) (λ j end e. sym (end_told (after (travel_to aim.Undo k 0) j) end) ∙ ap end_of_outcome e) in
+    let first = undid_all old.state.past (travel_to aim.Undo k 0) k _ mid.state size
+    (undone_open old.closing old.state.past k mid.state (jobs_end old mid (Undo k) undo told_undo (outcome.Undid k All) idle next run ends))
+    (λ j end e. sym (end_told (after (travel_to aim.Undo k 0) j) end) ∙ ap end_of_outcome e) in
     let there = same ∙ first.0 in
     let again : later.state.job ≡ Idle = ap (λ (s : State). s.job) there in
-    let second = redid_all later.state.past (travel_to aim.Redo 0 k) k _ new.state other (redone_open later.closing later.state.past k new.state (jobs_end later new (Redo k) redo told_redo (outcome.Redid k All) again then run_on ends_on)) (λ j end e. sym (end_told (after (travel_to aim.Redo 0 k) j) end) ∙ ap end_of_outcome e) in
+    let second = redid_all later.state.past (travel_to aim.Redo 0 k) k _ new.state other
+    (redone_open later.closing later.state.past k new.state (jobs_end later new (Redo k) redo told_redo (outcome.Redid k All) again then run_on ends_on))
+    (λ j end e. sym (end_told (after (travel_to aim.Redo 0 k) j) end) ∙ ap end_of_outcome e) in
     ap (λ (s : State). s.past) second
     ∙ ap (λ (s : State). gone s.past (travel_to aim.Redo 0 k) k) there
     ∙ there_and_back old.state.past k g first.1

@@ -12,7 +12,8 @@ use Rattle.kernel_machine.specs.declared.events.Told.TheVariants as told
 use Rattle.machine_laws.proofs.Determined.{refusal_same}
 use Rattle.kernel_machine.proofs.Posts.{begin_keeps_posts, slice_keeps_posts, shut_keeps_posts, begin_closing}
 
-closed_runs : (old new : Machine) (events : List Event) (answers : List Told) → old.closing ≡ true → Run old events answers new → (new.closing ≡ true) × AllPostsRefused answers × (posts_of new.minutes ≡ posts_of old.minutes)
+closed_runs : (old new : Machine) (events : List Event) (answers : List Told) → old.closing ≡ true → Run old events answers new → (new.closing ≡ true) ×
+    AllPostsRefused answers × (posts_of new.minutes ≡ posts_of old.minutes)
 closed_runs old new [] [] c r = (ap (λ (m : Machine). m.closing) r ∙ c, tt, ap (λ (m : Machine). posts_of m.minutes) r)
 closed_runs old new [] (t ∷ answers) c r = absurd r
 closed_runs old new (e ∷ events) [] c r = absurd r

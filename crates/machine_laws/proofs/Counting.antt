@@ -1,6 +1,7 @@
 -- What legal minutes tell of the execution counter.
 use Rattle.std.specs.Prelude.{if◌then◌else◌, IsTrue}
-use Rattle.std.proofs.Common.{◌≡◌, ℕ, ◌+◌, ◌-◌, ◌<◌, ◌≤◌, Bool, true, false, List, [], ◌∷◌, ◌++◌, length, map, zero, suc, refl, sym, ap, ◌∙◌, subst, arith, inl, inr, append_assoc, append-nil, length-append}
+use Rattle.std.proofs.Common.{◌≡◌, ℕ, ◌+◌, ◌-◌, ◌<◌, ◌≤◌, Bool, true, false, List, [], ◌∷◌, ◌++◌, length, map, zero, suc, refl, sym, ap, ◌∙◌, subst, arith, inl}
+use Rattle.std.proofs.Common.{inr, append_assoc, append-nil, length-append}
 use Rattle.std.proofs.lemmas.Bool.{cases_lt}
 use Rattle.std.proofs.lemmas.List.{length-map, map-append}
 use Rattle.kernel_machine.specs.State.{Job as Open, Idle, Border, Inside}
@@ -8,7 +9,8 @@ use Rattle.kernel_machine.specs.Request.{Request, is_counted, raised}
 use Rattle.kernel_machine.specs.Minutes.{Entry, Posted, Ended, Post, posts_of}
 use Rattle.kernel_machine.specs.Runs.{Machine}
 use Rattle.kernel_machine.specs.LegalMinutes.{Account, new_account, EndsFirst, Give, IsOpen, Agrees, HasLegalMinutes}
-use Rattle.machine_laws.specs.Counters.{counted_to, HasCountedEnd, EndTellsCounted, CounterNeverFalls, CountedIsNext, NoCounterTwice, CounterIsOfBegun, EndsWithinCounter}
+use Rattle.machine_laws.specs.Counters.{counted_to, HasCountedEnd, EndTellsCounted, CounterNeverFalls, CountedIsNext, NoCounterTwice, CounterIsOfBegun}
+use Rattle.machine_laws.specs.Counters.{EndsWithinCounter}
 use Rattle.kernel_machine.specs.declared.outcome.Outcome.{Outcome}
 use Rattle.kernel_machine.proofs.Posts.{posts-append}
 use Rattle.kernel_machine.proofs.Noted.{give_ended}
@@ -18,7 +20,8 @@ use Rattle.kernel_machine.proofs.Noted.{give_ended}
 raised_swap : (n : ℕ) (a b : Request) → raised (raised n a) b ≡ raised (raised n b) a
 raised_swap n a b = by_test (is_counted a) (is_counted b)
   where
-    by_test : (x y : Bool) → (if y then (if x then n + 1 else n) + 1 else (if x then n + 1 else n)) ≡ (if x then (if y then n + 1 else n) + 1 else (if y then n + 1 else n))
+    by_test : (x y : Bool) →
+        (if y then (if x then n + 1 else n) + 1 else (if x then n + 1 else n)) ≡ (if x then (if y then n + 1 else n) + 1 else (if y then n + 1 else n))
     by_test true true = refl
     by_test true false = refl
     by_test false true = refl
@@ -55,7 +58,8 @@ counted_before (suc n) [] more l = absurd (omega arith)
 counted_before (suc n) (post ∷ posts) more l = ap (λ (k : ℕ). raised k post.job) (counted_before n posts more (omega arith))
 
 -- with the next post
-counted_next : (posts more : List Post) (post : Post) → counted_to (suc (length posts)) (posts ++ post ∷ more) ≡ raised (counted_to (length posts) (posts ++ post ∷ more)) post.job
+counted_next : (posts more : List Post) (post : Post) → counted_to (suc (length posts)) (posts ++ post ∷ more) ≡ raised
+    (counted_to (length posts) (posts ++ post ∷ more)) post.job
 counted_next [] more post = refl
 counted_next (p ∷ posts) more post =
     ap (λ (k : ℕ). raised k p.job) (counted_next posts more post) ∙ raised_swap (counted_to (length posts) (posts ++ post ∷ more)) post.job p.job
@@ -83,7 +87,8 @@ record Fits (posts : List Post) (a : Account) : Type 0 where
 fits_new : Fits [] new_account
 fits_new = record { done = []; left = []; all = refl; ended = refl; waits = refl; counter = refl }
 
-fits_posted : (posts : List Post) (a b : Account) (post : Post) → Fits posts a → b ≡ record a { waiting = a.waiting ++ post.job ∷ [] } → Fits (posts ++ post ∷ []) b
+fits_posted : (posts : List Post) (a b : Account) (post : Post) → Fits posts a → b ≡ record a { waiting = a.waiting ++ post.job ∷ [] } →
+    Fits (posts ++ post ∷ []) b
 fits_posted posts a b post f e = record {
   done = f.done;
   left = f.left ++ post ∷ [];
@@ -100,14 +105,16 @@ record EndFits (posts : List Post) (number count : ℕ) (b : Account) : Type 0 w
   within : number ≤ length posts
   is : (b.ended ≡ number) × (b.counter ≡ count)
 
-ends_at : (posts : List Post) (a b : Account) (f : Fits posts a) (post : Post) (left : List Post) (job : Request) (rest : List Request) (number : ℕ) (o : Outcome) (count node : ℕ) → f.left ≡ post ∷ left → a.waiting ≡ job ∷ rest →
+ends_at : (posts : List Post) (a b : Account) (f : Fits posts a) (post : Post) (left : List Post) (job : Request) (rest : List Request) (number : ℕ)
+    (o : Outcome) (count node : ℕ) → f.left ≡ post ∷ left → a.waiting ≡ job ∷ rest →
     job ≡ post.job → rest ≡ map job_of_post left → EndsFirst a (job ∷ rest) number o count node b → EndFits posts number count b
 ends_at posts a b f post left job rest number o count node e w same others h =
     let all : posts ≡ f.done ++ post ∷ left = f.all ∙ ap (λ (ps : List Post). f.done ++ ps) e in
     let longer = length-append f.done (post ∷ []) in
     let size : length (f.done ++ post ∷ []) ≡ suc (length f.done) = omega arith in
     let next : number ≡ suc (length f.done) = h.2 ∙ ap suc f.ended in
-    let before : counted_to (length f.done) (f.done ++ post ∷ left) ≡ a.counter = counted_before (length f.done) f.done (post ∷ left) (omega arith) ∙ sym f.counter in
+    let before : counted_to (length f.done) (f.done ++ post ∷ left) ≡ a.counter = counted_before (length f.done) f.done (post ∷ left) (omega arith)
+    ∙ sym f.counter in
     let count_is : count ≡ counted_to (suc (length f.done)) (f.done ++ post ∷ left) =
     h.3 ∙ ap (λ (j : Request). raised a.counter j) same ∙ ap (λ (k : ℕ). raised k post.job) (sym before) ∙ sym (counted_next f.done left post) in
     let split : posts ≡ (f.done ++ post ∷ []) ++ left = all ∙ sym (append_assoc f.done (post ∷ []) left) in
@@ -133,10 +140,12 @@ ends_at posts a b f post left job rest number o count node e w same others h =
 first_of : (job first : Request) (rest others : List Request) → job ∷ rest ≡ first ∷ others → (job ≡ first) × (rest ≡ others)
 first_of job first rest others e = (let f = e in cc, let f = e in cc)
 
-fits_ended : (posts : List Post) (a b : Account) (number : ℕ) (o : Outcome) (count node : ℕ) → Fits posts a → EndsFirst a a.waiting number o count node b → EndFits posts number count b
+fits_ended : (posts : List Post) (a b : Account) (number : ℕ) (o : Outcome) (count node : ℕ) → Fits posts a → EndsFirst a a.waiting number o count node b →
+    EndFits posts number count b
 fits_ended posts a b number o count node f h = by_parts f.left a.waiting refl refl h
   where
-    by_parts : (left : List Post) (waiting : List Request) → f.left ≡ left → a.waiting ≡ waiting → EndsFirst a waiting number o count node b → EndFits posts number count b
+    by_parts : (left : List Post) (waiting : List Request) → f.left ≡ left → a.waiting ≡ waiting → EndsFirst a waiting number o count node b →
+        EndFits posts number count b
     by_parts left [] e w h = absurd h
     by_parts [] (job ∷ rest) e w h = absurd (let none : job ∷ rest ≡ [] = sym w ∙ f.waits ∙ ap (λ (ps : List Post). map job_of_post ps) e in cc)
     by_parts (post ∷ left) (job ∷ rest) e w h =
@@ -167,19 +176,22 @@ record EndIn (entries before after : List Entry) (number count : ℕ) (last : Ac
   tells : count ≡ counted_to number (posts_of entries)
   within : number ≤ length (posts_of entries)
 
-end_in : (entries before after : List Entry) (number : ℕ) (o : Outcome) (count node : ℕ) (last : Account) → entries ≡ before ++ Ended number o count node ∷ after → Give new_account entries last → EndIn entries before after number count last
+end_in : (entries before after : List Entry) (number : ℕ) (o : Outcome) (count node : ℕ) (last : Account) →
+    entries ≡ before ++ Ended number o count node ∷ after → Give new_account entries last → EndIn entries before after number count last
 end_in entries before after number o count node last e g =
     let cut = give_cut new_account last before (Ended number o count node ∷ after) (subst (λ (es : List Entry). Give new_account es last) e g) in
     let end = fits_ended (posts_of before) cut.0 cut.2.0 number o count node (give_fits [] new_account cut.0 before fits_new cut.1) cut.2.1 in
     let posts : posts_of entries ≡ posts_of before ++ posts_of after = ap posts_of e ∙ posts-append before (Ended number o count node ∷ after) in
-    let size : length (posts_of entries) ≡ length (posts_of before) + length (posts_of after) = ap length posts ∙ length-append (posts_of before) (posts_of after) in
+    let size : length (posts_of entries) ≡ length (posts_of before) + length (posts_of after) =
+    ap length posts ∙ length-append (posts_of before) (posts_of after) in
     let low : number ≤ length (posts_of before) = end.within in
     record {
       here = cut.2.0;
       ended = end.is.0;
       counter = end.is.1;
       rest = cut.2.2;
-      tells = end.counter ∙ sym (counted_before number (posts_of before) (posts_of after) end.within) ∙ ap (λ (ps : List Post). counted_to number ps) (sym posts);
+      tells = end.counter ∙ sym (counted_before number (posts_of before) (posts_of after) end.within)
+          ∙ ap (λ (ps : List Post). counted_to number ps) (sym posts);
       within = omega arith;
     }
 
@@ -188,7 +200,8 @@ end_tells_counted m number count k e = (end_in m.minutes e.0 e.1 number e.2 coun
 
 -- ---- two ends
 
-ends_rise : (a : Account) (waiting : List Request) (number : ℕ) (o : Outcome) (count node : ℕ) (b : Account) → EndsFirst a waiting number o count node b → (number ≡ suc a.ended) × (a.counter ≤ count) × (b.counter ≡ count)
+ends_rise : (a : Account) (waiting : List Request) (number : ℕ) (o : Outcome) (count node : ℕ) (b : Account) → EndsFirst a waiting number o count node b →
+    (number ≡ suc a.ended) × (a.counter ≤ count) × (b.counter ≡ count)
 ends_rise a [] number o count node b h = absurd h
 ends_rise a (job ∷ rest) number o count node b h =
     let more = raised_rises a.counter job in
@@ -224,7 +237,8 @@ counter_never_falls m before after number next count later node o k e h =
 -- ---- counted cells
 
 -- the count with a counted post is one more than that before it
-counted_one : (posts : List Post) (number : ℕ) (before after : List Post) (post : Post) → posts ≡ before ++ post ∷ after → number ≡ suc (length before) → IsTrue (is_counted post.job) → counted_to number posts ≡ counted_to (number - 1) posts + 1
+counted_one : (posts : List Post) (number : ℕ) (before after : List Post) (post : Post) → posts ≡ before ++ post ∷ after → number ≡ suc (length before) →
+    IsTrue (is_counted post.job) → counted_to number posts ≡ counted_to (number - 1) posts + 1
 counted_one posts number before after post e n c =
     let low : length before ≡ number - 1 = omega arith in
     ap (λ (k : ℕ). counted_to k posts) n ∙ ap (λ (ps : List Post). counted_to (suc (length before)) ps) e ∙ counted_next before after post
@@ -236,7 +250,8 @@ counted_is_next m number count k h =
     end_tells_counted m number count k h.0 ∙ counted_one (posts_of m.minutes) number h.1.1.0 h.1.1.1 h.1.0 h.1.1.2 h.1.1.3 h.1.2
 
 -- of two counted cells the later one carries a greater counter
-greater : (m : Machine) (number other count : ℕ) → HasLegalMinutes m → HasCountedEnd m.minutes number count → HasCountedEnd m.minutes other count → number < other → ⊥
+greater : (m : Machine) (number other count : ℕ) → HasLegalMinutes m → HasCountedEnd m.minutes number count → HasCountedEnd m.minutes other count →
+    number < other → ⊥
 greater m number other count k a b l =
     let first = end_tells_counted m number count k a.0 in
     let second = counted_is_next m other count k b in
@@ -254,7 +269,8 @@ no_counter_twice m number other count k a b = elim (cases_lt number other) [
 
 -- ---- the counter of the kernel
 
-idle_counter : (posts : List Post) (a : Account) (m : Machine) → Fits posts a → m.counter ≡ a.counter → m.queue ≡ a.waiting → m.counter ≡ counted_to (length posts - length m.queue) posts
+idle_counter : (posts : List Post) (a : Account) (m : Machine) → Fits posts a → m.counter ≡ a.counter → m.queue ≡ a.waiting →
+    m.counter ≡ counted_to (length posts - length m.queue) posts
 idle_counter posts a m f c q =
     let queue : length m.queue ≡ length f.left = ap length (q ∙ f.waits) ∙ length-map f.left job_of_post in
     let size : length posts ≡ length f.done + length f.left = ap length f.all ∙ length-append f.done f.left in
@@ -262,7 +278,8 @@ idle_counter posts a m f c q =
     c ∙ f.counter ∙ sym (counted_before (length f.done) f.done f.left (omega arith)) ∙ ap (λ (ps : List Post). counted_to (length f.done) ps) (sym f.all)
     ∙ ap (λ (n : ℕ). counted_to n posts) begun
 
-open_counter : (posts : List Post) (a : Account) (waiting : List Request) (m : Machine) → Fits posts a → a.waiting ≡ waiting → IsOpen a waiting m → m.counter ≡ counted_to (length posts - length m.queue) posts
+open_counter : (posts : List Post) (a : Account) (waiting : List Request) (m : Machine) → Fits posts a → a.waiting ≡ waiting → IsOpen a waiting m →
+    m.counter ≡ counted_to (length posts - length m.queue) posts
 open_counter posts a [] m f w h = absurd h
 open_counter posts a (job ∷ rest) m f w h = by_left f.left refl
   where
@@ -274,11 +291,13 @@ open_counter posts a (job ∷ rest) m f w h = by_left f.left refl
         let queue : length m.queue ≡ length left = ap length (h.0 ∙ same.1) ∙ length-map left job_of_post in
         let size : length posts ≡ length f.done + length (post ∷ left) = ap length all ∙ length-append f.done (post ∷ left) in
         let begun : suc (length f.done) ≡ length posts - length m.queue = omega arith in
-        let before : a.counter ≡ counted_to (length f.done) (f.done ++ post ∷ left) = f.counter ∙ sym (counted_before (length f.done) f.done (post ∷ left) (omega arith)) in
+        let before : a.counter ≡ counted_to (length f.done) (f.done ++ post ∷ left) =
+        f.counter ∙ sym (counted_before (length f.done) f.done (post ∷ left) (omega arith)) in
         h.1 ∙ ap (λ (j : Request). raised a.counter j) same.0 ∙ ap (λ (n : ℕ). raised n post.job) before ∙ sym (counted_next f.done left post)
         ∙ ap (λ (ps : List Post). counted_to (suc (length f.done)) ps) (sym all) ∙ ap (λ (n : ℕ). counted_to n posts) begun
 
-agreed_counter : (posts : List Post) (a : Account) (m : Machine) (job : Open) → Fits posts a → Agrees a m job → m.counter ≡ counted_to (length posts - length m.queue) posts
+agreed_counter : (posts : List Post) (a : Account) (m : Machine) (job : Open) → Fits posts a → Agrees a m job →
+    m.counter ≡ counted_to (length posts - length m.queue) posts
 agreed_counter posts a m Idle f h = idle_counter posts a m f h.1 h.2
 agreed_counter posts a m (Border travel) f h = open_counter posts a a.waiting m f refl h
 agreed_counter posts a m (Inside e) f h = open_counter posts a a.waiting m f refl h
@@ -307,7 +326,8 @@ ends_within_counter m number count k e =
 -- ---- the jobs that have ended
 
 -- their counter is the number of counted cells among the first posts, as many as have ended
-pub account_counts : (m : Machine) (k : HasLegalMinutes m) → (k.account.counter ≡ counted_to k.account.ended (posts_of m.minutes)) × (k.account.ended ≤ length (posts_of m.minutes))
+pub account_counts : (m : Machine) (k : HasLegalMinutes m) → (k.account.counter ≡ counted_to k.account.ended (posts_of m.minutes)) ×
+    (k.account.ended ≤ length (posts_of m.minutes))
 account_counts m k =
     let f = give_fits [] new_account k.account m.minutes fits_new k.given in
     let size : length (posts_of m.minutes) ≡ length f.done + length f.left = ap length f.all ∙ length-append f.done f.left in

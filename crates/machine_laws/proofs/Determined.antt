@@ -1,6 +1,7 @@
 -- Where memory is ample, each step of the machine is determined, and so is each run.
 use Rattle.std.specs.Prelude.{nat_lt, length}
-use Rattle.std.proofs.Common.{◌≡◌, ℕ, ◌+◌, ◌-◌, ◌<◌, ◌≤◌, Bool, true, false, List, [], ◌∷◌, zero, suc, refl, sym, ap, ◌∙◌, subst, arith, inl, inr, Result, Ok, Err}
+use Rattle.std.proofs.Common.{◌≡◌, ℕ, ◌+◌, ◌-◌, ◌<◌, ◌≤◌, Bool, true, false, List, [], ◌∷◌, zero, suc, refl, sym, ap, ◌∙◌, subst, arith, inl, inr, Result, Ok}
+use Rattle.std.proofs.Common.{Err}
 use Rattle.janus_meaning.specs.Fault as meaning
 use Rattle.janus_meaning.specs.World.{World, Cell}
 use Rattle.janus_machine.specs.Faults.{fault_of}
@@ -94,19 +95,23 @@ reach_same code w m (Stopped i f) (Stopped j g) u v p q =
 
 -- ---- slices
 
-backs_same : (s : Past) (work : Work) (why : Why) (c : ℕ) (t u : Sliced) (new other : State) → Backs s work why c t new → Backs s work why c u other → (t ≡ u) × (new ≡ other)
+backs_same : (s : Past) (work : Work) (why : Why) (c : ℕ) (t u : Sliced) (new other : State) → Backs s work why c t new → Backs s work why c u other → (t ≡ u) ×
+    (new ≡ other)
 backs_same s work why zero t u new other a b = (a.0 ∙ sym b.0, a.1 ∙ sym b.1)
 backs_same s work why (suc c) t u new other a b = (a.0 ∙ sym b.0, a.1 ∙ sym b.1)
 
-arrives_same : (left : ℕ) (s : Past) (travel : Travel) (t u : Sliced) (new other : State) → Arrives left s travel t new → Arrives left s travel u other → (t ≡ u) × (new ≡ other)
+arrives_same : (left : ℕ) (s : Past) (travel : Travel) (t u : Sliced) (new other : State) → Arrives left s travel t new → Arrives left s travel u other →
+    (t ≡ u) × (new ≡ other)
 arrives_same zero s travel t u new other a b = (a.0 ∙ sym b.0, a.1 ∙ sym b.1)
 arrives_same (suc left) s travel t u new other a b = (a.0 ∙ sym b.0, a.1 ∙ sym b.1)
 
-settles_same : (s : Past) (work : Work) (n : ℕ) (w : World) (t u : Sliced) (new other : State) → Settles s work n w t new → Settles s work n w u other → (t ≡ u) × (new ≡ other)
+settles_same : (s : Past) (work : Work) (n : ℕ) (w : World) (t u : Sliced) (new other : State) → Settles s work n w t new → Settles s work n w u other →
+    (t ≡ u) × (new ≡ other)
 settles_same s (Posted cell) n w t u new other a b = (a.0 ∙ sym b.0, a.1 ∙ sym b.1)
 settles_same s (Move travel) n w t u new other a b = arrives_same (cells (stepped travel)) (moved s travel) (stepped travel) t u new other a b
 
-comes_same : (s : Past) (work : Work) (c : ℕ) (ran : Progress) (w : World) (t u : Sliced) (new other : State) → Comes s work c ran w t new → Comes s work c ran w u other → (t ≡ u) × (new ≡ other)
+comes_same : (s : Past) (work : Work) (c : ℕ) (ran : Progress) (w : World) (t u : Sliced) (new other : State) → Comes s work c ran w t new →
+    Comes s work c ran w u other → (t ≡ u) × (new ≡ other)
 comes_same s work c Went w t u new other a b = (a.0 ∙ sym b.0, a.1 ∙ sym b.1)
 comes_same s work c (Ended n) w t u new other a b = settles_same s work n w t u new other a b
 comes_same s work c (Stopped j f) w t u new other a b = backs_same s work (Faulted f j) j t u new other a b
@@ -117,12 +122,14 @@ goes_same s work c m t u new other a b =
     comes_same s work (c + m) a.0 a.1 t u new other a.3
     (subst (λ (x : Progress). Comes s work (c + m) x a.1 u other) (sym same.0) (subst (λ (x : World). Comes s work (c + m) b.0 x u other) (sym same.1) b.3))
 
-slice_in_same : (s : Past) (work : Work) (c : ℕ) (heading : Heading) (m : ℕ) (asked : Bool) (t u : Sliced) (new other : State) → SlicesIn s work c heading m asked t new → SlicesIn s work c heading m asked u other → (t ≡ u) × (new ≡ other)
+slice_in_same : (s : Past) (work : Work) (c : ℕ) (heading : Heading) (m : ℕ) (asked : Bool) (t u : Sliced) (new other : State) →
+    SlicesIn s work c heading m asked t new → SlicesIn s work c heading m asked u other → (t ≡ u) × (new ≡ other)
 slice_in_same s work c GoesOn m false t u new other a b = goes_same s work c m t u new other a b
 slice_in_same s work c GoesOn m true t u new other a b = backs_same s work (WasAsked c) (c - m) t u new other a b
 slice_in_same s work c (GoesBack why) m asked t u new other a b = backs_same s work why (c - m) t u new other a b
 
-slice_same : (s : Past) (job : Open) (m : ℕ) (asked : Bool) (t u : Sliced) (new other : State) → SlicesAt s job m asked t new → SlicesAt s job m asked u other → (t ≡ u) × (new ≡ other)
+slice_same : (s : Past) (job : Open) (m : ℕ) (asked : Bool) (t u : Sliced) (new other : State) → SlicesAt s job m asked t new → SlicesAt s job m asked u other →
+    (t ≡ u) × (new ≡ other)
 slice_same s Idle m asked t u new other a b = (a.0 ∙ sym b.0, a.1 ∙ sym b.1)
 slice_same s (Border travel) m asked t u new other a b = (a.0 ∙ sym b.0, a.1 ∙ sym b.1)
 slice_same s (Inside e) m asked t u new other a b = slice_in_same s e.work e.count e.heading m asked t u new other a b
@@ -132,7 +139,8 @@ slice_same s (Inside e) m asked t u new other a b = slice_in_same s e.work e.cou
 abbrev IsAmple : Begun → Type 0
 IsAmple answer = TellsWant (told.Begin answer) → ⊥
 
-enters_same : (s : Past) (travel : Travel) (t u : Begun) (new other : State) → Enters s travel t new → IsAmple t → Enters s travel u other → IsAmple u → (t ≡ u) × (new ≡ other)
+enters_same : (s : Past) (travel : Travel) (t u : Begun) (new other : State) → Enters s travel t new → IsAmple t → Enters s travel u other → IsAmple u →
+    (t ≡ u) × (new ≡ other)
 enters_same s travel t u new other a ample b enough = elim a [
   | inl x ↦ elim b [
     | inl y ↦ (x.0 ∙ sym y.0, x.1 ∙ sym y.1)
@@ -141,25 +149,30 @@ enters_same s travel t u new other a ample b enough = elim a [
   | inr x ↦ absurd (ample (inr (travel, x.0)))
 ]
 
-departs_same : (left : ℕ) (s : Past) (travel : Travel) (t u : Begun) (new other : State) → Departs left s travel t new → IsAmple t → Departs left s travel u other → IsAmple u → (t ≡ u) × (new ≡ other)
+departs_same : (left : ℕ) (s : Past) (travel : Travel) (t u : Begun) (new other : State) → Departs left s travel t new → IsAmple t →
+    Departs left s travel u other → IsAmple u → (t ≡ u) × (new ≡ other)
 departs_same zero s travel t u new other a ample b enough = (a.0 ∙ sym b.0, a.1 ∙ sym b.1)
 departs_same (suc left) s travel t u new other a ample b enough = enters_same s travel t u new other a ample b enough
 
-takes_move_same : (s : Past) (travel : Travel) (can : Bool) (t u : Begun) (new other : State) → TakesMove s travel can t new → IsAmple t → TakesMove s travel can u other → IsAmple u → (t ≡ u) × (new ≡ other)
+takes_move_same : (s : Past) (travel : Travel) (can : Bool) (t u : Begun) (new other : State) → TakesMove s travel can t new → IsAmple t →
+    TakesMove s travel can u other → IsAmple u → (t ≡ u) × (new ≡ other)
 takes_move_same s travel false t u new other a ample b enough = (a.0 ∙ sym b.0, a.1 ∙ sym b.1)
 takes_move_same s travel true t u new other a ample b enough = departs_same (cells travel) s travel t u new other a ample b enough
 
-takes_goto_same : (s : Past) (n : ℕ) (known : Bool) (t u : Begun) (new other : State) → TakesGoto s n known t new → IsAmple t → TakesGoto s n known u other → IsAmple u → (t ≡ u) × (new ≡ other)
+takes_goto_same : (s : Past) (n : ℕ) (known : Bool) (t u : Begun) (new other : State) → TakesGoto s n known t new → IsAmple t → TakesGoto s n known u other →
+    IsAmple u → (t ≡ u) × (new ≡ other)
 takes_goto_same s n false t u new other a ample b enough = (a.0 ∙ sym b.0, a.1 ∙ sym b.1)
 takes_goto_same s n true t u new other a ample b enough =
     let same = meeting_same s.nodes s.position n a.0 a.1 b.0 b.1 a.2 b.2 in
     departs_same (a.0 + a.1) s (travel_to (aim.Goto n) a.0 a.1) t u new other a.3 ample
-    (subst (λ (j : ℕ). Departs (a.0 + j) s (travel_to (aim.Goto n) a.0 j) u other) (sym same.1) (subst (λ (i : ℕ). Departs (i + b.1) s (travel_to (aim.Goto n) i b.1) u other) (sym same.0) b.3)) enough
+    (subst (λ (j : ℕ). Departs (a.0 + j) s (travel_to (aim.Goto n) a.0 j) u other) (sym same.1)
+    (subst (λ (i : ℕ). Departs (i + b.1) s (travel_to (aim.Goto n) i b.1) u other) (sym same.0) b.3)) enough
 
 real : (answer : Begun) (r : Refusal) → IsAmple answer → answer ≡ begun.Ended (outcome.Refused r) → r ≡ Memory → ⊥
 real answer r ample e same = ample (inl (e ∙ ap (λ (x : Refusal). begun.Ended (outcome.Refused x)) same))
 
-takes_cell_same : (s : Past) (text : List ℕ) (full : Bool) (t u : Begun) (new other : State) → IsLegal s → TakesCell s text full t new → IsAmple t → TakesCell s text full u other → IsAmple u → (t ≡ u) × (new ≡ other)
+takes_cell_same : (s : Past) (text : List ℕ) (full : Bool) (t u : Begun) (new other : State) → IsLegal s → TakesCell s text full t new → IsAmple t →
+    TakesCell s text full u other → IsAmple u → (t ≡ u) × (new ≡ other)
 takes_cell_same s text true t u new other g a ample b enough = (a.0 ∙ sym b.0, a.1 ∙ sym b.1)
 takes_cell_same s text false t u new other g a ample b enough = elim a [
   | inl x ↦ elim b [
@@ -176,17 +189,22 @@ takes_cell_same s text false t u new other g a ample b enough = elim a [
   ]
 ]
 
-takes_same : (s : Past) (r : Request) (t u : Begun) (new other : State) → IsLegal s → Takes s r t new → IsAmple t → Takes s r u other → IsAmple u → (t ≡ u) × (new ≡ other)
+takes_same : (s : Past) (r : Request) (t u : Begun) (new other : State) → IsLegal s → Takes s r t new → IsAmple t → Takes s r u other → IsAmple u → (t ≡ u) ×
+    (new ≡ other)
 takes_same s (RunCell text silent store) t u new other g a ample b enough = takes_cell_same s text (is_full s) t u new other g a ample b enough
-takes_same s (Undo k) t u new other g a ample b enough = takes_move_same s (travel_to aim.Undo k 0) (can_undo s.nodes s.position k) t u new other a ample b enough
-takes_same s (Redo k) t u new other g a ample b enough = takes_move_same s (travel_to aim.Redo 0 k) (can_redo s.favourites s.position k) t u new other a ample b enough
+takes_same s (Undo k) t u new other g a ample b enough =
+    takes_move_same s (travel_to aim.Undo k 0) (can_undo s.nodes s.position k) t u new other a ample b enough
+takes_same s (Redo k) t u new other g a ample b enough =
+    takes_move_same s (travel_to aim.Redo 0 k) (can_redo s.favourites s.position k) t u new other a ample b enough
 takes_same s (Goto n) t u new other g a ample b enough = takes_goto_same s n (nat_lt n (length s.nodes)) t u new other a ample b enough
 
-taken_same : (closing : Bool) (s : Past) (r : Request) (t u : Begun) (new other : State) → IsLegal s → TakesUnless closing s r t new → IsAmple t → TakesUnless closing s r u other → IsAmple u → (t ≡ u) × (new ≡ other)
+taken_same : (closing : Bool) (s : Past) (r : Request) (t u : Begun) (new other : State) → IsLegal s → TakesUnless closing s r t new → IsAmple t →
+    TakesUnless closing s r u other → IsAmple u → (t ≡ u) × (new ≡ other)
 taken_same false s r t u new other g a ample b enough = takes_same s r t u new other g a ample b enough
 taken_same true s r t u new other g a ample b enough = (a.0 ∙ sym b.0, a.1 ∙ sym b.1)
 
-begins_same : (old : Machine) (job : Open) (queue : List Request) (t u : Begun) (new other : Machine) → IsLegal old.state.past → BeginsAt old job queue t new → IsAmple t → BeginsAt old job queue u other → IsAmple u →
+begins_same : (old : Machine) (job : Open) (queue : List Request) (t u : Begun) (new other : Machine) → IsLegal old.state.past → BeginsAt old job queue t new →
+    IsAmple t → BeginsAt old job queue u other → IsAmple u →
     (t ≡ u) × (new ≡ other)
 begins_same old Idle [] t u new other g a ample b enough = (a.0 ∙ sym b.0, a.1 ∙ sym b.1)
 begins_same old Idle (first ∷ rest) t u new other g a ample b enough =
@@ -197,7 +215,8 @@ begins_same old (Border travel) queue t u new other g a ample b enough =
     (same.0, a.2 ∙ ap (λ (x : State). record old { state = x }) same.1 ∙ sym b.2)
 begins_same old (Inside e) queue t u new other g a ample b enough = (a.0 ∙ sym b.0, a.1 ∙ sym b.1)
 
-begin_same : (old : Machine) (t u : Begun) (new other : Machine) → IsLegal old.state.past → IsBegin old t new → IsAmple t → IsBegin old u other → IsAmple u → (t ≡ u) × (new ≡ other)
+begin_same : (old : Machine) (t u : Begun) (new other : Machine) → IsLegal old.state.past → IsBegin old t new → IsAmple t → IsBegin old u other → IsAmple u →
+    (t ≡ u) × (new ≡ other)
 begin_same old t u new other g a ample b enough =
     let same = begins_same old old.state.job old.queue t u a.0 b.0 g a.1 ample b.1 enough in
     (same.0, a.2 ∙ ap (λ (x : Machine). noted x (end_of_begun t)) same.1 ∙ ap (λ (x : Begun). noted b.0 (end_of_begun x)) same.0 ∙ sym b.2)
@@ -223,7 +242,8 @@ refusal_same m NoRoom MinutesFull a b = absurd (b.1 a.places)
 refusal_same m QueueFull NoRoom a b = absurd (let l = a.2 in let h = b.room in omega arith)
 refusal_same m NoRoom QueueFull a b = absurd (let l = b.2 in let h = a.room in omega arith)
 
-pub post_same : (old : Machine) (lane : ℕ) (r : Request) (t u : Result ℕ PostFault) (new other : Machine) → IsPost old lane r t new → (t ≡ Err NoRoom → ⊥) → IsPost old lane r u other → (u ≡ Err NoRoom → ⊥) → (t ≡ u) × (new ≡ other)
+pub post_same : (old : Machine) (lane : ℕ) (r : Request) (t u : Result ℕ PostFault) (new other : Machine) → IsPost old lane r t new → (t ≡ Err NoRoom → ⊥) →
+    IsPost old lane r u other → (u ≡ Err NoRoom → ⊥) → (t ≡ u) × (new ≡ other)
 post_same old lane r (Ok n) (Ok i) new other a ample b enough = (ap (λ (k : ℕ). Ok k) (a.1 ∙ sym b.1), a.2 ∙ sym b.2)
 post_same old lane r (Err f) (Err g) new other a ample b enough = (ap (λ (x : PostFault). Err x) (refusal_same old f g a.0 b.0), a.1 ∙ sym b.1)
 post_same old lane r (Ok n) (Err g) new other a ample b enough = absurd (enough (ap (λ (x : PostFault). Err x) (refusal_same old g NoRoom b.0 a.0)))
@@ -239,7 +259,8 @@ step_is_determined old new other event.Begin (told.Begin t) (told.Begin u) g a a
 step_is_determined old new other (event.Slice m asked) (told.Slice t) (told.Slice u) g a ample b enough =
     let same = slice_same old.state.past old.state.job m asked t u a.0 b.0 a.1 b.1 in (
       ap (λ (x : Sliced). told.Slice x) same.0,
-      a.2 ∙ ap (λ (x : State). noted (record old { state = x }) (end_of_sliced t)) same.1 ∙ ap (λ (x : Sliced). noted (record old { state = b.0 }) (end_of_sliced x)) same.0 ∙ sym b.2,
+      a.2 ∙ ap (λ (x : State). noted (record old { state = x }) (end_of_sliced t)) same.1
+          ∙ ap (λ (x : Sliced). noted (record old { state = b.0 }) (end_of_sliced x)) same.0 ∙ sym b.2,
     )
 step_is_determined old new other event.Shut told.Shut told.Shut g a ample b enough = (refl, a ∙ sym b)
 step_is_determined old new other (event.Post lane posted) (told.Post t) u g a ample b enough = absurd b
@@ -256,7 +277,8 @@ run_is_determined old new other (e ∷ events) [] others g r a q b = absurd r
 run_is_determined old new other (e ∷ events) (t ∷ answers) [] g r a q b = absurd q
 run_is_determined old new other (e ∷ events) (t ∷ answers) (u ∷ others) g r a q b =
     let one = step_is_determined old r.0 q.0 e t u g r.1 a.0 q.1 b.0 in
-    let rest = run_is_determined r.0 new other events answers others (step_legal old e t r.0 g r.1) r.2 a.1 (subst (λ (m : Machine). Run m events others other) (sym one.1) q.2) b.1 in
+    let rest = run_is_determined r.0 new other events answers others (step_legal old e t r.0 g r.1) r.2 a.1
+    (subst (λ (m : Machine). Run m events others other) (sym one.1) q.2) b.1 in
     (ap (λ (x : Told). x ∷ answers) one.0 ∙ ap (λ (xs : List Told). u ∷ xs) rest.0, rest.1)
 
 -- ---- the shown world

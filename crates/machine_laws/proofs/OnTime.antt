@@ -20,17 +20,20 @@ use Rattle.kernel_machine.proofs.LanguageLaws.{exec_inverted, part_inverted, exe
 use Rattle.kernel_machine.proofs.Trees.{run_above, run_below, up_possible, next_below}
 
 -- the code of an undo or a redo has this run
-ran_by : (s : Past) (travel : Travel) (way : Way) → IsLegal s → IsPossible s.nodes s.favourites s.position travel → next_way travel ≡ way → CodeExec (code_of s (Move travel)) (here s) (steps_of s travel) (end_world s travel)
+ran_by : (s : Past) (travel : Travel) (way : Way) → IsLegal s → IsPossible s.nodes s.favourites s.position travel → next_way travel ≡ way →
+    CodeExec (code_of s (Move travel)) (here s) (steps_of s travel) (end_world s travel)
 ran_by s travel Up g p way = rw (way, code_of, steps_of, end_world) (run_above s g (up_possible s travel way p).0)
 ran_by s travel Down g p way = rw (way, code_of, steps_of, end_world) (run_below s (below s travel) g (next_below s travel g way p))
 
-pub ran_to_end : (s : Past) (travel : Travel) → IsLegal s → IsPossible s.nodes s.favourites s.position travel → CodeExec (code_of s (Move travel)) (here s) (steps_of s travel) (end_world s travel)
+pub ran_to_end : (s : Past) (travel : Travel) → IsLegal s → IsPossible s.nodes s.favourites s.position travel →
+    CodeExec (code_of s (Move travel)) (here s) (steps_of s travel) (end_world s travel)
 ran_to_end s travel g p = ran_by s travel (next_way travel) g p refl
 
 pub never_faults : NeverFaults
 never_faults s travel m j fault w g p r = exec_no_stop _ _ _ _ _ _ (ran_to_end s travel g p) r.1
 
-comes_on_time : (s : Past) (travel : Travel) (c m : ℕ) (ran : Progress) (w : World) (told : Sliced) (new : State) → IsLegal s → IsPossible s.nodes s.favourites s.position travel →
+comes_on_time : (s : Past) (travel : Travel) (c m : ℕ) (ran : Progress) (w : World) (told : Sliced) (new : State) → IsLegal s →
+    IsPossible s.nodes s.favourites s.position travel →
     Reaches (code_of s (Move travel)) (here s) (c + m) ran w → Comes s (Move travel) (c + m) ran w told new → IsOnTime s travel c m told new
 comes_on_time s travel c m Went w told new g p r a =
     let ran = ran_to_end s travel g p in
@@ -47,14 +50,17 @@ comes_on_time s travel c m (Ended n) w told new g p r a =
     )
 comes_on_time s travel c m (Stopped j fault) w told new g p r a = absurd (never_faults s travel (c + m) j fault w g p r)
 
-slice_on_time : (s : State) (travel : Travel) (c m : ℕ) (job : Open) (told : Sliced) (new : State) → job ≡ Inside (record { work = Move travel; count = c; heading = GoesOn }) → IsLegal s.past → IsPossibleAt s.past job → IsInTimeAt s.past job →
+slice_on_time : (s : State) (travel : Travel) (c m : ℕ) (job : Open) (told : Sliced) (new : State) →
+    job ≡ Inside (record { work = Move travel; count = c; heading = GoesOn }) → IsLegal s.past → IsPossibleAt s.past job → IsInTimeAt s.past job →
     SlicesAt s.past job m false told new → (c < steps_of s.past travel) × IsOnTime s.past travel c m told new
 slice_on_time s travel c m job told new e g p t a =
     let inside : Entered = record { work = Move travel; count = c; heading = GoesOn } in
     let goes : SlicesAt s.past (Inside inside) m false told new = subst (λ (j : Open). SlicesAt s.past j m false told new) e a in
     let possible : IsPossibleAt s.past (Inside inside) = subst (λ (j : Open). IsPossibleAt s.past j) e p in
-    let in_time : IsInTimeAt s.past (Inside inside) = subst (λ (j : Open). IsInTimeAt s.past j) e t in
-    (in_time (steps_of s.past travel) (end_world s.past travel) (ran_to_end s.past travel g possible), comes_on_time s.past travel c m goes.0 goes.1 told new g possible goes.2 goes.3)
+    let in_time : IsInTimeAt s.past (Inside inside) = subst (λ (j : Open). IsInTimeAt s.past j) e t in (
+      in_time (steps_of s.past travel) (end_world s.past travel) (ran_to_end s.past travel g possible),
+      comes_on_time s.past travel c m goes.0 goes.1 told new g possible goes.2 goes.3,
+    )
 
 pub settles_on_time : SettlesOnTime
 settles_on_time old new travel c m answer g e a =

@@ -63,7 +63,8 @@ undo_tells k j end l = ap (λ (t : Travel). told_cells (finished t end)) (after_
 redo_tells : (k j : ℕ) (end : TravelEnd) → j ≤ k → told_cells (finished (after (travel_to aim.Redo 0 k) j) end) ≡ j
 redo_tells k j end l =
     let e : 0 + j ≡ j = omega arith in
-    subst (λ (i : ℕ). told_cells (finished (after (travel_to aim.Redo 0 k) i) end) ≡ j) e (ap (λ (t : Travel). told_cells (finished t end)) (after_down aim.Redo 0 k j l))
+    subst (λ (i : ℕ). told_cells (finished (after (travel_to aim.Redo 0 k) i) end) ≡ j) e
+    (ap (λ (t : Travel). told_cells (finished t end)) (after_down aim.Redo 0 k j l))
 
 goto_tells : (n up down j : ℕ) (end : TravelEnd) → told_cells (finished (after (travel_to (aim.Goto n) up down) j) end) ≡ j
 goto_tells n up down j end =
@@ -73,14 +74,16 @@ goto_tells n up down j end =
 
 -- ---- how a job ends
 
-travel_same : (s : Past) (t : Travel) (o : Outcome) (x y : State) → ((j : ℕ) (end : TravelEnd) → j ≤ cells t → told_cells (finished (after t j) end) ≡ j) → TravelEnds s t o x → TravelEnds s t o y → x ≡ y
+travel_same : (s : Past) (t : Travel) (o : Outcome) (x y : State) → ((j : ℕ) (end : TravelEnd) → j ≤ cells t → told_cells (finished (after t j) end) ≡ j) →
+    TravelEnds s t o x → TravelEnds s t o y → x ≡ y
 travel_same s t o x y tells a b =
     let e = a.2 in
     let f = b.2 in
     let same : a.0 ≡ b.0 = sym (tells a.0 a.1 e.within) ∙ ap told_cells (sym e.tells ∙ f.tells) ∙ tells b.0 b.1 f.within in
     e.stands ∙ ap (λ (j : ℕ). record { past = gone s t j; job = Idle }) same ∙ sym f.stands
 
-move_same : (s : Past) (t : Travel) (can : Bool) (o : Outcome) (x y : State) → ((j : ℕ) (end : TravelEnd) → j ≤ cells t → told_cells (finished (after t j) end) ≡ j) → MoveEnds s t can o x → MoveEnds s t can o y → x ≡ y
+move_same : (s : Past) (t : Travel) (can : Bool) (o : Outcome) (x y : State) →
+    ((j : ℕ) (end : TravelEnd) → j ≤ cells t → told_cells (finished (after t j) end) ≡ j) → MoveEnds s t can o x → MoveEnds s t can o y → x ≡ y
 move_same s t false o x y tells a b = a.1 ∙ sym b.1
 move_same s t true o x y tells a b = travel_same s t o x y tells a b
 
@@ -89,7 +92,8 @@ goto_same s n false o x y a b = a.1 ∙ sym b.1
 goto_same s n true o x y a b =
     let same = meeting_same s.nodes s.position n a.0 a.1 b.0 b.1 a.2 b.2 in
     travel_same s (travel_to (aim.Goto n) a.0 a.1) o x y (λ j end l. goto_tells n a.0 a.1 j end) a.3
-    (subst (λ (j : ℕ). TravelEnds s (travel_to (aim.Goto n) a.0 j) o y) (sym same.1) (subst (λ (i : ℕ). TravelEnds s (travel_to (aim.Goto n) i b.1) o y) (sym same.0) b.3))
+    (subst (λ (j : ℕ). TravelEnds s (travel_to (aim.Goto n) a.0 j) o y) (sym same.1)
+    (subst (λ (i : ℕ). TravelEnds s (travel_to (aim.Goto n) i b.1) o y) (sym same.0) b.3))
 
 node_same : (s : Past) (text : List ℕ) (o : Outcome) (x y : State) → BecomesNode s text o x → BecomesNode s text o y → x ≡ y
 node_same s text o x y (c, n, w, accepts, ran, runs, new) (d, m, v, also, ended, goes, other) =
@@ -117,7 +121,8 @@ alone k j l = omega arith
 job_same : (s : Past) (job : Request) (o : Outcome) (x y : State) → JobEnds s job o x → JobEnds s job o y → x ≡ y
 job_same s (RunCell text silent store) o x y a b = cell_same s text (is_full s) o x y a b
 job_same s (Undo k) o x y a b = move_same s (travel_to aim.Undo k 0) (can_undo s.nodes s.position k) o x y (λ j end l. undo_tells k j end (alone k j l)) a b
-job_same s (Redo k) o x y a b = move_same s (travel_to aim.Redo 0 k) (can_redo s.favourites s.position k) o x y (λ j end l. redo_tells k j end (omega (arith, l))) a b
+job_same s (Redo k) o x y a b =
+    move_same s (travel_to aim.Redo 0 k) (can_redo s.favourites s.position k) o x y (λ j end l. redo_tells k j end (omega (arith, l))) a b
 job_same s (Goto n) o x y a b = goto_same s n (nat_lt n (length s.nodes)) o x y a b
 
 -- ---- a refused job leaves the past
@@ -130,23 +135,28 @@ not_finished (aim.Goto n) i j end r e = cc
 travel_refuses_not : (s : Past) (t : Travel) (o : Outcome) (y : State) (r : Refusal) → o ≡ outcome.Refused r → TravelEnds s t o y → ⊥
 travel_refuses_not s t o y r e b = (let u = after t b.0 in not_finished u.aim u.went_up u.went_down b.1 r (sym e ∙ (b.2).tells))
 
-move_refused : (s : Past) (t : Travel) (can : Bool) (o : Outcome) (y : State) (r : Refusal) → o ≡ outcome.Refused r → MoveEnds s t can o y → y ≡ record { past = s; job = Idle }
+move_refused : (s : Past) (t : Travel) (can : Bool) (o : Outcome) (y : State) (r : Refusal) → o ≡ outcome.Refused r → MoveEnds s t can o y →
+    y ≡ record { past = s; job = Idle }
 move_refused s t false o y r e b = b.1
 move_refused s t true o y r e b = absurd (travel_refuses_not s t o y r e b)
 
-goto_refused : (s : Past) (n : ℕ) (known : Bool) (o : Outcome) (y : State) (r : Refusal) → o ≡ outcome.Refused r → GotoEnds s n known o y → y ≡ record { past = s; job = Idle }
+goto_refused : (s : Past) (n : ℕ) (known : Bool) (o : Outcome) (y : State) (r : Refusal) → o ≡ outcome.Refused r → GotoEnds s n known o y →
+    y ≡ record { past = s; job = Idle }
 goto_refused s n false o y r e b = b.1
 goto_refused s n true o y r e b = absurd (travel_refuses_not s (travel_to (aim.Goto n) b.0 b.1) o y r e b.3)
 
-text_refused : (s : Past) (text : List ℕ) (o : Outcome) (y : State) (r : Refusal) → o ≡ outcome.Refused r → TextEnds s text o y → y ≡ record { past = s; job = Idle }
+text_refused : (s : Past) (text : List ℕ) (o : Outcome) (y : State) (r : Refusal) → o ≡ outcome.Refused r → TextEnds s text o y →
+    y ≡ record { past = s; job = Idle }
 text_refused s text o y r e (inl b) = absurd (let f : outcome.Refused r ≡ outcome.Ran (length s.nodes) b.1 = sym e ∙ b.4 in cc)
 text_refused s text o y r e (inr b) = b.0
 
-cell_refused : (s : Past) (text : List ℕ) (full : Bool) (o : Outcome) (y : State) (r : Refusal) → o ≡ outcome.Refused r → CellEnds s text full o y → y ≡ record { past = s; job = Idle }
+cell_refused : (s : Past) (text : List ℕ) (full : Bool) (o : Outcome) (y : State) (r : Refusal) → o ≡ outcome.Refused r → CellEnds s text full o y →
+    y ≡ record { past = s; job = Idle }
 cell_refused s text true o y r e b = b.1
 cell_refused s text false o y r e b = text_refused s text o y r e b
 
-job_refused : (s : Past) (job : Request) (o : Outcome) (y : State) (r : Refusal) → o ≡ outcome.Refused r → JobEnds s job o y → y ≡ record { past = s; job = Idle }
+job_refused : (s : Past) (job : Request) (o : Outcome) (y : State) (r : Refusal) → o ≡ outcome.Refused r → JobEnds s job o y →
+    y ≡ record { past = s; job = Idle }
 job_refused s (RunCell text silent store) o y r e b = cell_refused s text (is_full s) o y r e b
 job_refused s (Undo k) o y r e b = move_refused s (travel_to aim.Undo k 0) (can_undo s.nodes s.position k) o y r e b
 job_refused s (Redo k) o y r e b = move_refused s (travel_to aim.Redo 0 k) (can_redo s.favourites s.position k) o y r e b
@@ -166,7 +176,8 @@ may_end_same s job o t u (inr a) (inr b) = one_past t u (job_same s job o _ _ a 
 
 -- ---- the fold
 
-first_same : (old : Account) (waiting : List Request) (number : ℕ) (o : Outcome) (count node : ℕ) (x y : Account) → EndsFirst old waiting number o count node x → EndsFirst old waiting number o count node y → x ≡ y
+first_same : (old : Account) (waiting : List Request) (number : ℕ) (o : Outcome) (count node : ℕ) (x y : Account) →
+    EndsFirst old waiting number o count node x → EndsFirst old waiting number o count node y → x ≡ y
 first_same old [] number o count node x y a b = absurd a
 first_same old (job ∷ rest) number o count node x y a b =
     let same : a.0 ≡ b.0 = may_end_same old.past job o a.0 b.0 a.1 b.1 in

@@ -24,7 +24,8 @@ one_cell w text c d p q = p.meant ∙ ap plain_cell (one_tree A_cell text p.tree
 one_check : (w : World) (text : List ℕ) (f h : check.CheckFault) → IsUnformed w text f → IsUnformed w text h → f ≡ h
 one_check w text f h p q =
     let same : q.tree ≡ p.tree = one_tree A_cell text q.tree p.tree q.is_tree p.is_tree in
-    let first : IsFirst h (cell_faults (shape_of w.store) (heads_of w.procedures) p.tree) = subst (λ (t : tree.Cell). IsFirst h (cell_faults (shape_of w.store) (heads_of w.procedures) t)) same q.first in
+    let first : IsFirst h (cell_faults (shape_of w.store) (heads_of w.procedures) p.tree) =
+    subst (λ (t : tree.Cell). IsFirst h (cell_faults (shape_of w.store) (heads_of w.procedures) t)) same q.first in
     one_first (cell_faults (shape_of w.store) (heads_of w.procedures) p.tree) f h p.first first
 
 pub one_answer : (w : World) (text : List ℕ) (r q : Refusal) → Refuses w text r → (r ≡ Memory → ⊥) → Refuses w text q → (q ≡ Memory → ⊥) → r ≡ q
@@ -56,5 +57,7 @@ not_both w text c Closing sound a b real = b
 not_both w text c (Syntax f) sound a b real = tree_or_refusal A_cell text a.tree f a.is_tree b
 not_both w text c (Check f) sound a b real =
     let same : b.tree ≡ a.tree = one_tree A_cell text b.tree a.tree b.is_tree a.is_tree in
-    let first : IsFirst f (cell_faults (shape_of w.store) (heads_of w.procedures) a.tree) = subst (λ (t : tree.Cell). IsFirst f (cell_faults (shape_of w.store) (heads_of w.procedures) t)) same b.first in
-    nothing_there f (cell_faults (shape_of w.store) (heads_of w.procedures) a.tree) (formed_no_faults (shape_of w.store) (heads_of w.procedures) a.tree a.formed) first.one
+    let first : IsFirst f (cell_faults (shape_of w.store) (heads_of w.procedures) a.tree) =
+    subst (λ (t : tree.Cell). IsFirst f (cell_faults (shape_of w.store) (heads_of w.procedures) t)) same b.first in
+    nothing_there f (cell_faults (shape_of w.store) (heads_of w.procedures) a.tree)
+    (formed_no_faults (shape_of w.store) (heads_of w.procedures) a.tree a.formed) first.one

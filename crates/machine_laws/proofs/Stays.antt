@@ -19,9 +19,11 @@ stays_legal old new (e ∷ events) (t ∷ answers) g r = stays_legal r.0 new eve
 
 -- ---- jobs that go back
 
-reason_in : (p : Past) (r : Request) (s : Past) (work : Work) (c : ℕ) (why : Why) → Holds p r (record { past = s; job = Inside (record { work = work; count = c; heading = GoesBack why }) }) →
+reason_in : (p : Past) (r : Request) (s : Past) (work : Work) (c : ℕ) (why : Why) →
+    Holds p r (record { past = s; job = Inside (record { work = work; count = c; heading = GoesBack why }) }) →
     (c ≤ count_of why) × IsReason (code_of s work) (here s) why
-reason_in p (RunCell text silent store) s (Posted cell) c why h = subst (λ (x : Past). (c ≤ count_of why) × IsReason (Forward cell) (here x) why) (sym h.0.0.same) h.0.1
+reason_in p (RunCell text silent store) s (Posted cell) c why h =
+    subst (λ (x : Past). (c ≤ count_of why) × IsReason (Forward cell) (here x) why) (sym h.0.0.same) h.0.1
 reason_in p (RunCell text silent store) s (Move t) c why h = absurd h.0
 reason_in p (Undo k) s (Posted cell) c why h = absurd h.0
 reason_in p (Undo k) s (Move t) c why h = h.0.1
@@ -32,5 +34,6 @@ reason_in p (Goto n) s (Move t) c why h = h.1.3.1
 
 pub goes_back_for_its_reason : GoesBackForItsReason
 goes_back_for_its_reason s work c why g e =
-    let begun : WasBegun (record { past = s.past; job = Inside (record { work = work; count = c; heading = GoesBack why }) }) = subst (λ (job : Open). HasBegun s.past job) e g.begun in
+    let begun : WasBegun (record { past = s.past; job = Inside (record { work = work; count = c; heading = GoesBack why }) }) =
+    subst (λ (job : Open). HasBegun s.past job) e g.begun in
     reason_in begun.before begun.job s.past work c why begun.holds

@@ -86,33 +86,39 @@ not_stopped t end other h = by_aim t.aim h
 
 -- ---- a slice that is not asked
 
-backs_stops : (s : Past) (work : Work) (why : Why) (c : ℕ) (answer : Sliced) (new : State) → Backs s work why c answer new → StoppedSliced answer new → StopsIn work (GoesBack why)
+backs_stops : (s : Past) (work : Work) (why : Why) (c : ℕ) (answer : Sliced) (new : State) → Backs s work why c answer new → StoppedSliced answer new →
+    StopsIn work (GoesBack why)
 backs_stops s (Posted cell) (WasAsked at) c answer new b x = tt
 backs_stops s (Move travel) why c answer new b x = tt
 backs_stops s (Posted cell) (Faulted f j) zero answer new b x =
     at_slice ⊥ (sliced.Ended (outcome.Failed f j)) answer (record { past = s; job = Idle }) new b.0 b.1 (λ h. h) x
 backs_stops s (Posted cell) (Faulted f j) (suc c) answer new b x =
-    at_slice ⊥ sliced.Backing answer (record { past = s; job = Inside (record { work = Posted cell; count = suc c; heading = GoesBack (Faulted f j) }) }) new b.0 b.1 (λ h. h) x
+    at_slice ⊥ sliced.Backing answer (record { past = s; job = Inside (record { work = Posted cell; count = suc c; heading = GoesBack (Faulted f j) }) })
+    new b.0 b.1 (λ h. h) x
 
 arrives_stops : (left : ℕ) (s : Past) (t : Travel) (answer : Sliced) (new : State) → Arrives left s t answer new → StoppedSliced answer new → ⊥
-arrives_stops zero s t answer new a x = at_slice ⊥ (sliced.Ended (finished t All)) answer (record { past = s; job = Idle }) new a.0 a.1 (not_stopped t All (λ e. cc)) x
+arrives_stops zero s t answer new a x =
+    at_slice ⊥ (sliced.Ended (finished t All)) answer (record { past = s; job = Idle }) new a.0 a.1 (not_stopped t All (λ e. cc)) x
 arrives_stops (suc left) s t answer new a x = at_slice ⊥ sliced.Border answer (record { past = s; job = Border t }) new a.0 a.1 (λ h. h) x
 
 settles_stops : (s : Past) (work : Work) (n : ℕ) (w : World) (answer : Sliced) (new : State) → Settles s work n w answer new → StoppedSliced answer new → ⊥
 settles_stops s (Posted cell) n w answer new a x = at_slice ⊥ _ answer _ new a.0 a.1 (λ h. h) x
 settles_stops s (Move travel) n w answer new a x = arrives_stops (cells (stepped travel)) (moved s travel) (stepped travel) answer new a x
 
-comes_stops : (s : Past) (work : Work) (c : ℕ) (ran : Progress) (w : World) (answer : Sliced) (new : State) → IsLegal s → IsPossibleWork s work → Reaches (code_of s work) (here s) c ran w → Comes s work c ran w answer new → StoppedSliced answer new → ⊥
+comes_stops : (s : Past) (work : Work) (c : ℕ) (ran : Progress) (w : World) (answer : Sliced) (new : State) → IsLegal s → IsPossibleWork s work →
+    Reaches (code_of s work) (here s) c ran w → Comes s work c ran w answer new → StoppedSliced answer new → ⊥
 comes_stops s work c Went w answer new g p r a x = at_slice ⊥ sliced.Going answer _ new a.0 a.1 (λ h. h) x
 comes_stops s work c (Ended n) w answer new g p r a x = settles_stops s work n w answer new a x
 comes_stops s (Posted cell) c (Stopped j f) w answer new g p r a x = backs_stops s (Posted cell) (Faulted f j) j answer new a x
 comes_stops s (Move travel) c (Stopped j f) w answer new g p r a x = never_faults s travel c j f w g p r
 
-slices_stops : (s : Past) (work : Work) (c : ℕ) (heading : Heading) (m : ℕ) (answer : Sliced) (new : State) → IsLegal s → IsPossibleWork s work → SlicesIn s work c heading m false answer new → StoppedSliced answer new → StopsIn work heading
+slices_stops : (s : Past) (work : Work) (c : ℕ) (heading : Heading) (m : ℕ) (answer : Sliced) (new : State) → IsLegal s → IsPossibleWork s work →
+    SlicesIn s work c heading m false answer new → StoppedSliced answer new → StopsIn work heading
 slices_stops s work c GoesOn m answer new g p a x = comes_stops s work (c + m) a.0 a.1 answer new g p a.2 a.3 x
 slices_stops s work c (GoesBack why) m answer new g p a x = backs_stops s work why (c - m) answer new a x
 
-slice_stops : (s : Past) (job : Open) (m : ℕ) (answer : Sliced) (new : State) → IsLegal s → IsPossibleAt s job → SlicesAt s job m false answer new → StoppedSliced answer new → Stops job
+slice_stops : (s : Past) (job : Open) (m : ℕ) (answer : Sliced) (new : State) → IsLegal s → IsPossibleAt s job → SlicesAt s job m false answer new →
+    StoppedSliced answer new → Stops job
 slice_stops s Idle m answer new g p a x = at_slice ⊥ sliced.Nothing answer (record { past = s; job = Idle }) new a.0 a.1 (λ h. h) x
 slice_stops s (Border t) m answer new g p a x = at_slice ⊥ sliced.Nothing answer (record { past = s; job = Border t }) new a.0 a.1 (λ h. h) x
 slice_stops s (Inside e) m answer new g p a x = slices_stops s e.work e.count e.heading m answer new g p a x
@@ -154,7 +160,8 @@ taken_stops : (closing : Bool) (s : Past) (r : Request) (answer : Begun) (new : 
 taken_stops false s r answer new a x = takes_stops s r answer new a x
 taken_stops true s r answer new a x = at_begin ⊥ _ answer _ new a.0 a.1 (λ h. h) x
 
-begins_stops : (old : Machine) (job : Open) (queue : List Request) (answer : Begun) (new : Machine) → old.state.job ≡ job → BeginsAt old job queue answer new → StoppedBegun answer new.state → Stops job
+begins_stops : (old : Machine) (job : Open) (queue : List Request) (answer : Begun) (new : Machine) → old.state.job ≡ job → BeginsAt old job queue answer new →
+    StoppedBegun answer new.state → Stops job
 begins_stops old Idle [] answer new e a x =
     at_begin ⊥ begun.Nothing answer old.state new.state a.0 (ap (λ (m : Machine). m.state) a.1) (λ h. subst (λ (j : Open). Stops j) e h) x
 begins_stops old Idle (first ∷ rest) answer new e a x =
@@ -168,13 +175,15 @@ begin_stops : (old : Machine) (answer : Begun) (new : Machine) → IsBegin old a
 begin_stops old answer new a x =
     begins_stops old old.state.job old.queue answer a.0 refl a.1 (subst (λ (m : Machine). StoppedBegun answer m.state) a.2 x)
 
-slices_of_stop : (old : Machine) (m : ℕ) (answer : Sliced) (new : Machine) → IsLegalState old.state → Step old (event.Slice m false) (told.Slice answer) new → StoppedSliced answer new.state → Stops old.state.job
+slices_of_stop : (old : Machine) (m : ℕ) (answer : Sliced) (new : Machine) → IsLegalState old.state → Step old (event.Slice m false) (told.Slice answer) new →
+    StoppedSliced answer new.state → Stops old.state.job
 slices_of_stop old m answer new g s x =
     slice_stops old.state.past old.state.job m answer s.0 g.legal g.possible s.1 (subst (λ (y : Machine). StoppedSliced answer y.state) s.2 x)
 
 -- ---- runs
 
-runs_stop : (old : Machine) (events : List Event) (answers : List Told) (new : Machine) (o : Outcome) → IsLegalState old.state → Run old events answers new → EndsAs answers o → WasStopped o → HasAsked events ⊎ Stops old.state.job
+runs_stop : (old : Machine) (events : List Event) (answers : List Told) (new : Machine) (o : Outcome) → IsLegalState old.state → Run old events answers new →
+    EndsAs answers o → WasStopped o → HasAsked events ⊎ Stops old.state.job
 runs_stop old [] [] new o g r e w = absurd e
 runs_stop old [] (t ∷ answers) new o g r e w = absurd r
 runs_stop old (d ∷ events) [] new o g r e w = absurd r
@@ -245,7 +254,8 @@ up_declares s (suc up) i l d = d
 tells_undone : (k j : ℕ) (end : TravelEnd) → j ≤ k → finished (after (travel_to aim.Undo k 0) j) end ≡ outcome.Undid j end
 tells_undone k j end l = ap (λ (t : Travel). finished t end) (after_up aim.Undo k 0 j l)
 
-all_undone : (s : Past) (k j : ℕ) (end : TravelEnd) (o : Outcome) (new : State) → EndsAfter s (travel_to aim.Undo k 0) j end o new → (WasStopped o → ⊥) → o ≡ outcome.Undid k All
+all_undone : (s : Past) (k j : ℕ) (end : TravelEnd) (o : Outcome) (new : State) → EndsAfter s (travel_to aim.Undo k 0) j end o new → (WasStopped o → ⊥) →
+    o ≡ outcome.Undid k All
 all_undone s k j All o new e none =
     let all = e.all.0 refl in
     let same : j ≡ k = omega arith in
@@ -267,6 +277,8 @@ can_move s t true o new h m = m
 
 pub undoes_all : UndoesAll
 undoes_all old new k events answers o g can serves idle next run ends none =
-    let ended : JobEnds old.state.past (Undo k) o new.state = subst (λ (b : Bool). EndsUnless b old.state.past (Undo k) o new.state) serves (jobs_end old new (Undo k) events answers o idle next run ends) in
+    let ended : JobEnds old.state.past (Undo k) o new.state =
+    subst (λ (b : Bool). EndsUnless b old.state.past (Undo k) o new.state) serves (jobs_end old new (Undo k) events answers o idle next run ends) in
     let travelled = can_move old.state.past (travel_to aim.Undo k 0) _ o new.state can ended in
-    all_undone old.state.past k travelled.0 travelled.1 o new.state travelled.2 (λ w. none (only_asked_slices_stop old new (Undo k) events answers o g idle next run ends w))
+    all_undone old.state.past k travelled.0 travelled.1 o new.state travelled.2
+    (λ w. none (only_asked_slices_stop old new (Undo k) events answers o g idle next run ends w))

@@ -1,5 +1,6 @@
 -- A publisher that is fed a subscription is told it.
-use Rattle.std.proofs.Common.{◌≡◌, ℕ, ◌≤◌, Bool, true, false, cond, List, [], ◌∷◌, ◌++◌, Option, Some, None, length, take, drop, refl, ap, sym, subst, ◌∙◌, arith, append_assoc, append-nil, length-append, inl, inr, codes, nat_lt, nat_le}
+use Rattle.std.proofs.Common.{◌≡◌, ℕ, ◌≤◌, Bool, true, false, cond, List, [], ◌∷◌, ◌++◌, Option, Some, None, length, take, drop, refl, ap, sym, subst, ◌∙◌}
+use Rattle.std.proofs.Common.{arith, append_assoc, append-nil, length-append, inl, inr, codes, nat_lt, nat_le}
 use Rattle.std.proofs.lemmas.Bool.{cond-true, le-leb}
 use Rattle.std.specs.Str.{bytes_eq}
 use Rattle.zmtp_wire.specs.Greeting.{IsGreeting, major_in, minor_in}
@@ -14,7 +15,8 @@ use Rattle.zmtp_peer.specs.declared.role.Role.TheVariants.{Pub}
 use Rattle.zmtp_peer.specs.declared.terms.Terms.{Terms}
 use Rattle.zmtp_peer.specs.Commands.{command_of}
 use Rattle.zmtp_peer.specs.Handshake.{error_of}
-use Rattle.zmtp_peer.specs.Events.{Event, Subscribe, Later, Passed, Telling, Refusal, behind_ready, newer_told, State, Opening, Open, after, told, later_told, after_later}
+use Rattle.zmtp_peer.specs.Events.{Event, Subscribe, Later, Passed, Telling, Refusal, behind_ready, newer_told, State, Opening, Open, after, told, later_told}
+use Rattle.zmtp_peer.specs.Events.{after_later}
 use Rattle.zmtp_peer.specs.Terms.{is_newer, terms_of}
 use Rattle.zmtp_peer.specs.Reading.{Awaiting, EndsIn, PeerReads, IsStreaming}
 use Rattle.zmtp_peer.specs.Subscribing.{subscription_frame}
@@ -36,12 +38,24 @@ asked-frame : (newer : Bool) (prefix : List ℕ) → length (asked newer prefix)
 asked-frame true prefix small = record {
   head = header_octets (nat_lt 255 (length (asked true prefix).body)) (header_of (asked true prefix));
   spelled = refl;
-  header = record { long = nat_lt 255 (length (asked true prefix).body); spelled = refl; bounded = size_fits (length (asked true prefix).body) small; allowed = refl };
+  header = record {
+    long = nat_lt 255 (length (asked true prefix).body);
+    spelled = refl;
+    bounded = size_fits (length (asked true prefix).body)
+        small;
+    allowed = refl;
+  };
 }
 asked-frame false prefix small = record {
   head = header_octets (nat_lt 255 (length (asked false prefix).body)) (header_of (asked false prefix));
   spelled = refl;
-  header = record { long = nat_lt 255 (length (asked false prefix).body); spelled = refl; bounded = size_fits (length (asked false prefix).body) small; allowed = refl };
+  header = record {
+    long = nat_lt 255 (length (asked false prefix).body);
+    spelled = refl;
+    bounded = size_fits (length (asked false prefix).body)
+        small;
+    allowed = refl;
+  };
 }
 
 asked-taken : (newer : Bool) (prefix : List ℕ) → length (asked newer prefix).body ≤ octet_limit

@@ -51,12 +51,14 @@ metadata_within-enough (suc n) (suc m) (x ∷ xs) a b = and_then-same _ _ (prope
     ap (λ o. option_and_then (λ (others : List Property). Some (y.0 ∷ others)) o) (metadata_within-enough n m y.1 (omega arith) (omega arith)))
 
 -- the properties of octets that aren't empty: the first, and then those of the octets behind it
-pub metadata_of-more : (xs : List ℕ) → 0 < length xs → metadata_of xs ≡ option_and_then (λ first. option_map (λ others. first.0 ∷ others) (metadata_of first.1)) (property_at xs)
+pub metadata_of-more : (xs : List ℕ) → 0 < length xs → metadata_of xs ≡ option_and_then (λ first. option_map (λ others. first.0 ∷ others) (metadata_of first.1))
+    (property_at xs)
 unfolding metadata_of
 metadata_of-more [] h = absurd (omega arith)
 metadata_of-more (x ∷ xs) h = and_then-same _ _ (property_at (x ∷ xs)) (λ y e.
     let less : length y.1 < length (x ∷ xs) = property_at-shorter (x ∷ xs) y e in
-    ap (λ o. option_and_then (λ (others : List Property). Some (y.0 ∷ others)) o) (metadata_within-enough (length xs) (length y.1) y.1 (omega arith) (omega arith))
+    ap (λ o. option_and_then (λ (others : List Property). Some (y.0 ∷ others)) o)
+    (metadata_within-enough (length xs) (length y.1) y.1 (omega arith) (omega arith))
     ∙ as_map y.0 (metadata_within (length y.1) y.1))
   where
     as_map : (p : Property) (o : Option (List Property)) → option_and_then (λ others. Some (p ∷ others)) o ≡ option_map (λ others. p ∷ others) o
@@ -83,7 +85,8 @@ pub announced-more : (name rest : List ℕ) (y : Property × List ℕ) (found : 
     → option_map (λ ps. option_or (option_or found (value_at name y.0)) (value_of name ps)) (metadata_of y.1)
     ≡ option_map (λ ps. option_or found (value_of name ps)) (metadata_of rest)
 announced-more name rest y found some is = by_others (metadata_of y.1)
-    ∙ ap (λ o. option_map (λ ps. option_or found (value_of name ps)) (option_and_then (λ (first : Property × List ℕ). option_map (λ others. first.0 ∷ others) (metadata_of first.1)) o)) (sym is)
+    ∙ ap (λ o. option_map (λ ps. option_or found (value_of name ps))
+    (option_and_then (λ (first : Property × List ℕ). option_map (λ others. first.0 ∷ others) (metadata_of first.1)) o)) (sym is)
     ∙ ap (option_map (λ ps. option_or found (value_of name ps))) (sym (metadata_of-more rest some))
   where
     by_others : (o : Option (List Property)) → option_map (λ ps. option_or (option_or found (value_at name y.0)) (value_of name ps)) o

@@ -1,5 +1,6 @@
 -- A peer that is fed a whole message tells it.
-use Rattle.std.proofs.Common.{◌≡◌, ◌≢◌, ℕ, ◌<◌, ◌≤◌, true, false, List, [], ◌∷◌, ◌++◌, length, take, drop, refl, ap, sym, subst, ◌∙◌, arith, append_assoc, append-nil, length-append, inl, inr, ◌⊎◌, ⊎_elim}
+use Rattle.std.proofs.Common.{◌≡◌, ◌≢◌, ℕ, ◌<◌, ◌≤◌, true, false, List, [], ◌∷◌, ◌++◌, length, take, drop, refl, ap, sym, subst, ◌∙◌, arith, append_assoc}
+use Rattle.std.proofs.Common.{append-nil, length-append, inl, inr, ◌⊎◌, ⊎_elim}
 use Rattle.std.proofs.lemmas.List.{append_cancel_left}
 use Rattle.std.specs.List.{flat_map}
 use Rattle.zmtp_wire.specs.Greeting.{IsGreeting, IsGreetingFault}
@@ -86,7 +87,8 @@ nothing-more all gs hs rest b same left none = (
 )
 
 -- frames that end a reading, or tell more than what stood before the message, go on behind the message
-behind-ended : (terms : Terms) (all gs : List Frame) (from rest b : Rest) (e : Ending) → after terms Opening all ≡ Open [] → Leaves from all rest → Leaves from gs b
+behind-ended : (terms : Terms) (all gs : List Frame) (from rest b : Rest) (e : Ending) → after terms Opening all ≡ Open [] → Leaves from all rest →
+    Leaves from gs b
     → EndsIn (after terms Opening gs) b e → (hs : List Frame) × (gs ≡ all ++ hs) × Leaves rest hs b
 behind-ended terms all gs from rest b e ready first second ends = compared (leaves-compare all gs from rest b first second)
   where
@@ -96,7 +98,8 @@ behind-ended terms all gs from rest b e ready first second ends = compared (leav
     by_state hs same left (Open held) is at = nothing-more all gs hs rest b same left (nothing-behind b rest e hs at left).0
     by_state hs same left (Refused fault) is at =
         let clash : Open [] ≡ Refused fault =
-        sym ready ∙ ap (after terms Opening) same ∙ after-append terms Opening gs hs ∙ ap (λ (s : State). after terms s hs) (sym is) ∙ refused-after terms fault hs in
+        sym ready ∙ ap (after terms Opening) same ∙ after-append terms Opening gs hs ∙ ap (λ (s : State). after terms s hs) (sym is)
+        ∙ refused-after terms fault hs in
         absurd (cc clash)
 
     compared : ((hs : List Frame) × (gs ≡ all ++ hs) × Leaves rest hs b) ⊎ ((hs : List Frame) × (all ≡ gs ++ hs) × Leaves b hs rest)
@@ -110,7 +113,8 @@ behind-told : (terms : Terms) (before gs : List Frame) (message : List (List ℕ
 behind-told terms before gs message from rest b ready first second more =
     compared (leaves-compare (before ++ message_frames message) gs from rest b first second)
   where
-    compared : ((hs : List Frame) × (gs ≡ (before ++ message_frames message) ++ hs) × Leaves rest hs b) ⊎ ((hs : List Frame) × (before ++ message_frames message ≡ gs ++ hs) × Leaves b hs rest)
+    compared : ((hs : List Frame) × (gs ≡ (before ++ message_frames message) ++ hs) × Leaves rest hs b) ⊎
+        ((hs : List Frame) × (before ++ message_frames message ≡ gs ++ hs) × Leaves b hs rest)
         → (hs : List Frame) × (gs ≡ (before ++ message_frames message) ++ hs) × Leaves rest hs b
     compared (inl found) = found
     compared (inr (hs, same, left)) =
@@ -126,11 +130,13 @@ record IsFed (role : Role) (fed : List ℕ) (given : List Event) (greeting : Lis
   pub some : 0 < length message
   pub within : IsWithinLimits message
 
-message-next : (role : Role) (fed : List ℕ) (given events : List Event) (greeting kept : List ℕ) (state : State) (rest : Rest) (message : List (List ℕ)) (more : List ℕ)
+message-next : (role : Role) (fed : List ℕ) (given events : List Event) (greeting kept : List ℕ) (state : State) (rest : Rest) (message : List (List ℕ))
+    (more : List ℕ)
     → IsFed role fed given greeting message
     → PeerReads role (fed ++ (message_octets message ++ more)) (given ++ events) (ending_of state)
     → IsAt role (fed ++ (message_octets message ++ more)) (given ++ events) kept state rest
-    → (es : List Event) × (events ≡ Message message ∷ es) × PeerReads role (fed ++ more) (given ++ es) (ending_of state) × IsAt role (fed ++ more) (given ++ es) kept state rest
+    → (es : List Event) × (events ≡ Message message ∷ es) × PeerReads role (fed ++ more) (given ++ es) (ending_of state) ×
+    IsAt role (fed ++ more) (given ++ es) kept state rest
 message-next role fed given events greeting kept state rest message more is reads leaves = by_reads reads
   where
     st : IsStreaming role fed given greeting (Open []) (whole [])
@@ -202,7 +208,8 @@ message-next role fed given events greeting kept state rest message more is read
     left-without : (hs : List Frame) (b : Rest) → Leaves (whole more) hs b → Leaves (whole (st.stream ++ more)) (st.frames ++ hs) b
     left-without hs b left = leaves-append st.frames hs (whole (st.stream ++ more)) (whole more) b (before-left more) left
 
-    reads-without : (g : IsGreeted role (fed ++ new) (given ++ events) (ending_of state)) (hs : List Frame) → g.frames ≡ all ++ hs → Leaves (whole more) hs g.behind
+    reads-without : (g : IsGreeted role (fed ++ new) (given ++ events) (ending_of state)) (hs : List Frame) → g.frames ≡ all ++ hs →
+        Leaves (whole more) hs g.behind
         → PeerReads role (fed ++ more) (given ++ told terms (Open []) hs) (ending_of state)
     reads-without g hs same left = inr (inr (record {
       complete = long more;
@@ -224,7 +231,8 @@ message-next role fed given events greeting kept state rest message more is read
         let same_stream : u.stream ≡ st.stream ++ new = sym (drop-front kept u.stream u.complete) ∙ ap (drop 64) (sym u.came) ∙ back new in
         let left : Leaves (whole (st.stream ++ new)) u.frames rest = subst (λ (o : List ℕ). Leaves (whole o) u.frames rest) same_stream u.left in
         let reached : state ≡ after terms Opening u.frames = subst (λ (o : List ℕ). state ≡ after (terms_of role o) Opening u.frames) same_greeting u.reached in
-        let tells : given ++ events ≡ told terms Opening u.frames = subst (λ (o : List ℕ). given ++ events ≡ told (terms_of role o) Opening u.frames) same_greeting u.tells in
+        let tells : given ++ events ≡ told terms Opening u.frames =
+        subst (λ (o : List ℕ). given ++ events ≡ told (terms_of role o) Opening u.frames) same_greeting u.tells in
         let longer : length (told terms Opening st.frames) < length (told terms Opening u.frames) =
         omega (arith, ap length (sym st.tells), ap length (sym tells), length-append given events, ap length next) in
         let found = behind-told terms st.frames u.frames message (whole (st.stream ++ new)) (whole more) rest ready all-left left longer in
@@ -239,7 +247,8 @@ message-next role fed given events greeting kept state rest message more is read
           welcome = u.welcome;
           frames = st.frames ++ found.0;
           left = left-without found.0 rest found.2;
-          reached = subst (λ (o : List ℕ). state ≡ after (terms_of role o) Opening (st.frames ++ found.0)) (sym same_greeting) (reached ∙ after-without u.frames found.0 found.1);
+          reached = subst (λ (o : List ℕ). state ≡ after (terms_of role o) Opening (st.frames ++ found.0)) (sym same_greeting)
+              (reached ∙ after-without u.frames found.0 found.1);
           tells = subst (λ (o : List ℕ). given ++ es ≡ told (terms_of role o) Opening (st.frames ++ found.0)) (sym same_greeting)
               (ap (λ (es : List Event). given ++ es) same_events ∙ told-without found.0);
         }
@@ -251,15 +260,18 @@ message-next role fed given events greeting kept state rest message more is read
         (at-parts role (fed ++ new) (given ++ events) kept state rest going leaves))
 
     by_reads : PeerReads role (fed ++ new) (given ++ events) (ending_of state)
-        → (es : List Event) × (events ≡ Message message ∷ es) × PeerReads role (fed ++ more) (given ++ es) (ending_of state) × IsAt role (fed ++ more) (given ++ es) kept state rest
+        → (es : List Event) × (events ≡ Message message ∷ es) × PeerReads role (fed ++ more) (given ++ es) (ending_of state) ×
+        IsAt role (fed ++ more) (given ++ es) kept state rest
     by_reads (inl short) = absurd (omega (arith, short.short, long new))
     by_reads (inr (inl refused)) =
-        absurd (welcome_or_refused greeting st.of refused.fault st.welcome (subst (λ (o : List ℕ). IsGreetingFault o refused.fault) (front new) refused.refused))
+        absurd (welcome_or_refused greeting st.of refused.fault st.welcome
+        (subst (λ (o : List ℕ). IsGreetingFault o refused.fault) (front new) refused.refused))
     by_reads (inr (inr g)) =
         let left : Leaves (whole (st.stream ++ new)) g.frames g.behind = subst (λ (o : List ℕ). Leaves (whole o) g.frames g.behind) (back new) g.left in
         let ends : EndsIn (after terms Opening g.frames) g.behind (ending_of state) =
         subst (λ (o : List ℕ). EndsIn (after (terms_of role o) Opening g.frames) g.behind (ending_of state)) (front new) g.ends in
-        let tells : given ++ events ≡ told terms Opening g.frames = subst (λ (o : List ℕ). given ++ events ≡ told (terms_of role o) Opening g.frames) (front new) g.tells in
+        let tells : given ++ events ≡ told terms Opening g.frames =
+        subst (λ (o : List ℕ). given ++ events ≡ told (terms_of role o) Opening g.frames) (front new) g.tells in
         let found = behind-ended terms all g.frames (whole (st.stream ++ new)) (whole more) g.behind (ending_of state) all-ready all-left left ends in
         let next : events ≡ Message message ∷ told terms (Open []) found.0 = events-are g.frames found.0 found.1 tells in
         (told terms (Open []) found.0, next, reads-without g found.0 found.1 found.2, stays (told terms (Open []) found.0) next)
@@ -274,10 +286,13 @@ stands-next s t fed given events message more other role between some within h k
     let streaming : IsStreaming s.role fed given s.greeting (Open []) (whole []) =
     subst (λ (r : Rest). IsStreaming s.role fed given s.greeting (Open []) r) between.nothing here in
     let octets = fed ++ (message_octets message ++ more) in
-    let reads : PeerReads s.role octets (given ++ events) (ending_of t.state) = subst (λ (r : Role). PeerReads r octets (given ++ events) (ending_of t.state)) role k.reads in
-    let leaves : IsAt s.role octets (given ++ events) t.greeting t.state t.rest = subst (λ (r : Role). IsAt r octets (given ++ events) t.greeting t.state t.rest) role k.leaves in
+    let reads : PeerReads s.role octets (given ++ events) (ending_of t.state) =
+    subst (λ (r : Role). PeerReads r octets (given ++ events) (ending_of t.state)) role k.reads in
+    let leaves : IsAt s.role octets (given ++ events) t.greeting t.state t.rest =
+    subst (λ (r : Role). IsAt r octets (given ++ events) t.greeting t.state t.rest) role k.leaves in
     let next =
-    message-next s.role fed given events s.greeting t.greeting t.state t.rest message more (record { streaming = streaming; told_whole = other; some = some; within = within }) reads leaves in (
+    message-next s.role fed given events s.greeting t.greeting t.state t.rest message more
+    (record { streaming = streaming; told_whole = other; some = some; within = within }) reads leaves in (
       next.0,
       next.1,
       record {

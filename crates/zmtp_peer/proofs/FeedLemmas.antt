@@ -30,7 +30,8 @@ ends-partial (Refused fault) rest partial = inr (inl (refl, tt))
 
 -- nothing was read, where the piece was taken back
 pub unread : {T E : Type 0} (r : Result T E) (old new : Connection) (before : Rest) → before ≡ old.decoder.rest
-    → OnErr r (new.decoder.rest ≡ before) → OnErr r (new.intake.stage ≡ old.intake.stage) → OnErr r (bodies new.intake.held.items ≡ bodies old.intake.held.items) → OnErr r (IsUnread old new)
+    → OnErr r (new.decoder.rest ≡ before) → OnErr r (new.intake.stage ≡ old.intake.stage) →
+    OnErr r (bodies new.intake.held.items ≡ bodies old.intake.held.items) → OnErr r (IsUnread old new)
 unread (Ok x) old new before same rest stage held = tt
 unread (Err e) old new before same rest stage held = record { rest = rest ∙ same; stage = stage; held = held }
 

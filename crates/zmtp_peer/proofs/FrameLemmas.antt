@@ -38,10 +38,12 @@ pub after-append : (terms : Terms) (state : State) (fs gs : List Frame) → afte
 after-append terms state [] gs = refl
 after-append terms state (f ∷ fs) gs = after-append terms (after_frame terms state f) fs gs
 
-pub told-append : (terms : Terms) (state : State) (fs gs : List Frame) → told terms state (fs ++ gs) ≡ told terms state fs ++ told terms (after terms state fs) gs
+pub told-append : (terms : Terms) (state : State) (fs gs : List Frame) → told terms state (fs ++ gs) ≡ told terms state fs ++ told terms (after terms state fs)
+    gs
 told-append terms state [] gs = refl
 told-append terms state (f ∷ fs) gs =
-    ap (λ es. frame_told terms state f ++ es) (told-append terms (after_frame terms state f) fs gs) ∙ sym (append_assoc (frame_told terms state f) (told terms (after_frame terms state f) fs) (told terms (after terms (after_frame terms state f) fs) gs))
+    ap (λ es. frame_told terms state f ++ es) (told-append terms (after_frame terms state f) fs gs)
+    ∙ sym (append_assoc (frame_told terms state f) (told terms (after_frame terms state f) fs) (told terms (after terms (after_frame terms state f) fs) gs))
 
 -- what was told, and what one more frame tells
 events-more : (terms : Terms) (state : State) (fs : List Frame) (f : Frame) (xs ys zs : List Event) → ys ≡ xs ++ told terms state fs
@@ -72,7 +74,8 @@ keeps-whole [] held left = keeps-same held
 keeps-whole (Whole message ∷ others) held left = keeps-same message
 keeps-whole (OfCommand event ∷ others) held left = keeps-whole others held left
 
-pub keeps-told : (brought : List Brought) (held : List (List ℕ)) (event : Event) → Keeps (first_of brought held) (first_of (brought ++ OfCommand event ∷ []) held)
+pub keeps-told : (brought : List Brought) (held : List (List ℕ)) (event : Event) →
+    Keeps (first_of brought held) (first_of (brought ++ OfCommand event ∷ []) held)
 keeps-told [] held event = keeps-same held
 keeps-told (Whole message ∷ others) held event = keeps-same message
 keeps-told (OfCommand first ∷ others) held event = keeps-told others held event
@@ -112,15 +115,18 @@ pub taken-more : (terms : Terms) (rest : Rest) (old : Intake) (behind next : Res
 taken-more terms rest old behind next new last f t takes state events = record {
   frames = t.frames ++ f ∷ [];
   left = leaves_more t.frames f rest behind next t.left takes;
-  events = events-more terms (state_of old) t.frames f (told_by terms.role old) (told_by terms.role new) (told_by terms.role last) t.events (events ∙ ap (λ s. told_by terms.role new ++ frame_told terms s f) t.state);
+  events = events-more terms (state_of old) t.frames f (told_by terms.role old) (told_by terms.role new) (told_by terms.role last) t.events
+      (events ∙ ap (λ s. told_by terms.role new ++ frame_told terms s f) t.state);
   state = state ∙ ap (λ s. after_frame terms s f) t.state ∙ sym (after-append terms (state_of old) t.frames (f ∷ []));
 }
 
 -- frames are taken, up to one that refuses the peer, or up to the end of what came
-pub taken-refused : (terms : Terms) (rest : Rest) (old : Intake) (behind : Rest) (new : Intake) → Taken terms rest old behind new → IsRefusal (state_of new) → TakesFrames terms rest old behind new
+pub taken-refused : (terms : Terms) (rest : Rest) (old : Intake) (behind : Rest) (new : Intake) → Taken terms rest old behind new → IsRefusal (state_of new) →
+    TakesFrames terms rest old behind new
 taken-refused terms rest old behind new t refused = record { frames = t.frames; left = t.left; events = t.events; ends = inr (inl (t.state, refused)) }
 
-pub taken-partial : (terms : Terms) (rest : Rest) (old : Intake) (behind : Rest) (new : Intake) → Taken terms rest old behind new → IsPartial behind → ¬ (IsRefusal (state_of new)) → TakesFrames terms rest old behind new
+pub taken-partial : (terms : Terms) (rest : Rest) (old : Intake) (behind : Rest) (new : Intake) → Taken terms rest old behind new → IsPartial behind →
+    ¬ (IsRefusal (state_of new)) → TakesFrames terms rest old behind new
 taken-partial terms rest old behind new t partial going = record { frames = t.frames; left = t.left; events = t.events; ends = inl (partial, t.state, going) }
 
 -- a stage that is no refusal

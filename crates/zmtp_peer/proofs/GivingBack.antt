@@ -11,7 +11,8 @@ none_both [] ys e = (refl, e)
 none_both (x ∷ xs) ys e = absurd (cc e)
 
 -- a piece leaves nothing only where there was nothing and it is empty
-piece_gives_back : (old new : Decoding) (piece : List ℕ) → SameButRoom (fed old piece) new → (old.rest.octets ≡ [] → new.room ≤ max KEPT_BUFFER_OCTETS (4 * length piece)) → GivesBack new.rest new.room
+piece_gives_back : (old new : Decoding) (piece : List ℕ) → SameButRoom (fed old piece) new →
+    (old.rest.octets ≡ [] → new.room ≤ max KEPT_BUFFER_OCTETS (4 * length piece)) → GivesBack new.rest new.room
 piece_gives_back old new piece same room = λ none.
     let both = none_both old.rest.octets piece (sym (ap (λ (d : Decoding). d.rest.octets) same) ∙ none) in
     subst (λ (p : List ℕ). new.room ≤ max KEPT_BUFFER_OCTETS (4 * length p)) both.1 (room both.0)

@@ -1,5 +1,6 @@
 -- The laws of what octets tell a peer.
-use Rattle.std.proofs.Common.{◌≡◌, ℕ, ◌<◌, ◌≤◌, Bool, true, false, List, [], ◌∷◌, ◌++◌, length, take, drop, refl, ap, sym, subst, ◌∙◌, arith, append_assoc, append-nil, inl, inr, ◌⊎◌, slice_index}
+use Rattle.std.proofs.Common.{◌≡◌, ℕ, ◌<◌, ◌≤◌, Bool, true, false, List, [], ◌∷◌, ◌++◌, length, take, drop, refl, ap, sym, subst, ◌∙◌, arith, append_assoc}
+use Rattle.std.proofs.Common.{append-nil, inl, inr, ◌⊎◌, slice_index}
 use Rattle.std.specs.Str.{bytes_eq}
 use Rattle.std.proofs.lemmas.Bool.{cases_eq, cases_lt, false≢true}
 use Rattle.std.proofs.lemmas.List.Elements.{All-drop}
@@ -38,8 +39,10 @@ cuts-from s t [] fed given h run =
     (subst (λ (o : List ℕ). Stands o (given ++ []) s) (sym (append-nil fed)) (subst (λ (es : List Event). Stands fed es s) (sym (append-nil given)) h))
 cuts-from s t (p ∷ ps) fed given h run =
     let on = cuts-from run.0 t ps (fed ++ p.0) (given ++ p.1) (run.1 fed given h) run.2 in
-    subst (λ (o : List ℕ). Stands o (given ++ flat_map (λ (q : List ℕ × List Event). q.1) (p ∷ ps)) t) (append_assoc fed p.0 (flat_map (λ (q : List ℕ × List Event). q.0) ps))
-    (subst (λ (es : List Event). Stands ((fed ++ p.0) ++ flat_map (λ (q : List ℕ × List Event). q.0) ps) es t) (append_assoc given p.1 (flat_map (λ (q : List ℕ × List Event). q.1) ps)) on)
+    subst (λ (o : List ℕ). Stands o (given ++ flat_map (λ (q : List ℕ × List Event). q.1) (p ∷ ps)) t)
+    (append_assoc fed p.0 (flat_map (λ (q : List ℕ × List Event). q.0) ps))
+    (subst (λ (es : List Event). Stands ((fed ++ p.0) ++ flat_map (λ (q : List ℕ × List Event). q.0) ps) es t)
+    (append_assoc given p.1 (flat_map (λ (q : List ℕ × List Event). q.1) ps)) on)
 
 pub no_cut_matters : NoCutMatters
 no_cut_matters s t ps h run = (cuts-from s t ps [] [] h run).reads
@@ -100,12 +103,17 @@ ends-first terms hs a b e d (Refused fault) l h k =
     (refused-told terms fault hs, h ∙ sym (subst (λ (s : State). EndsIn s b d) (refused-after terms fault hs) k))
 
 -- two readings of one stream, where the frames of the second go on
-one-way : (terms : Terms) (fs gs hs : List Frame) (a b : Rest) (e d : Ending) → gs ≡ fs ++ hs → Leaves a hs b → EndsIn (after terms Opening fs) a e → EndsIn (after terms Opening gs) b d
+one-way : (terms : Terms) (fs gs hs : List Frame) (a b : Rest) (e d : Ending) → gs ≡ fs ++ hs → Leaves a hs b → EndsIn (after terms Opening fs) a e →
+    EndsIn (after terms Opening gs) b d
     → (told terms Opening fs ≡ told terms Opening gs) × (e ≡ d)
 one-way terms fs gs hs a b e d same l h k =
-    let k2 : EndsIn (after terms (after terms Opening fs) hs) b d = subst (λ (s : State). EndsIn s b d) (ap (after terms Opening) same ∙ after-append terms Opening fs hs) k in
-    let first = ends-first terms hs a b e d (after terms Opening fs) l h k2 in
-    (sym (append-nil (told terms Opening fs)) ∙ ap (λ (es : List Event). told terms Opening fs ++ es) (sym first.0) ∙ sym (told-append terms Opening fs hs) ∙ ap (told terms Opening) (sym same), first.1)
+    let k2 : EndsIn (after terms (after terms Opening fs) hs) b d =
+    subst (λ (s : State). EndsIn s b d) (ap (after terms Opening) same ∙ after-append terms Opening fs hs) k in
+    let first = ends-first terms hs a b e d (after terms Opening fs) l h k2 in (
+      sym (append-nil (told terms Opening fs)) ∙ ap (λ (es : List Event). told terms Opening fs ++ es) (sym first.0) ∙ sym (told-append terms Opening fs hs)
+          ∙ ap (told terms Opening) (sym same),
+      first.1,
+    )
 
 one-fault-of-greeting : (octets : List ℕ) (f g : WireFault) → IsGreetingFault octets f → IsGreetingFault octets g → f ≡ g
 one-fault-of-greeting octets BadSignature BadSignature h k = refl
@@ -132,13 +140,18 @@ one_reading role octets es fs e d (inl h) (inr (inl k)) = absurd (omega (arith, 
 one_reading role octets es fs e d (inl h) (inr (inr k)) = absurd (omega (arith, h.short, k.complete))
 one_reading role octets es fs e d (inr (inl h)) (inl k) = absurd (omega (arith, k.short, h.complete))
 one_reading role octets es fs e d (inr (inr h)) (inl k) = absurd (omega (arith, k.short, h.complete))
-one_reading role octets es fs e d (inr (inl h)) (inr (inl k)) =
-    (h.quiet ∙ sym k.quiet, h.fails ∙ ap (λ (x : WireFault). Failing (Wire x)) (one-fault-of-greeting (take 64 octets) h.fault k.fault h.refused k.refused) ∙ sym k.fails)
+one_reading role octets es fs e d (inr (inl h)) (inr (inl k)) = (
+  h.quiet ∙ sym k.quiet,
+  h.fails ∙ ap (λ (x : WireFault). Failing (Wire x)) (one-fault-of-greeting (take 64 octets) h.fault k.fault h.refused k.refused)
+      ∙ sym k.fails,
+)
 one_reading role octets es fs e d (inr (inl h)) (inr (inr k)) = absurd (welcome_or_refused (take 64 octets) k.greeting h.fault k.welcome h.refused)
 one_reading role octets es fs e d (inr (inr h)) (inr (inl k)) = absurd (welcome_or_refused (take 64 octets) h.greeting k.fault h.welcome k.refused)
-one_reading role octets es fs e d (inr (inr h)) (inr (inr k)) = compared (leaves-compare h.frames k.frames (whole (drop 64 octets)) h.behind k.behind h.left k.left)
+one_reading role octets es fs e d (inr (inr h)) (inr (inr k)) =
+    compared (leaves-compare h.frames k.frames (whole (drop 64 octets)) h.behind k.behind h.left k.left)
   where
-    compared : ((hs : List Frame) × (k.frames ≡ h.frames ++ hs) × Leaves h.behind hs k.behind) ⊎ ((hs : List Frame) × (h.frames ≡ k.frames ++ hs) × Leaves k.behind hs h.behind) → (es ≡ fs) × (e ≡ d)
+    compared : ((hs : List Frame) × (k.frames ≡ h.frames ++ hs) × Leaves h.behind hs k.behind) ⊎
+        ((hs : List Frame) × (h.frames ≡ k.frames ++ hs) × Leaves k.behind hs h.behind) → (es ≡ fs) × (e ≡ d)
     compared (inl (hs, same, l)) =
         let both = one-way (terms_of role (take 64 octets)) h.frames k.frames hs h.behind k.behind e d same l h.ends k.ends in
         (h.tells ∙ both.0 ∙ sym k.tells, both.1)
@@ -150,24 +163,35 @@ one_reading role octets es fs e d (inr (inr h)) (inr (inr k)) = compared (leaves
 welcome-or-refused : (octets : List ℕ) → ((g : Greeting) × IsGreeting octets g) ⊎ ((fault : WireFault) × IsGreetingFault octets fault)
 welcome-or-refused octets = by_first (cases_eq (slice_index octets 0) 255)
   where
-    by_mechanism : HasSignature octets → 3 ≤ major_in octets → (b : Bool) → bytes_eq (mechanism_in octets) null_mechanism ≡ b → ((g : Greeting) × IsGreeting octets g) ⊎ ((fault : WireFault) × IsGreetingFault octets fault)
+    by_mechanism : HasSignature octets → 3 ≤ major_in octets → (b : Bool) → bytes_eq (mechanism_in octets) null_mechanism ≡ b →
+        ((g : Greeting) × IsGreeting octets g) ⊎ ((fault : WireFault) × IsGreetingFault octets fault)
     by_mechanism signature new true h =
         inl (
           record { major = major_in octets; minor = minor_in octets; as_server = as_server_in octets },
-          record { signature = signature; major = refl; minor = refl; new_enough = new; mechanism = (bytes_eq-Decides (mechanism_in octets) null_mechanism).0 h; as_server = refl },
+          record {
+            signature = signature;
+            major = refl;
+            minor = refl;
+            new_enough = new;
+            mechanism = (bytes_eq-Decides (mechanism_in octets) null_mechanism).0 h;
+            as_server = refl;
+          },
         )
     by_mechanism signature new false h =
         inr (BadMechanism, (signature, new, λ same. false≢true (sym h ∙ (bytes_eq-Decides (mechanism_in octets) null_mechanism).1 same)))
 
-    by_version : HasSignature octets → (major_in octets < 3) ⊎ (3 ≤ major_in octets) → ((g : Greeting) × IsGreeting octets g) ⊎ ((fault : WireFault) × IsGreetingFault octets fault)
+    by_version : HasSignature octets → (major_in octets < 3) ⊎ (3 ≤ major_in octets) → ((g : Greeting) × IsGreeting octets g) ⊎
+        ((fault : WireFault) × IsGreetingFault octets fault)
     by_version signature (inl old) = inr (OldVersion, (signature, old))
     by_version signature (inr new) = by_mechanism signature new (bytes_eq (mechanism_in octets) null_mechanism) refl
 
-    by_last : slice_index octets 0 ≡ 255 → (slice_index octets 9 ≡ 127) ⊎ (slice_index octets 9 ≡ 127 → ⊥) → ((g : Greeting) × IsGreeting octets g) ⊎ ((fault : WireFault) × IsGreetingFault octets fault)
+    by_last : slice_index octets 0 ≡ 255 → (slice_index octets 9 ≡ 127) ⊎ (slice_index octets 9 ≡ 127 → ⊥) → ((g : Greeting) × IsGreeting octets g) ⊎
+        ((fault : WireFault) × IsGreetingFault octets fault)
     by_last first (inl last) = by_version (record { first = first; last = last }) (cases_lt (major_in octets) 3)
     by_last first (inr not) = inr (BadSignature, λ signature. not signature.last)
 
-    by_first : (slice_index octets 0 ≡ 255) ⊎ (slice_index octets 0 ≡ 255 → ⊥) → ((g : Greeting) × IsGreeting octets g) ⊎ ((fault : WireFault) × IsGreetingFault octets fault)
+    by_first : (slice_index octets 0 ≡ 255) ⊎ (slice_index octets 0 ≡ 255 → ⊥) → ((g : Greeting) × IsGreeting octets g) ⊎
+        ((fault : WireFault) × IsGreetingFault octets fault)
     by_first (inl first) = by_last first (cases_eq (slice_index octets 9) 127)
     by_first (inr not) = inr (BadSignature, λ signature. not signature.first)
 
@@ -184,13 +208,19 @@ ending-in (Refused fault) rest end ends = (Failing fault, refl)
 pub octets_are_read : OctetsAreRead
 octets_are_read role octets each = by_length (cases_lt (length octets) 64)
   where
-    greeted : 64 ≤ length octets → (g : Greeting) → IsGreeting (take 64 octets) g → (fs : List Frame) (end : End) → stream.Reads (drop 64 octets) fs end → (es : List Event) × (e : Ending) × PeerReads role octets es e
+    greeted : 64 ≤ length octets → (g : Greeting) → IsGreeting (take 64 octets) g → (fs : List Frame) (end : End) → stream.Reads (drop 64 octets) fs end →
+        (es : List Event) × (e : Ending) × PeerReads role octets es e
     greeted long g welcome fs end reads =
         let terms = terms_of role (take 64 octets) in
-        let ending = ending-in (after terms Opening fs) reads.0 end reads.2 in
-        (told terms Opening fs, ending.0, inr (inr (record { complete = long; greeting = g; welcome = welcome; frames = fs; behind = reads.0; left = reads.1; tells = refl; ends = ending.1 })))
+        let ending = ending-in (after terms Opening fs) reads.0 end reads.2 in (
+          told terms Opening fs,
+          ending.0,
+          inr (inr (record
+              { complete = long; greeting = g; welcome = welcome; frames = fs; behind = reads.0; left = reads.1; tells = refl; ends = ending.1 })),
+        )
 
-    by_greeting : 64 ≤ length octets → ((g : Greeting) × IsGreeting (take 64 octets) g) ⊎ ((fault : WireFault) × IsGreetingFault (take 64 octets) fault) → (es : List Event) × (e : Ending) × PeerReads role octets es e
+    by_greeting : 64 ≤ length octets → ((g : Greeting) × IsGreeting (take 64 octets) g) ⊎ ((fault : WireFault) × IsGreetingFault (take 64 octets) fault) →
+        (es : List Event) × (e : Ending) × PeerReads role octets es e
     by_greeting long (inl (g, welcome)) =
         let all = every_stream_is_read (drop 64 octets) (All-drop (λ octet. octet < 256) 64 octets each) in
         greeted long g welcome all.0 all.1 all.2

@@ -1,5 +1,6 @@
 -- How many prefixes of each length stand in the table.
-use Rattle.std.proofs.Common.{◌≡◌, ℕ, ◌+◌, ◌-◌, ◌<◌, ◌≤◌, arith, Bool, true, false, List, [], ◌∷◌, Option, Some, None, refl, ap, sym, ◌∙◌, cond, unwrap_or, IfSome, IfNone, length, take}
+use Rattle.std.proofs.Common.{◌≡◌, ℕ, ◌+◌, ◌-◌, ◌<◌, ◌≤◌, arith, Bool, true, false, List, [], ◌∷◌, Option, Some, None, refl, ap, sym, ◌∙◌, cond, unwrap_or}
+use Rattle.std.proofs.Common.{IfSome, IfNone, length, take}
 use Rattle.std.proofs.lemmas.Bool.{cases_lt}
 use mathlib.Core.Logic.{⊎_elim}
 use Rattle.std.specs.Map.{lookup, set_value, remove_entry}
@@ -37,7 +38,8 @@ pub number-set : (p : List ℕ) (w : ℕ) (n : ℕ) (es : List (Vec ℕ Global �
 number-set p w n [] = refl
 number-set p w n (e ∷ es) = by_test (is_key p e.0) (number-set p w n es)
   where
-    by_test : (b : Bool) → number_of_length n (table_of (set_value (is_key p) es w)) ≡ number_of_length n (table_of es) → number_of_length n (table_of (cond b ((e.0, w) ∷ es) (e ∷ set_value (is_key p) es w))) ≡ number_of_length n (table_of (e ∷ es))
+    by_test : (b : Bool) → number_of_length n (table_of (set_value (is_key p) es w)) ≡ number_of_length n (table_of es) →
+        number_of_length n (table_of (cond b ((e.0, w) ∷ es) (e ∷ set_value (is_key p) es w))) ≡ number_of_length n (table_of (e ∷ es))
     by_test true rest = refl
     by_test false rest = ap (λ m. one_at (length e.0.items) n + m) rest
 
@@ -48,7 +50,8 @@ number-insert k w n [] none = refl
 number-insert k w n (e ∷ es) none = by_order (keys_cmp k e.0) none (number-insert k w n es)
   where
     by_order : (o : Ordering) → cond (is_eq o) (Some e.1) (lookup (is_key k.items) es) ≡ None
-        → (lookup (is_key k.items) es ≡ None → number_of_length n (table_of (insert_entry keys_cmp es k w)) ≡ one_at (length k.items) n + number_of_length n (table_of es))
+        → (lookup (is_key k.items) es ≡ None → number_of_length n (table_of (insert_entry keys_cmp es k w)) ≡ one_at (length k.items) n + number_of_length n
+        (table_of es))
         → number_of_length n (table_of (match_ordering o ((k, w) ∷ e ∷ es) ((e.0, w) ∷ es) (e ∷ insert_entry keys_cmp es k w)))
         ≡ one_at (length k.items) n + number_of_length n (table_of (e ∷ es))
     by_order Less h rest = refl
@@ -56,7 +59,8 @@ number-insert k w n (e ∷ es) none = by_order (keys_cmp k e.0) none (number-ins
     by_order Greater h rest = omega (arith, rest h)
 
 -- a prefix that has a place is one of its length
-number-has : (p : List ℕ) (v : ℕ) (n : ℕ) (es : List (Vec ℕ Global × ℕ)) → lookup (is_key p) es ≡ Some v → one_at (length p) n ≤ number_of_length n (table_of es)
+number-has : (p : List ℕ) (v : ℕ) (n : ℕ) (es : List (Vec ℕ Global × ℕ)) → lookup (is_key p) es ≡ Some v →
+    one_at (length p) n ≤ number_of_length n (table_of es)
 number-has p v n [] some = cc
 number-has p v n (e ∷ es) some = by_test (is_key p e.0) (λ same. found-is p e.0 same) some (number-has p v n es)
   where
@@ -75,7 +79,8 @@ number-remove p v n (e ∷ es) some = by_test (is_key p e.0) (λ same. found-is 
     by_test : (b : Bool) → (b ≡ true → p ≡ e.0.items) → cond b (Some e.1) (lookup (is_key p) es) ≡ Some v
         → (lookup (is_key p) es ≡ Some v → one_at (length p) n ≤ number_of_length n (table_of es))
         → (lookup (is_key p) es ≡ Some v → number_of_length n (table_of (remove_entry (is_key p) es)) ≡ number_of_length n (table_of es) - one_at (length p) n)
-        → number_of_length n (table_of (cond b es (e ∷ remove_entry (is_key p) es))) ≡ one_at (length e.0.items) n + number_of_length n (table_of es) - one_at (length p) n
+        → number_of_length n (table_of (cond b es (e ∷ remove_entry (is_key p) es))) ≡ one_at (length e.0.items) n + number_of_length n (table_of es) - one_at
+        (length p) n
     by_test true same h has rest = omega (arith, ap (λ (q : List ℕ). one_at (length q) n) (same refl))
     by_test false same h has rest = omega (arith, rest h, has h)
 

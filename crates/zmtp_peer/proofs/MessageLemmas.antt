@@ -23,7 +23,8 @@ after-message terms held (body ∷ []) some = refl
 after-message terms held (body ∷ other ∷ message) some = after-message terms (held ++ body ∷ []) (other ∷ message) (omega arith)
 
 -- and they tell the message with what was held before
-pub told-message : (terms : Terms) (held message : List (List ℕ)) → 0 < length message → told terms (Open held) (message_frames message) ≡ message_told terms.role (held ++ message)
+pub told-message : (terms : Terms) (held message : List (List ℕ)) → 0 < length message →
+    told terms (Open held) (message_frames message) ≡ message_told terms.role (held ++ message)
 told-message terms held [] some = absurd (omega arith)
 told-message terms held (body ∷ []) some = append-nil (message_told terms.role (held ++ body ∷ []))
 told-message terms held (body ∷ other ∷ message) some =
@@ -42,12 +43,14 @@ message-piece : (terms : Terms) (message : List (List ℕ)) → terms.role ≢ P
     → ReadsPiece terms (longer (whole []) (message_octets message)) (Open []) (whole []) (Open []) (Message message ∷ [])
 message-piece terms message other some within = record {
   frames = message_frames message;
-  left = subst (λ (o : List ℕ). Leaves (whole o) (message_frames message) (whole [])) (append-nil (message_octets message)) (messages_are_read_back message [] some within);
+  left = subst (λ (o : List ℕ). Leaves (whole o) (message_frames message) (whole [])) (append-nil (message_octets message))
+      (messages_are_read_back message [] some within);
   told = sym (told-message terms [] message some ∙ message-told terms.role message other);
   ends = inl (nothing-partial, sym (after-message terms [] message some), λ refusal. refusal);
 }
 
-pub streaming-of : (role : Role) (octets : List ℕ) (given : List Event) (greeting : List ℕ) (state : State) (rest : Rest) → state ≡ Open [] → IsAt role octets given greeting state rest
+pub streaming-of : (role : Role) (octets : List ℕ) (given : List Event) (greeting : List ℕ) (state : State) (rest : Rest) → state ≡ Open [] →
+    IsAt role octets given greeting state rest
     → IsStreaming role octets given greeting (Open []) rest
 streaming-of role octets given greeting state rest ready at = subst (λ (s : State). IsAt role octets given greeting s rest) ready at
 
@@ -58,12 +61,14 @@ message-brings s message other between some within fed given h =
     let terms = terms_of s.role s.greeting in
     let piece = message-piece terms message other some within in
     let from : ReadsPiece terms (longer s.rest (message_octets message)) (Open []) (whole []) (Open []) (Message message ∷ []) =
-    subst (λ (r : Rest). ReadsPiece terms (longer r (message_octets message)) (Open []) (whole []) (Open []) (Message message ∷ [])) (sym between.nothing) piece in
+    subst (λ (r : Rest). ReadsPiece terms (longer r (message_octets message)) (Open []) (whole []) (Open []) (Message message ∷ [])) (sym between.nothing)
+    piece in
     let into : ReadsPiece terms (longer s.rest (message_octets message)) (Open []) s.rest (Open []) (Message message ∷ []) =
     subst (λ (r : Rest). ReadsPiece terms (longer s.rest (message_octets message)) (Open []) r (Open []) (Message message ∷ [])) (sym between.nothing) from in
     let here : ReadsPiece terms (longer s.rest (message_octets message)) s.state s.rest s.state (Message message ∷ []) =
     subst (λ (a : State). ReadsPiece terms (longer s.rest (message_octets message)) a s.rest a (Message message ∷ [])) (sym between.ready) into in
-    stands-read s.role s.greeting s.state s.rest s.table s.room [] (message_octets message) s.greeting streaming.of s.state s.rest s.table s.room (Message message ∷ [])
+    stands-read s.role s.greeting s.state s.rest s.table s.room [] (message_octets message) s.greeting streaming.of s.state s.rest s.table s.room
+    (Message message ∷ [])
     (sym (append-nil s.greeting)) streaming.complete streaming.welcome (λ refusal. subst IsRefusal between.ready refusal) here (λ q. refl) fed given h
 
 pub messages_are_told : MessagesAreTold

@@ -1,5 +1,6 @@
 -- A role that is fed the opening of a partner is ready.
-use Rattle.std.proofs.Common.{◌≡◌, ℕ, Bool, true, false, cond, List, [], ◌∷◌, ◌++◌, Option, Some, None, length, refl, ap, sym, subst, ◌∙◌, arith, append-nil, length-append, inl, inr, lit<, lit≤, codes}
+use Rattle.std.proofs.Common.{◌≡◌, ℕ, Bool, true, false, cond, List, [], ◌∷◌, ◌++◌, Option, Some, None, length, refl, ap, sym, subst, ◌∙◌, arith, append-nil}
+use Rattle.std.proofs.Common.{length-append, inl, inr, lit<, lit≤, codes}
 use Rattle.std.specs.Str.{bytes_eq}
 use Rattle.zmtp_wire.specs.Greeting as greeting
 use Rattle.zmtp_wire.specs.Greeting.{IsGreeting}
@@ -67,7 +68,8 @@ nothing-partial = record {
 }
 
 -- the command of READY, and what it announces
-ready-command : (role : Role) → (content : List ℕ) × (command_of (ready_of role) ≡ Some (codes "READY", content)) × (announced content ≡ Some (Some (socket_type_of role)))
+ready-command : (role : Role) → (content : List ℕ) × (command_of (ready_of role) ≡ Some (codes "READY", content)) ×
+    (announced content ≡ Some (Some (socket_type_of role)))
 unfolding command_of announced metadata_of property_at
 ready-command Router = (_, refl, refl)
 ready-command Pub = (_, refl, refl)
@@ -76,11 +78,13 @@ ready-command Dealer = (_, refl, refl)
 ready-command Sub = (_, refl, refl)
 
 -- the answer to a READY is that to its content
-first-refusal-of : (role : Role) (body content : List ℕ) → command_of body ≡ Some (codes "READY", content) → first_refusal role body ≡ refusal_of role (announced content)
+first-refusal-of : (role : Role) (body content : List ℕ) → command_of body ≡ Some (codes "READY", content) →
+    first_refusal role body ≡ refusal_of role (announced content)
 unfolding first_refusal
 first-refusal-of role body content h = ap (λ (o : Option (List ℕ × List ℕ)). elim o [
   | None ↦ Some BadMetadata
-  | Some command ↦ cond (bytes_eq command.0 (codes "READY")) (refusal_of role (announced command.1)) (cond (bytes_eq command.0 (codes "ERROR")) (Some (error_of command.1)) (Some NotReady))
+  | Some command ↦ cond (bytes_eq command.0 (codes "READY")) (refusal_of role (announced command.1))
+      (cond (bytes_eq command.0 (codes "ERROR")) (Some (error_of command.1)) (Some NotReady))
 ]) h
 
 ready-welcome : (role other : Role) → is_partner role (socket_type_of other) ≡ true → first_refusal role (ready_of other) ≡ None

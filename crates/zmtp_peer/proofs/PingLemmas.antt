@@ -60,7 +60,8 @@ good-context (a ∷ b ∷ c ∷ time) context two short = absurd (omega (arith, 
 
 good-told : (time context : List ℕ) → length time ≡ 2 → length context ≤ context_limit → ping_told (time ++ context) ≡ Telling (Ping context)
 unfolding ping_told
-good-told time context two short = ap (λ (o : Option (List ℕ)). elim o [ None ↦ Refusal BadPing | Some context ↦ Telling (Ping context) ]) (good-context time context two short)
+good-told time context two short = ap (λ (o : Option (List ℕ)). elim o [ None ↦ Refusal BadPing | Some context ↦ Telling (Ping context) ])
+    (good-context time context two short)
 
 -- shorter or longer data has none
 bad-context : (octets : List ℕ) → (length octets < 2) ⊎ (2 + context_limit < length octets) → context_of octets ≡ None
@@ -106,7 +107,8 @@ ends-at held (Refusal fault) rest partial = inr (inl (refl, tt))
 -- the command is one piece
 ping-piece : (terms : Terms) (held : List (List ℕ)) (tally : Tally) (octets content : List ℕ) (later : Later)
     → behind_ready terms (ping content).body ≡ later → length (ping content).body ≤ octet_limit → IsFrame octets (ping content)
-    → ReadsPiece terms (record { octets = octets; tally = tally }) (Open held) (record { octets = []; tally = tally }) (after_later held later) (later_told later)
+    → ReadsPiece terms (record { octets = octets; tally = tally }) (Open held) (record { octets = []; tally = tally }) (after_later held later)
+    (later_told later)
 ping-piece terms held tally octets content later is small frame = record {
   frames = ping content ∷ [];
   left = (

@@ -1,5 +1,6 @@
 -- Which faults refuse a peer, and that want of memory is none of them.
-use Rattle.std.proofs.Common.{◌≡◌, ℕ, ◌+◌, Bool, true, false, ◌&&◌, cond, List, [], ◌∷◌, ◌++◌, Option, Some, None, Result, Ok, Err, IfOk, IfErr, length, take, refl, sym, subst, ◌∙◌, arith, inl, inr}
+use Rattle.std.proofs.Common.{◌≡◌, ℕ, ◌+◌, Bool, true, false, ◌&&◌, cond, List, [], ◌∷◌, ◌++◌, Option, Some, None, Result, Ok, Err, IfOk, IfErr, length, take}
+use Rattle.std.proofs.Common.{refl, sym, subst, ◌∙◌, arith, inl, inr}
 use Rattle.std.proofs.lemmas.List.{take_all}
 use Rattle.std.specs.Str.{bytes_eq}
 use Rattle.std.proofs.Common.{codes}
@@ -17,7 +18,8 @@ use Rattle.zmtp_peer.specs.Roles.{is_partner}
 use Rattle.zmtp_peer.specs.Commands.{command_of, reason_of, context_of, announced}
 use Rattle.zmtp_peer.specs.Faults.{Fault, Wire, NoSocketType, WrongPair, BadMetadata, PeerError, NotReady, BadPing, want_of_memory}
 use Rattle.zmtp_peer.specs.Handshake.{error_of, refusal_of, first_refusal}
-use Rattle.zmtp_peer.specs.Events.{Event, Subscribe, Cancel, Ping, State, Opening, Open, Refused, Later, Passed, Telling, Refusal, publishes, ping_told, newer_told, behind_ready, unless, after_later, after_frame, after}
+use Rattle.zmtp_peer.specs.Events.{Event, Subscribe, Cancel, Ping, State, Opening, Open, Refused, Later, Passed, Telling, Refusal, publishes, ping_told}
+use Rattle.zmtp_peer.specs.Events.{newer_told, behind_ready, unless, after_later, after_frame, after}
 use Rattle.zmtp_peer.specs.Intake.{IsRefusal, EndsFrames, state_at}
 use Rattle.zmtp_peer.specs.Connection.{ReadsPiece}
 
@@ -67,11 +69,13 @@ own-first role body = by_command (command_of body)
   where
     by_command : (o : Option (List ℕ × List ℕ)) → IsOwn (elim o [
       | None ↦ Some BadMetadata
-      | Some command ↦ cond (bytes_eq command.0 (codes "READY")) (refusal_of role (announced command.1)) (cond (bytes_eq command.0 (codes "ERROR")) (Some (error_of command.1)) (Some NotReady))
+      | Some command ↦ cond (bytes_eq command.0 (codes "READY")) (refusal_of role (announced command.1))
+          (cond (bytes_eq command.0 (codes "ERROR")) (Some (error_of command.1)) (Some NotReady))
     ])
     by_command None = tt
     by_command (Some command) =
-        own-either (bytes_eq command.0 (codes "READY")) (refusal_of role (announced command.1)) (cond (bytes_eq command.0 (codes "ERROR")) (Some (error_of command.1)) (Some NotReady))
+        own-either (bytes_eq command.0 (codes "READY")) (refusal_of role (announced command.1))
+        (cond (bytes_eq command.0 (codes "ERROR")) (Some (error_of command.1)) (Some NotReady))
         (own-refusal role (announced command.1))
         (own-either (bytes_eq command.0 (codes "ERROR")) (Some (error_of command.1)) (Some NotReady) (own-error command.1) tt)
 
@@ -105,7 +109,8 @@ own-later terms body = by_command (command_of body)
   where
     by_command : (o : Option (List ℕ × List ℕ)) → IsOwnLater (elim o [
       | None ↦ Passed
-      | Some command ↦ cond (bytes_eq command.0 (codes "ERROR")) (Refusal (error_of command.1)) (cond terms.newer (newer_told terms.role command.0 command.1) Passed)
+      | Some command ↦ cond (bytes_eq command.0 (codes "ERROR")) (Refusal (error_of command.1))
+          (cond terms.newer (newer_told terms.role command.0 command.1) Passed)
     ])
     by_command None = tt
     by_command (Some command) =
@@ -151,7 +156,8 @@ wire-memory fault behind is h =
     subst (λ (f : WireFault). IsFaultAt behind f) same is
 
 -- want of memory refuses nobody
-pub never-memory : (terms : Terms) (rest behind : Rest) (old new : State) (events : List Event) → ReadsPiece terms rest old behind new events → ¬ (IsRefusal old) → new ≡ Refused want_of_memory → ⊥
+pub never-memory : (terms : Terms) (rest behind : Rest) (old new : State) (events : List Event) → ReadsPiece terms rest old behind new events →
+    ¬ (IsRefusal old) → new ≡ Refused want_of_memory → ⊥
 never-memory terms rest behind old new events r going same = by_end r.ends
   where
     own : IsOwnState (after terms old r.frames)
@@ -182,7 +188,8 @@ err-weaker (Ok x) P Q f h = tt
 err-weaker (Err e) P Q f h = f e h
 
 -- a greeting that is whole now
-pub whole-front : (greeting old front : List ℕ) (at : ℕ) → take (at + length front) greeting ≡ take at old ++ front → at + length front ≡ 64 → take 64 greeting ≡ take at old ++ front
+pub whole-front : (greeting old front : List ℕ) (at : ℕ) → take (at + length front) greeting ≡ take at old ++ front → at + length front ≡ 64 →
+    take 64 greeting ≡ take at old ++ front
 whole-front greeting old front at written h = subst (λ (n : ℕ). take n greeting ≡ take at old ++ front) h written
 
 pub take-whole : (greeting : List ℕ) → length greeting ≡ 64 → take 64 greeting ≡ greeting

@@ -24,8 +24,10 @@ pub grows-within : (n m : ℕ) (a b : Intake) → GrowsBy n a b → n ≤ m → 
 grows-within n m a b g less = record { brought = omega (arith, g.brought); held = omega (arith, g.held); room = omega (arith, g.room) }
 
 -- more octets came, and fewer events
-pub reserves-within : (octets more frames : ℕ) (old new : Room) (events : ℕ) → ReservesFor octets frames old new events → octets ≤ more → ReservesFor more frames old new events
-reserves-within octets more frames old new events r less = record { stream = omega (arith, r.stream); held = omega (arith, r.held); told = omega (arith, r.told) }
+pub reserves-within : (octets more frames : ℕ) (old new : Room) (events : ℕ) → ReservesFor octets frames old new events → octets ≤ more →
+    ReservesFor more frames old new events
+reserves-within octets more frames old new events r less =
+    record { stream = omega (arith, r.stream); held = omega (arith, r.held); told = omega (arith, r.told) }
 
 pub reserves-fewer : (octets frames : ℕ) (old new : Room) (events : ℕ) → ReservesFor octets frames old new events → ReservesFor octets frames old new 0
 reserves-fewer octets frames old new events r = record { stream = r.stream; held = r.held; told = omega arith }

@@ -1,5 +1,6 @@
 -- The table of subscriptions, as the map that keeps it changes.
-use Rattle.std.proofs.Common.{◌≡◌, ℕ, ◌+◌, ◌-◌, ◌<◌, ◌≤◌, is_some, arith, Bool, true, false, List, [], ◌∷◌, Option, Some, None, refl, ap, sym, subst, ◌∙◌, cond, unwrap_or, if◌then◌else◌, length, take, drop, get_or, ◌++◌, map, append-nil, length-append}
+use Rattle.std.proofs.Common.{◌≡◌, ℕ, ◌+◌, ◌-◌, ◌<◌, ◌≤◌, is_some, arith, Bool, true, false, List, [], ◌∷◌, Option, Some, None, refl, ap, sym, subst, ◌∙◌, cond}
+use Rattle.std.proofs.Common.{unwrap_or, if◌then◌else◌, length, take, drop, get_or, ◌++◌, map, append-nil, length-append}
 use Rattle.std.specs.List.{flat_map}
 use Rattle.std.proofs.lemmas.List.{drop_more, take_more, map-append}
 use Rattle.std.proofs.lemmas.List.Concat.{flat_map-append}
@@ -79,11 +80,16 @@ or_none None = refl
 or_none (Some n) = refl
 
 -- a new place is that of a prefix that had none
-pub placed : (p : List ℕ) (es fs : List (Vec ℕ Global × ℕ)) → lookup (is_key p) es ≡ None → lookup (is_key p) fs ≡ Some 0 → KeepsOthers (eq_by_cmp keys_cmp) (is_key p) es fs
+pub placed : (p : List ℕ) (es fs : List (Vec ℕ Global × ℕ)) → lookup (is_key p) es ≡ None → lookup (is_key p) fs ≡ Some 0 →
+    KeepsOthers (eq_by_cmp keys_cmp) (is_key p) es fs
     → (q : List ℕ) → place_of (table_of fs) q ≡ option_or (place_of (table_of es) q) (if bytes_eq q p then Some 0 else None)
-placed p es fs none here others q = changed p (Some 0) es fs here others q ∙ by_test (bytes_eq q p) (λ same. subst (λ (r : List ℕ). place_of (table_of es) r ≡ None) (sym ((bytes_eq-Decides q p).0 same)) (place_of-table_of es p ∙ none)) (place_of (table_of es) q)
+placed p es fs none here others q = changed p (Some 0) es fs here others q
+    ∙ by_test (bytes_eq q p)
+    (λ same. subst (λ (r : List ℕ). place_of (table_of es) r ≡ None) (sym ((bytes_eq-Decides q p).0 same)) (place_of-table_of es p ∙ none))
+    (place_of (table_of es) q)
   where
-    by_test : (b : Bool) → (b ≡ true → place_of (table_of es) q ≡ None) → (o : Option ℕ) → cond b (Some 0) (place_of (table_of es) q) ≡ option_or (place_of (table_of es) q) (cond b (Some 0) None)
+    by_test : (b : Bool) → (b ≡ true → place_of (table_of es) q ≡ None) → (o : Option ℕ) →
+        cond b (Some 0) (place_of (table_of es) q) ≡ option_or (place_of (table_of es) q) (cond b (Some 0) None)
     by_test true h o = ap (λ (v : Option ℕ). option_or v (Some 0)) (sym (h refl))
     by_test false h o = or_none (place_of (table_of es) q)
 
@@ -106,9 +112,11 @@ present p n table here q = by_test (bytes_eq q p) (λ same. subst (λ (r : List 
     by_test false h = or_none (place_of table q)
 
 -- a place with the count 0 counts as none
-pub dropped : (p : List ℕ) (es fs : List (Vec ℕ Global × ℕ)) → count_in (table_of es) p ≡ 0 → lookup (is_key p) fs ≡ None → KeepsOthers (eq_by_cmp keys_cmp) (is_key p) es fs
+pub dropped : (p : List ℕ) (es fs : List (Vec ℕ Global × ℕ)) → count_in (table_of es) p ≡ 0 → lookup (is_key p) fs ≡ None →
+    KeepsOthers (eq_by_cmp keys_cmp) (is_key p) es fs
     → (q : List ℕ) → count_in (table_of fs) q ≡ count_in (table_of es) q
-dropped p es fs zero here others q = ap (λ o. unwrap_or o 0) (changed p None es fs here others q) ∙ by_test (bytes_eq q p) (λ same. subst (λ (r : List ℕ). count_in (table_of es) r ≡ 0) (sym ((bytes_eq-Decides q p).0 same)) zero)
+dropped p es fs zero here others q = ap (λ o. unwrap_or o 0) (changed p None es fs here others q)
+    ∙ by_test (bytes_eq q p) (λ same. subst (λ (r : List ℕ). count_in (table_of es) r ≡ 0) (sym ((bytes_eq-Decides q p).0 same)) zero)
   where
     by_test : (b : Bool) → (b ≡ true → count_in (table_of es) q ≡ 0) → unwrap_or (cond b None (place_of (table_of es) q)) 0 ≡ count_in (table_of es) q
     by_test true h = sym (h refl)
@@ -127,21 +135,26 @@ place_of-set_value p w [] q = by_test (bytes_eq q p)
     by_test false = refl
 place_of-set_value p w (e ∷ es) q = by_key (is_key p e.0) refl (place_of-set_value p w es q)
   where
-    here : (d b : Bool) → d ≡ b → cond d (Some w) (place_of (table_of es) q) ≡ cond b (option_map (λ (n : ℕ). w) (cond d (Some e.1) (place_of (table_of es) q))) (cond d (Some e.1) (place_of (table_of es) q))
+    here : (d b : Bool) → d ≡ b → cond d (Some w) (place_of (table_of es) q) ≡ cond b (option_map (λ (n : ℕ). w) (cond d (Some e.1) (place_of (table_of es) q)))
+        (cond d (Some e.1) (place_of (table_of es) q))
     here true true h = refl
     here true false h = cc
     here false true h = cc
     here false false h = refl
 
-    there : (d b : Bool) → (d ≡ true → b ≡ true → ⊥) → place_of (table_of (set_value (is_key p) es w)) q ≡ cond b (option_map (λ (n : ℕ). w) (place_of (table_of es) q)) (place_of (table_of es) q)
-        → cond d (Some e.1) (place_of (table_of (set_value (is_key p) es w)) q) ≡ cond b (option_map (λ (n : ℕ). w) (cond d (Some e.1) (place_of (table_of es) q))) (cond d (Some e.1) (place_of (table_of es) q))
+    there : (d b : Bool) → (d ≡ true → b ≡ true → ⊥) →
+        place_of (table_of (set_value (is_key p) es w)) q ≡ cond b (option_map (λ (n : ℕ). w) (place_of (table_of es) q)) (place_of (table_of es) q)
+        → cond d (Some e.1) (place_of (table_of (set_value (is_key p) es w)) q) ≡ cond b
+        (option_map (λ (n : ℕ). w) (cond d (Some e.1) (place_of (table_of es) q))) (cond d (Some e.1) (place_of (table_of es) q))
     there true true apart ih = absurd (apart refl refl)
     there true false apart ih = refl
     there false b apart ih = ih
 
-    by_key : (k : Bool) → is_key p e.0 ≡ k → place_of (table_of (set_value (is_key p) es w)) q ≡ cond (bytes_eq q p) (option_map (λ (n : ℕ). w) (place_of (table_of es) q)) (place_of (table_of es) q)
+    by_key : (k : Bool) → is_key p e.0 ≡ k → place_of (table_of (set_value (is_key p) es w)) q ≡ cond (bytes_eq q p)
+        (option_map (λ (n : ℕ). w) (place_of (table_of es) q)) (place_of (table_of es) q)
         → place_of (table_of (cond k ((e.0, w) ∷ es) (e ∷ set_value (is_key p) es w))) q
-        ≡ cond (bytes_eq q p) (option_map (λ (n : ℕ). w) (cond (bytes_eq q e.0.items) (Some e.1) (place_of (table_of es) q))) (cond (bytes_eq q e.0.items) (Some e.1) (place_of (table_of es) q))
+        ≡ cond (bytes_eq q p) (option_map (λ (n : ℕ). w) (cond (bytes_eq q e.0.items) (Some e.1) (place_of (table_of es) q)))
+        (cond (bytes_eq q e.0.items) (Some e.1) (place_of (table_of es) q))
     by_key true h ih = here (bytes_eq q e.0.items) (bytes_eq q p) (ap (bytes_eq q) (sym (found-is p e.0 h)))
     by_key false h ih = there (bytes_eq q e.0.items) (bytes_eq q p) (λ a b. false≢true (sym h ∙ same_key p q e.0 a b)) ih
 
@@ -169,7 +182,8 @@ subscribed p t u place sets q = ap (λ o. unwrap_or o 0) (sets q) ∙ by_test (b
 
     by_test : (b : Bool) → (b ≡ true → q ≡ p) → unwrap_or (cond b (option_map (λ (n : ℕ). count_in t p + 1) (place_of t q)) (place_of t q)) 0
         ≡ cond b (count_in t q + 1) (count_in t q)
-    by_test true h = subst (λ (r : List ℕ). unwrap_or (option_map (λ (n : ℕ). count_in t p + 1) (place_of t r)) 0 ≡ count_in t r + 1) (sym (h refl)) (some (place_of t p) place)
+    by_test true h = subst (λ (r : List ℕ). unwrap_or (option_map (λ (n : ℕ). count_in t p + 1) (place_of t r)) 0 ≡ count_in t r + 1) (sym (h refl))
+        (some (place_of t p) place)
     by_test false h = refl
 
 -- one less at a prefix, if it was counted
@@ -182,7 +196,8 @@ cancelled p t u sets q = ap (λ o. unwrap_or o 0) (sets q) ∙ by_test (bytes_eq
 
     by_test : (b : Bool) → (b ≡ true → q ≡ p) → unwrap_or (cond b (option_map (λ (n : ℕ). count_in t p - 1) (place_of t q)) (place_of t q)) 0
         ≡ cond b (count_in t q - 1) (count_in t q)
-    by_test true h = subst (λ (r : List ℕ). unwrap_or (option_map (λ (n : ℕ). count_in t p - 1) (place_of t r)) 0 ≡ count_in t r - 1) (sym (h refl)) (less (place_of t p))
+    by_test true h = subst (λ (r : List ℕ). unwrap_or (option_map (λ (n : ℕ). count_in t p - 1) (place_of t r)) 0 ≡ count_in t r - 1) (sym (h refl))
+        (less (place_of t p))
     by_test false h = refl
 
 -- less room is needed of a table that counts no more
@@ -222,13 +237,15 @@ pub rooms-step : (es : List PeerEvent) (i : ℕ) (e : PeerEvent) (t u : List (Li
     → HasRoom (length es - (i + 1)) u (events_of (drop (i + 1) es))
 rooms-step es i e t u h is room counts places =
     let parts = subst (λ (xs : List PeerEvent). HasRoom (length es - i) t (events_of xs)) (drop_more es i e h) room in
-    rooms-less (length es - i) (length es - (i + 1)) t u (events_of (drop (i + 1) es)) parts.1 (λ q h. places q ∙ h) (λ q. omega (arith, counts q, counted-most q (count_in t q) (event_of e)))
+    rooms-less (length es - i) (length es - (i + 1)) t u (events_of (drop (i + 1) es)) parts.1 (λ q h. places q ∙ h)
+    (λ q. omega (arith, counts q, counted-most q (count_in t q) (event_of e)))
 
 pub room-now : (es : List PeerEvent) (i : ℕ) (e : PeerEvent) (t : List (List ℕ × ℕ)) → i < length es → e ≡ get_or es i e
     → HasRoom (length es - i) t (events_of (drop i es)) → IsRoomFor 1 t (event_of e)
 room-now es i e t h is room =
     let parts = subst (λ (xs : List PeerEvent). HasRoom (length es - i) t (events_of xs)) (drop_more es i e h) room in
-    room-less (length es - i) 1 t t (event_of e) (subst (λ (x : PeerEvent). IsRoomFor (length es - i) t (event_of x)) (sym is) parts.0) (λ q h. h) (λ q. omega arith)
+    room-less (length es - i) 1 t t (event_of e) (subst (λ (x : PeerEvent). IsRoomFor (length es - i) t (event_of x)) (sym is) parts.0) (λ q h. h)
+    (λ q. omega arith)
 
 pub counted-step : (es : List PeerEvent) (i : ℕ) (e : PeerEvent) (t u : List (List ℕ × ℕ)) → i < length es → e ≡ get_or es i e
     → ((q : List ℕ) → count_in u q ≡ counted q (count_in t q) (event_of e)) → (q : List ℕ)
@@ -239,7 +256,8 @@ counted-step es i e t u h is counts q =
     ∙ ap (λ (xs : List PeerEvent). counted_all q (count_in t q) (events_of xs)) (sym (drop_more es i e h))
 
 -- where no front is counted, none is wanted
-pub none_wanted : (t : List (List ℕ × ℕ)) (topic : List ℕ) (n : ℕ) → ((k : ℕ) → k < n → count_in t (take k topic) ≡ 0) → length topic < n → HasWanted t topic → ⊥
+pub none_wanted : (t : List (List ℕ × ℕ)) (topic : List ℕ) (n : ℕ) → ((k : ℕ) → k < n → count_in t (take k topic) ≡ 0) → length topic < n → HasWanted t topic →
+    ⊥
 none_wanted t topic n none all w =
     let front : take (length w.0) topic ≡ w.0 = ap (take (length w.0)) w.2 ∙ take-append_seam w.0 w.1 in
     let short : length w.0 ≤ length topic = omega (arith, ap length w.2, length-append w.0 w.1) in
@@ -293,6 +311,7 @@ reserved-step role ms i n m t u h is room places counts now =
     subst (HasRoom n u) (sym joined) (rooms-append n u (told (take i ms)) (brought_told role (brought_of m)) before now)
 
 -- READY needs no room
-pub told-room : (n m : ℕ) (t : List (List ℕ × ℕ)) (ready : Bool) (es : List Event) → HasRoom n t es → m ≤ n → HasRoom m t ((if ready then Ready ∷ [] else []) ++ es)
+pub told-room : (n m : ℕ) (t : List (List ℕ × ℕ)) (ready : Bool) (es : List Event) → HasRoom n t es → m ≤ n →
+    HasRoom m t ((if ready then Ready ∷ [] else []) ++ es)
 told-room n m t true es h less = (tt, rooms-less n m t t es h (λ q k. k) (λ q. omega arith))
 told-room n m t false es h less = rooms-less n m t t es h (λ q k. k) (λ q. omega arith)

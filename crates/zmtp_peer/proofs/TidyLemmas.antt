@@ -1,5 +1,6 @@
 -- The places at which nothing is counted, as the table of subscriptions changes.
-use Rattle.std.proofs.Common.{◌≡◌, ℕ, ◌+◌, ◌<◌, ◌≤◌, Bool, true, false, ◌||◌, List, [], ◌∷◌, ◌++◌, Option, Some, None, refl, ap, sym, subst, ◌∙◌, cond, unwrap_or, if◌then◌else◌, length, take, drop, get_or, map, inl, inr, ◌⊎◌}
+use Rattle.std.proofs.Common.{◌≡◌, ℕ, ◌+◌, ◌<◌, ◌≤◌, Bool, true, false, ◌||◌, List, [], ◌∷◌, ◌++◌, Option, Some, None, refl, ap, sym, subst, ◌∙◌, cond}
+use Rattle.std.proofs.Common.{unwrap_or, if◌then◌else◌, length, take, drop, get_or, map, inl, inr, ◌⊎◌}
 use Rattle.std.specs.List.{flat_map, list_any}
 use Rattle.std.specs.Option.{option_map, option_or}
 use Rattle.std.specs.Ordering.{eq_by_cmp}
@@ -41,10 +42,12 @@ idle-set p w t u sets q idle =
     (cases_Bool (bytes_eq q p))
 
 -- nor does a place that is added
-pub idle-added : (p : List ℕ) (t u : List (List ℕ × ℕ)) → ((q : List ℕ) → place_of u q ≡ option_or (place_of t q) (if bytes_eq q p then Some 0 else None)) → AddsIdle (λ q. bytes_eq q p) t u
+pub idle-added : (p : List ℕ) (t u : List (List ℕ × ℕ)) → ((q : List ℕ) → place_of u q ≡ option_or (place_of t q) (if bytes_eq q p then Some 0 else None)) →
+    AddsIdle (λ q. bytes_eq q p) t u
 idle-added p t u h q idle = by_place (place_of t q) refl (bytes_eq q p) refl (sym (h q) ∙ idle)
   where
-    by_place : (o : Option ℕ) → place_of t q ≡ o → (b : Bool) → bytes_eq q p ≡ b → option_or o (cond b (Some 0) None) ≡ Some 0 → IsIdle t q ⊎ (bytes_eq q p ≡ true)
+    by_place : (o : Option ℕ) → place_of t q ≡ o → (b : Bool) → bytes_eq q p ≡ b → option_or o (cond b (Some 0) None) ≡ Some 0 → IsIdle t q ⊎
+        (bytes_eq q p ≡ true)
     by_place (Some n) is b same idle = inl (is ∙ idle)
     by_place None is true same idle = inr same
     by_place None is false same idle = cc
@@ -61,7 +64,8 @@ idle-dropped p es fs here others q idle = by_test (bytes_eq q p) refl (sym (chan
 -- nor is one that is counted
 pub idle-kept : (p : List ℕ) (t : List (List ℕ × ℕ)) → (count_in t p ≡ 0 → ⊥) → DropsIdle (λ q. bytes_eq q p) t t
 idle-kept p t some q idle =
-    ⊎_elim (λ same. absurd (some (ap (λ o. unwrap_or o 0) (subst (IsIdle t) ((bytes_eq-Decides q p).0 same) idle)))) (λ differs. (idle, differs)) (cases_Bool (bytes_eq q p))
+    ⊎_elim (λ same. absurd (some (ap (λ o. unwrap_or o 0) (subst (IsIdle t) ((bytes_eq-Decides q p).0 same) idle)))) (λ differs. (idle, differs))
+    (cases_Bool (bytes_eq q p))
 
 -- ---- one element further on in a list
 
@@ -113,7 +117,8 @@ names-subscribed : (q : List ℕ) (es : List Event) → list_any (subscribes q) 
 names-subscribed q [] h = h
 names-subscribed q (Subscribe p ∷ es) h = by_test (bytes_eq q p) h (λ more. names-subscribed q es more)
   where
-    by_test : (b : Bool) → (b || list_any (subscribes q) es) ≡ true → (list_any (subscribes q) es ≡ true → list_any (names q) es ≡ true) → (b || list_any (names q) es) ≡ true
+    by_test : (b : Bool) → (b || list_any (subscribes q) es) ≡ true → (list_any (subscribes q) es ≡ true → list_any (names q) es ≡ true) →
+        (b || list_any (names q) es) ≡ true
     by_test true h ih = refl
     by_test false h ih = ih h
 names-subscribed q (Cancel p ∷ es) h = or_other (bytes_eq q p) _ (names-subscribed q es h)

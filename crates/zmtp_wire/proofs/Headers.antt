@@ -1,5 +1,6 @@
 -- Headers at the front of octets: octets have one header at most, and no fault in it.
-use Rattle.std.proofs.Common.{◌≡◌, ℕ, suc, ◌-◌, ◌<◌, Bool, true, false, ◌&&◌, List, [], ◌∷◌, ◌++◌, length, replicate, sym, ap, ◌∙◌, refl, subst, arith, append_assoc, append-nil, length-append}
+use Rattle.std.proofs.Common.{◌≡◌, ℕ, suc, ◌-◌, ◌<◌, Bool, true, false, ◌&&◌, List, [], ◌∷◌, ◌++◌, length, replicate, sym, ap, ◌∙◌, refl, subst, arith}
+use Rattle.std.proofs.Common.{append_assoc, append-nil, length-append}
 use Rattle.std.proofs.lemmas.List.{length-replicate}
 use Rattle.std.specs.Int.{w64, from_be_bytes}
 use Rattle.zmtp_wire.specs.declared.header.Header.{Header}
@@ -7,7 +8,8 @@ use Rattle.zmtp_wire.specs.declared.fault.WireFault.{WireFault}
 use Rattle.zmtp_wire.specs.declared.fault.WireFault.TheVariants.{BadSignature, OldVersion, BadMechanism, ReservedBits, CommandWithMore, TooLong, Memory}
 use Rattle.zmtp_wire.specs.Header.{flags, size_octets, size_bound, header_octets}
 use Rattle.zmtp_wire.specs.Fronts.{HasHeader, IsHeaderBegun, IsBadFlags, HasBadFlags}
-use Rattle.zmtp_wire.proofs.Octets.{flags_tell, flags_below, length-eight_octets, eight_octets-read, size_bounded, length-size_octets, size_octets_tell, fronts_equal, AreOctets, are_octets_append, are_octets_zeros}
+use Rattle.zmtp_wire.proofs.Octets.{flags_tell, flags_below, length-eight_octets, eight_octets-read, size_bounded, length-size_octets, size_octets_tell}
+use Rattle.zmtp_wire.proofs.Octets.{fronts_equal, AreOctets, are_octets_append, are_octets_zeros}
 
 -- the tail of a list that isn't empty
 tails_equal : {A : Type 0} (x y : A) (xs ys : List A) → x ∷ xs ≡ y ∷ ys → (x ≡ y) × (xs ≡ ys)
@@ -27,7 +29,8 @@ same_header h k more command size =
     ap a more ∙ ap b command ∙ ap c size
 
 -- what stands at the front is one header
-one_header-spelled : (h k : Header) (l r : Bool) (x y : List ℕ) → h.size < size_bound l → k.size < size_bound r → header_octets l h ++ x ≡ header_octets r k ++ y → (h ≡ k) × (x ≡ y)
+one_header-spelled : (h k : Header) (l r : Bool) (x y : List ℕ) → h.size < size_bound l → k.size < size_bound r →
+    header_octets l h ++ x ≡ header_octets r k ++ y → (h ≡ k) × (x ≡ y)
 one_header-spelled h k l r x y small little e =
     let parts = tails_equal (flags h.more l h.command) (flags k.more r k.command) (size_octets l h.size ++ x) (size_octets r k.size ++ y) e in
     let bits = flags_tell h.more l h.command k.more r k.command parts.0 in
@@ -52,7 +55,8 @@ header_longer octets h x more p = record {
 -- a part of a header is no whole one
 pub begun_or_whole : (octets : List ℕ) (h : Header) (x : List ℕ) → IsHeaderBegun octets → HasHeader octets h x → ⊥
 begun_or_whole octets h x begun has =
-    let whole : HasHeader (octets ++ begun.missing) begun.whole [] = record { head = octets ++ begun.missing; front = sym (append-nil (octets ++ begun.missing)); header = begun.header } in
+    let whole : HasHeader (octets ++ begun.missing) begun.whole [] =
+    record { head = octets ++ begun.missing; front = sym (append-nil (octets ++ begun.missing)); header = begun.header } in
     let longer = header_longer octets h x begun.missing has in
     let rest = (one_header (octets ++ begun.missing) h begun.whole (x ++ begun.missing) [] longer whole).1 in
     let some : 0 < length begun.missing = begun.some in
@@ -95,8 +99,10 @@ one_fault octets f g p q =
     one_fault-at : (f g : WireFault) (octet : ℕ) → IsBadFlags octet f → IsBadFlags octet g → f ≡ g
     one_fault-at ReservedBits ReservedBits octet p q = refl
     one_fault-at CommandWithMore CommandWithMore octet p q = refl
-    one_fault-at ReservedBits CommandWithMore octet p q = absurd (let small = flags_below true q.0 true in let same : octet ≡ flags true q.0 true = q.1 in omega arith)
-    one_fault-at CommandWithMore ReservedBits octet p q = absurd (let small = flags_below true p.0 true in let same : octet ≡ flags true p.0 true = p.1 in omega arith)
+    one_fault-at ReservedBits CommandWithMore octet p q =
+        absurd (let small = flags_below true q.0 true in let same : octet ≡ flags true q.0 true = q.1 in omega arith)
+    one_fault-at CommandWithMore ReservedBits octet p q =
+        absurd (let small = flags_below true p.0 true in let same : octet ≡ flags true p.0 true = p.1 in omega arith)
     one_fault-at TooLong g octet p q = absurd p
     one_fault-at BadSignature g octet p q = absurd p
     one_fault-at OldVersion g octet p q = absurd p
@@ -121,7 +127,8 @@ begun-nothing [] none = record {
 begun-nothing (x ∷ xs) none = absurd (omega arith)
 
 -- flags and a part of the size are the beginning of a header
-begun-size : (m l c : Bool) (octets : List ℕ) → (c && m) ≡ false → AreOctets octets → length octets < length (size_octets l 0) → IsHeaderBegun (flags m l c ∷ octets)
+begun-size : (m l c : Bool) (octets : List ℕ) → (c && m) ≡ false → AreOctets octets → length octets < length (size_octets l 0) →
+    IsHeaderBegun (flags m l c ∷ octets)
 begun-size m false c [] allowed each few = record {
   missing = 0 ∷ [];
   some = omega arith;
@@ -147,7 +154,8 @@ begun-size m true c octets allowed each few =
       };
     }
 
-pub begun-read : (octets : List ℕ) (first : ℕ) (behind : List ℕ) (m l c : Bool) → octets ≡ first ∷ behind → AreOctets octets → first ≡ flags m l c → (c && m) ≡ false → length behind < length (size_octets l 0) → IsHeaderBegun octets
+pub begun-read : (octets : List ℕ) (first : ℕ) (behind : List ℕ) (m l c : Bool) → octets ≡ first ∷ behind → AreOctets octets → first ≡ flags m l c →
+    (c && m) ≡ false → length behind < length (size_octets l 0) → IsHeaderBegun octets
 begun-read octets first behind m l c e each bits allowed few =
     let all = subst AreOctets e each in
     subst IsHeaderBegun (sym (e ∙ ap (λ o. o ∷ behind) bits)) (begun-size m l c behind allowed (λ i. all (suc i)) few)

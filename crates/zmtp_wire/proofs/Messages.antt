@@ -1,5 +1,6 @@
 -- Messages: how they are written, and that what is written is read again.
-use Rattle.std.proofs.Common.{◌≡◌, ℕ, ◌+◌, ◌<◌, ◌≤◌, Bool, true, false, List, [], ◌∷◌, ◌++◌, length, take, drop, sum_by, sym, ap, ◌∙◌, refl, arith, append_assoc, append-nil, take-append-drop, take_all, get_or, Result, Ok, Err, OnOk, nat_lt}
+use Rattle.std.proofs.Common.{◌≡◌, ℕ, ◌+◌, ◌<◌, ◌≤◌, Bool, true, false, List, [], ◌∷◌, ◌++◌, length, take, drop, sum_by, sym, ap, ◌∙◌, refl, arith}
+use Rattle.std.proofs.Common.{append_assoc, append-nil, take-append-drop, take_all, get_or, Result, Ok, Err, OnOk, nat_lt}
 use Rattle.std.proofs.Math.Seq.{take-append_seam}
 use Rattle.std.proofs.lemmas.List.{map-append}
 use Rattle.std.proofs.lemmas.List.Folds.{flat_map-map}
@@ -34,7 +35,8 @@ parts-last [] last = append-nil (part false last)
 parts-last (body ∷ []) last =
     ap (λ s. part true body ++ s) (append-nil (part false last)) ∙ ap (λ s. s ++ part false last) (sym (append-nil (part true body)))
 parts-last (body ∷ other ∷ others) last =
-    ap (λ s. part true body ++ s) (parts-last (other ∷ others) last) ∙ sym (append_assoc (part true body) (flat_map (part true) (other ∷ others)) (part false last))
+    ap (λ s. part true body ++ s) (parts-last (other ∷ others) last)
+    ∙ sym (append_assoc (part true body) (flat_map (part true) (other ∷ others)) (part false last))
 
 -- the same of the program's bodies
 pub message-last : (bodies others : List (Vec ℕ)) (last : Vec ℕ) → bodies ≡ others ++ last ∷ []
@@ -48,10 +50,12 @@ message-last bodies others last split =
 pub sizes : (bodies : List (Vec ℕ)) → sum_by length (bodies_of bodies) ≡ sum_by (λ (b : Vec ℕ). length b.items) bodies
 sizes [] = refl
 sizes (body ∷ bodies) =
-    sum_by-cons length body.items (bodies_of bodies) ∙ ap (λ n. length body.items + n) (sizes bodies) ∙ sym (sum_by-cons (λ (b : Vec ℕ). length b.items) body bodies)
+    sum_by-cons length body.items (bodies_of bodies) ∙ ap (λ n. length body.items + n) (sizes bodies)
+    ∙ sym (sum_by-cons (λ (b : Vec ℕ). length b.items) body bodies)
 
 -- a sum that goes past a bound part of the way does so at the end
-pub sum_past : (bodies : List (Vec ℕ)) (i : ℕ) (body : Vec ℕ) (bound : ℕ) → i < length bodies → bound < sum_by (λ (b : Vec ℕ). length b.items) (take i bodies) + length (get_or bodies i body).items
+pub sum_past : (bodies : List (Vec ℕ)) (i : ℕ) (body : Vec ℕ) (bound : ℕ) → i < length bodies →
+    bound < sum_by (λ (b : Vec ℕ). length b.items) (take i bodies) + length (get_or bodies i body).items
     → bound < sum_by length (bodies_of bodies)
 sum_past bodies i body bound in_it past =
     let all = sum_by_more_le (λ (b : Vec ℕ). length b.items) bodies i body in_it in
@@ -82,7 +86,8 @@ part_frame more body small = record {
 }
 
 -- the frames of a message, behind those that the tally tells
-frames_taken : (bodies : List (List ℕ)) (t : Tally) (more : List ℕ) → 0 < length bodies → t.octets + sum_by length bodies ≤ octet_limit → t.frames + length bodies ≤ frame_limit
+frames_taken : (bodies : List (List ℕ)) (t : Tally) (more : List ℕ) → 0 < length bodies → t.octets + sum_by length bodies ≤ octet_limit →
+    t.frames + length bodies ≤ frame_limit
     → Leaves (record { octets = message_octets bodies ++ more; tally = t }) (message_frames bodies) (whole more)
 frames_taken [] t more some octets frames = absurd (omega arith)
 frames_taken (body ∷ []) t more some octets frames =

@@ -1,5 +1,6 @@
 -- The flags octet and the size: what they are read from, they are read from alone.
-use Rattle.std.proofs.Common.{◌≡◌, ℕ, zero, suc, ◌^◌, ◌<◌, ◌≤◌, ◌/◌, ◌%◌, Bool, true, false, eqb, not, List, [], ◌∷◌, ◌++◌, length, get_or, drop, replicate, bit_and, sym, ap, ◌∙◌, refl, arith}
+use Rattle.std.proofs.Common.{◌≡◌, ℕ, zero, suc, ◌^◌, ◌<◌, ◌≤◌, ◌/◌, ◌%◌, Bool, true, false, eqb, not, List, [], ◌∷◌, ◌++◌, length, get_or, drop, replicate}
+use Rattle.std.proofs.Common.{bit_and, sym, ap, ◌∙◌, refl, arith}
 use Rattle.std.proofs.Math.Seq.{drop-nil}
 use Rattle.std.specs.Int.{w64, from_be_bytes}
 use Rattle.std.proofs.lemmas.Nat.{be_bytes_8, from_be_bytes-to_be_bytes_8}

@@ -48,7 +48,8 @@ pong-short context short =
 pub pong-read : (octets behind body context : List ℕ) (flags size : ℕ) → octets ≡ flags ∷ behind → behind ≡ size ∷ body → flags ≡ 4 → size ≡ length body
     → body ≡ (pong context).body → length context ≤ context_limit → octets ≡ pong_octets context
 pong-read octets behind body context flags size front next command sized is short =
-    front ∙ ap (λ b. flags ∷ b) next ∙ ap (λ f. f ∷ size ∷ body) command ∙ ap (λ n. 4 ∷ n ∷ body) sized ∙ ap (λ b. 4 ∷ length b ∷ b) is ∙ sym (pong-short context short)
+    front ∙ ap (λ b. flags ∷ b) next ∙ ap (λ f. f ∷ size ∷ body) command ∙ ap (λ n. 4 ∷ n ∷ body) sized ∙ ap (λ b. 4 ∷ length b ∷ b) is
+    ∙ sym (pong-short context short)
 
 -- flags, size and name with its length are seven octets
 pub length-pong : (context : List ℕ) → length context ≤ context_limit → length (pong_octets context) ≡ 7 + length context

@@ -1,5 +1,6 @@
 -- Each stream is read: at the front of a rest stands a frame, a part of one or a fault.
-use Rattle.std.proofs.Common.{◌≡◌, inl, inr, ℕ, zero, suc, ◌+◌, ◌<◌, ◌≤◌, Bool, true, false, ◌&&◌, List, [], ◌∷◌, ◌++◌, length, take, drop, All, sym, ap, ◌∙◌, refl, subst, arith, length-append, length-drop, take-append-drop}
+use Rattle.std.proofs.Common.{◌≡◌, inl, inr, ℕ, zero, suc, ◌+◌, ◌<◌, ◌≤◌, Bool, true, false, ◌&&◌, List, [], ◌∷◌, ◌++◌, length, take, drop, All, sym, ap, ◌∙◌}
+use Rattle.std.proofs.Common.{refl, subst, arith, length-append, length-drop, take-append-drop}
 use Rattle.std.proofs.lemmas.Bool.{cases_lt}
 use Rattle.std.proofs.lemmas.List.{get_or_past}
 use Rattle.std.specs.Int.{w64, from_be_bytes}
@@ -32,11 +33,16 @@ size_front false (x ∷ behind) each enough = (x, behind, refl, each 0)
 size_front true octets each enough =
     let eight : 8 ≤ length octets = omega (arith, length-eight_octets 0) in
     let lengths : length (drop 8 octets) + 8 ≡ length octets = omega (arith, length-drop 8 octets) in
-    let first : AreOctets (take 8 octets) = are_octets_front (take 8 octets) (drop 8 octets) (subst AreOctets (sym (take-append-drop 8 octets)) each) in
-    (from_be_bytes w64 (take 8 octets), drop 8 octets, long_front true octets (take 8 octets) (drop 8 octets) _ refl refl refl lengths each refl, size_bounded (take 8 octets) first)
+    let first : AreOctets (take 8 octets) = are_octets_front (take 8 octets) (drop 8 octets) (subst AreOctets (sym (take-append-drop 8 octets)) each) in (
+      from_be_bytes w64 (take 8 octets),
+      drop 8 octets,
+      long_front true octets (take 8 octets) (drop 8 octets) _ refl refl refl lengths each refl,
+      size_bounded (take 8 octets) first,
+    )
 
 -- behind flags that are allowed
-allowed_front : (octets behind : List ℕ) (first : ℕ) (m l c : Bool) → octets ≡ first ∷ behind → AreOctets octets → first ≡ flags m l c → (c && m) ≡ false → Front octets
+allowed_front : (octets behind : List ℕ) (first : ℕ) (m l c : Bool) → octets ≡ first ∷ behind → AreOctets octets → first ≡ flags m l c → (c && m) ≡ false →
+    Front octets
 allowed_front octets behind first m l c e each bits allowed =
     elim (cases_lt (length behind) (length (size_octets l 0))) [
       | inl few ↦ begun (begun-read octets first behind m l c e each bits allowed few)
@@ -50,7 +56,8 @@ both_set true true e = (refl, refl)
 both_set true false e = cc
 both_set false m e = cc
 
-flags_front : (octets behind : List ℕ) (first : ℕ) (m l c both : Bool) → octets ≡ first ∷ behind → AreOctets octets → first ≡ flags m l c → (c && m) ≡ both → Front octets
+flags_front : (octets behind : List ℕ) (first : ℕ) (m l c both : Bool) → octets ≡ first ∷ behind → AreOctets octets → first ≡ flags m l c → (c && m) ≡ both →
+    Front octets
 flags_front octets behind first m l c false e each bits allowed = allowed_front octets behind first m l c e each bits allowed
 flags_front octets behind first m l c true e each bits both =
     let set = both_set c m both in

@@ -1,5 +1,6 @@
 -- The size as the code reads and writes it.
-use Rattle.std.proofs.Common.{Result, Ok, Err, OnOk, is_ok, if◌then◌else◌, ◌≡◌, ℕ, ◌+◌, ◌<◌, Bool, true, false, List, [], ◌∷◌, ◌++◌, length, take, drop, sym, ap, ◌∙◌, refl, subst, arith, append_assoc, length-append, take-append-drop}
+use Rattle.std.proofs.Common.{Result, Ok, Err, OnOk, is_ok, if◌then◌else◌, ◌≡◌, ℕ, ◌+◌, ◌<◌, Bool, true, false, List, [], ◌∷◌, ◌++◌, length, take, drop, sym}
+use Rattle.std.proofs.Common.{ap, ◌∙◌, refl, subst, arith, append_assoc, length-append, take-append-drop}
 use Rattle.std.specs.Int.{w64, to_be_bytes, from_be_bytes}
 use Rattle.zmtp_wire.specs.declared.header.Header.{Header}
 use Rattle.zmtp_wire.specs.Header.{flags, eight_octets, size_octets, header_octets}
@@ -25,7 +26,8 @@ long_front true octets size behind n long front rest whole each read =
 pub long_written : {T E : Type 0} (r : Result T E) (h : Header) (l : Bool) (first : ℕ) (old mid new size : List ℕ) → l ≡ true → first ≡ flags h.more l h.command
     → mid ≡ old ++ first ∷ [] → size ≡ eight_octets h.size → new ≡ (if is_ok r then mid ++ size else mid) → OnOk r (new ≡ old ++ header_octets l h)
 long_written (Ok x) h true first old mid new size long bits begun sized all =
-    all ∙ ap (λ s. s ++ size) begun ∙ append_assoc old (first ∷ []) size ∙ ap (λ o. old ++ o ∷ size) bits ∙ ap (λ s. old ++ flags h.more true h.command ∷ s) sized
+    all ∙ ap (λ s. s ++ size) begun ∙ append_assoc old (first ∷ []) size ∙ ap (λ o. old ++ o ∷ size) bits
+    ∙ ap (λ s. old ++ flags h.more true h.command ∷ s) sized
 long_written (Ok x) h false first old mid new size long bits begun sized all = cc
 long_written (Err e) h l first old mid new size long bits begun sized all = tt
 

@@ -8,7 +8,8 @@ use Rattle.zmtp_wire.specs.Fronts.{HasHeader, HasBadFlags}
 use Rattle.zmtp_wire.specs.Frame.{Frame, header_of, IsFrame}
 use Rattle.zmtp_wire.specs.Tally.{Fits, counted}
 use Rattle.zmtp_wire.specs.Stream.{Rest, whole, Takes, Leaves, IsTooLong, IsFaultAt, IsPartial, End, Open, Faulty, EndsIn, ReadsFrom, Reads}
-use Rattle.zmtp_wire.specs.Laws.{StreamsHaveOneReading, ReadingsGoOn, FaultsStay, FramesAreReadBack, Event, Fed, Given, octets_fed, frames_given, Run, NoCutMatters, CutsAgree}
+use Rattle.zmtp_wire.specs.Laws.{StreamsHaveOneReading, ReadingsGoOn, FaultsStay, FramesAreReadBack, Event, Fed, Given, octets_fed, frames_given, Run}
+use Rattle.zmtp_wire.specs.Laws.{NoCutMatters, CutsAgree}
 use Rattle.zmtp_wire.proofs.Octets.{fronts_equal}
 use Rattle.zmtp_wire.proofs.Headers.{one_header, header_longer, header_or_fault, fault_longer, one_fault}
 
@@ -46,7 +47,8 @@ same_frame f g more command body =
 -- one frame at most stands at the front
 pub one_frame : (rest : Rest) (f g : Frame) (a b : Rest) → Takes rest f a → Takes rest g b → (f ≡ g) × (a ≡ b)
 one_frame rest f g a b p q =
-    let heads = one_header rest.octets (header_of f) (header_of g) (f.body ++ a.octets) (g.body ++ b.octets) (taken_header rest f a p) (taken_header rest g b q) in
+    let heads = one_header rest.octets (header_of f) (header_of g) (f.body ++ a.octets) (g.body ++ b.octets) (taken_header rest f a p)
+    (taken_header rest g b q) in
     let sizes : length f.body ≡ length g.body = ap (λ (h : Header). h.size) heads.0 in
     let bodies = fronts_equal f.body g.body a.octets b.octets sizes heads.1 in
     let frames : f ≡ g = same_frame f g (ap (λ (h : Header). h.more) heads.0) (ap (λ (h : Header). h.command) heads.0) bodies.0 in

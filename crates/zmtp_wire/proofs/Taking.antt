@@ -1,5 +1,6 @@
 -- What the code finds at the front of a rest: a frame, a part of one, or a fault.
-use Rattle.std.proofs.Common.{◌≡◌, ◌≢◌, ℕ, ◌+◌, ◌-◌, ◌<◌, ◌≤◌, List, ◌++◌, length, replicate, take, drop, sym, ap, ◌∙◌, refl, subst, arith, append_assoc, length-append, take-append-drop, length-take-le, length-drop, take_all, drop-drop}
+use Rattle.std.proofs.Common.{◌≡◌, ◌≢◌, ℕ, ◌+◌, ◌-◌, ◌<◌, ◌≤◌, List, ◌++◌, length, replicate, take, drop, sym, ap, ◌∙◌, refl, subst, arith, append_assoc}
+use Rattle.std.proofs.Common.{length-append, take-append-drop, length-take-le, length-drop, take_all, drop-drop}
 use Rattle.std.proofs.Math.Seq.{drop-append-add}
 use Rattle.std.proofs.lemmas.List.{length-replicate}
 use Rattle.zmtp_wire.specs.declared.header.Header.{Header}
@@ -48,13 +49,15 @@ header_begun octets t begun =
     }
 
 -- a header within the limits has no size that passes them
-pub fits_alone : (octets : List ℕ) (t : Tally) (h : Header) (behind : List ℕ) → HasHeader octets h behind → Fits t h → ¬ (IsTooLong (record { octets = octets; tally = t }))
+pub fits_alone : (octets : List ℕ) (t : Tally) (h : Header) (behind : List ℕ) → HasHeader octets h behind → Fits t h →
+    ¬ (IsTooLong (record { octets = octets; tally = t }))
 fits_alone octets t h behind has fits long =
     let heads = one_header octets h long.0 behind long.1 has long.2 in
     long.3 (subst (λ (k : Header). Fits t k) heads.0 fits)
 
 -- a header and less than its body is a part of a frame
-pub body_begun : (octets : List ℕ) (t : Tally) (h : Header) (behind : List ℕ) → HasHeader octets h behind → Fits t h → length behind < h.size → IsPartial (record { octets = octets; tally = t })
+pub body_begun : (octets : List ℕ) (t : Tally) (h : Header) (behind : List ℕ) → HasHeader octets h behind → Fits t h → length behind < h.size →
+    IsPartial (record { octets = octets; tally = t })
 body_begun octets t h behind has fits few =
     let zeros : List ℕ = replicate (h.size - length behind) 0 in
     let size : length (behind ++ zeros) ≡ h.size = rw (length-append, length-replicate) (omega arith) in
@@ -71,7 +74,8 @@ body_begun octets t h behind has fits few =
     }
 
 -- a header and its body is a frame
-pub frame_whole : (octets : List ℕ) (t u : Tally) (h : Header) (behind body : List ℕ) (n : ℕ) → HasHeader octets h behind → Fits t h → u ≡ counted t h → h.size ≤ length behind
+pub frame_whole : (octets : List ℕ) (t u : Tally) (h : Header) (behind body : List ℕ) (n : ℕ) → HasHeader octets h behind → Fits t h → u ≡ counted t h →
+    h.size ≤ length behind
     → body ≡ take h.size behind → n ≡ length octets - (length behind - h.size)
     → Takes (record { octets = octets; tally = t }) (record { more = h.more; command = h.command; body = body }) (record { octets = drop n octets; tally = u })
 frame_whole octets t u h behind body n has fits after enough is_body is_length =
@@ -80,7 +84,8 @@ frame_whole octets t u h behind body n has fits after enough is_body is_length =
     let lengths : length octets ≡ length head + length behind = ap length has.front ∙ length-append head behind in
     let at : n ≡ length head + h.size = omega arith in
     let parts : behind ≡ body ++ drop h.size behind = sym (take-append-drop h.size behind) ∙ ap (λ s. s ++ drop h.size behind) (sym is_body) in
-    let last : drop n octets ≡ drop h.size behind = ap (λ k. drop k octets) at ∙ ap (λ s. drop (length head + h.size) s) has.front ∙ drop-append-add head behind h.size in
+    let last : drop n octets ≡ drop h.size behind = ap (λ k. drop k octets) at ∙ ap (λ s. drop (length head + h.size) s) has.front
+    ∙ drop-append-add head behind h.size in
     let same : h ≡ record { more = h.more; command = h.command; size = length body } = ap (λ k. record h { size = k }) (sym size) in
     record {
       taken = head ++ body;
@@ -95,7 +100,8 @@ rest_at : (items slice : List ℕ) (at : ℕ) → slice ≡ items → take (leng
 rest_at items slice at same = take_all (length slice - at) (drop at slice) (omega (arith, length-drop at slice)) ∙ ap (λ s. drop at s) same
 
 -- a fault from a place of the buffer on is one of what is left
-pub fault_at : (fault : WireFault) (items slice : List ℕ) (at : ℕ) (t : Tally) (rest : Rest) → slice ≡ items → record { octets = drop at items; tally = t } ≡ rest
+pub fault_at : (fault : WireFault) (items slice : List ℕ) (at : ℕ) (t : Tally) (rest : Rest) → slice ≡ items →
+    record { octets = drop at items; tally = t } ≡ rest
     → (fault ≢ Memory → IsFaultAt (record { octets = take (length slice - at) (drop at slice); tally = t }) fault) → fault ≢ Memory → IsFaultAt rest fault
 fault_at fault items slice at t rest same is given unlike =
     let P : List ℕ → Type 0 = λ o. IsFaultAt (record { octets = o; tally = t }) fault in
@@ -103,7 +109,8 @@ fault_at fault items slice at t rest same is given unlike =
 
 -- and a frame from there on is a frame of it
 pub frame_at : (f : Frame) (items slice : List ℕ) (at n : ℕ) (t u : Tally) (rest : Rest) → slice ≡ items → record { octets = drop at items; tally = t } ≡ rest
-    → Takes (record { octets = take (length slice - at) (drop at slice); tally = t }) f (record { octets = drop n (take (length slice - at) (drop at slice)); tally = u })
+    → Takes (record { octets = take (length slice - at) (drop at slice); tally = t }) f
+    (record { octets = drop n (take (length slice - at) (drop at slice)); tally = u })
     → Takes rest f (record { octets = drop (at + n) items; tally = u })
 frame_at f items slice at n t u rest same is takes =
     let P : List ℕ → Type 0 = λ o. Takes (record { octets = o; tally = t }) f (record { octets = drop n o; tally = u }) in

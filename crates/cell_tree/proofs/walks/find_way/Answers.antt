@@ -28,7 +28,8 @@ loop-a-preserved g c =
       room = c.push_reserved.ensures.capacity ∙ at.invariant.room;
       nears =
           subst (λ (n : ℕ). Nears parents c.args.from c.args.to at.a n at.up c.push_reserved.new.self.items) (sym c.parent_of-b.ensures.parent)
-          (subst (λ (way : List ℕ). Nears parents c.args.from c.args.to at.a (parent_in parents at.b) at.up way) (sym {A = List ℕ} c.push_reserved.ensures.items)
+          (subst (λ (way : List ℕ). Nears parents c.args.from c.args.to at.a (parent_in parents at.b) at.up way)
+          (sym {A = List ℕ} c.push_reserved.ensures.items)
           (nears_down parents c.args.from c.args.to at.a at.b at.up at.way.items c.requires.ordered (omega arith) (omega arith) at.invariant.nears over));
     }
 

@@ -11,5 +11,6 @@ returns-clause-before g c = λ above. (
     let count = count_of_parents nodes in
     let low = c.requires.ordered.before c.args.node above (omega arith) in
     let read = parent_read nodes c.args.node node above c.requires.known c.index-nodes-node.is in
-    let here : (get_or nodes (c.args.node - 1) node).parent ≡ parent_in (parents_of nodes) c.args.node = ap (λ (x : Node g.row.C.Denot). x.parent) (sym c.index-nodes-node.is) ∙ read in
+    let here : (get_or nodes (c.args.node - 1) node).parent ≡ parent_in (parents_of nodes) c.args.node =
+    ap (λ (x : Node g.row.C.Denot). x.parent) (sym c.index-nodes-node.is) ∙ read in
     omega arith)

@@ -22,13 +22,16 @@ loop-name-preserved c =
     let xs = map string_bytes (take i names) in
     let same : find (string_bytes name) all ≡ find c.as_str.result.now all = ap (λ (n : Name). find n all) (sym c.as_str.ensures.value) in
     let onward : found all xs ++ onto_found (find (string_bytes name) all) [] ≡ found all (map string_bytes (take (i + 1) names)) =
-    sym (found_more all xs (string_bytes name)) ∙ ap (λ (n : String Global). found all (xs ++ string_bytes n ∷ [])) c.name-item.is ∙ ap (found all) (sym (map_more string_bytes names i name c.loop-name-test.true)) in
+    sym (found_more all xs (string_bytes name)) ∙ ap (λ (n : String Global). found all (xs ++ string_bytes n ∷ [])) c.name-item.is
+    ∙ ap (found all) (sym (map_more string_bytes names i name c.loop-name-test.true)) in
     elim c.match-newest_of.branch [
       | in-Some+in_ok-push w ↦
-          ap (λ (v : Vec (Bor Procedure) Global). in_a_row v.items) w.all-is ∙ ap in_a_row w.in_ok-push.ensures.items ∙ row_more c.loop-name.all.items w.in-Some.procedure
+          ap (λ (v : Vec (Bor Procedure) Global). in_a_row v.items) w.all-is ∙ ap in_a_row w.in_ok-push.ensures.items
+          ∙ row_more c.loop-name.all.items w.in-Some.procedure
           ∙ ap (λ (ps : List Proc). ps ++ plain w.in-Some.procedure ∷ []) c.loop-name.invariant
           ∙ ap (λ (r : Res Proc). found all xs ++ onto_found r []) (sym (same ∙ w.in-Some.ensures))
           ∙ onward
       | in_default w ↦
-          ap (λ (v : Vec (Bor Procedure) Global). in_a_row v.items) w.all-is ∙ c.loop-name.invariant ∙ sym (found_nothing (found all xs)) ∙ ap (λ (r : Res Proc). found all xs ++ onto_found r []) (sym (same ∙ w.in_default.ensures)) ∙ onward
+          ap (λ (v : Vec (Bor Procedure) Global). in_a_row v.items) w.all-is ∙ c.loop-name.invariant ∙ sym (found_nothing (found all xs))
+          ∙ ap (λ (r : Res Proc). found all xs ++ onto_found r []) (sym (same ∙ w.in_default.ensures)) ∙ onward
     ]

@@ -8,10 +8,12 @@ use Rattle.cells_program.proofs.output.send_value.Goals as goal
 pub returns-in_err-send_value-clause-err : goal.returns-in_err-send_value-clause-err
 returns-in_err-send_value-clause-err g c =
     let text = value_text (c.args.name.now, shown c.args.value) in
-    some_first (g.W.Write.contents c.args.writer.now) (g.W.Write.contents c.send_value.new.writer) text (codes "\n") (ended_line text) c.from_residual.result refl c.in_err-send_value.ensures.err
+    some_first (g.W.Write.contents c.args.writer.now) (g.W.Write.contents c.send_value.new.writer) text (codes "\n") (ended_line text)
+    c.from_residual.result refl c.in_err-send_value.ensures.err
 
 pub returns-clause-err : goal.returns-clause-err
 returns-clause-err g c =
     let text = value_text (c.args.name.now, shown c.args.value) in
-    some_then (g.W.Write.contents c.args.writer.now) (g.W.Write.contents c.send_value.new.writer) (g.W.Write.contents c.send.new.writer) text (codes "\n") (ended_line text) c.send.result refl
+    some_then (g.W.Write.contents c.args.writer.now) (g.W.Write.contents c.send_value.new.writer) (g.W.Write.contents c.send.new.writer) text (codes "\n")
+    (ended_line text) c.send.result refl
     c.in_ok-send_value.ensures.ok c.send.ensures.err

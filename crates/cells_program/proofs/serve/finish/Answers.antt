@@ -10,20 +10,25 @@ use Rattle.cells_program.proofs.Serving.{slice_queue, border_queue}
 use Rattle.cells_program.proofs.serve.finish.Goals as goal
 
 -- what a slice told, at its answer
-sliced_as : (old new : Machine) (told as_told : Sliced) → told ≡ as_told → IsInside old.state.job → IsSliceOf old step_limit false told new → IsSliceOf old step_limit false as_told new × Nearer old.state.job as_told new.state.job
+sliced_as : (old new : Machine) (told as_told : Sliced) → told ≡ as_told → IsInside old.state.job → IsSliceOf old step_limit false told new →
+    IsSliceOf old step_limit false as_told new × Nearer old.state.job as_told new.state.job
 sliced_as old new told as_told e i h =
     let s = subst (λ t. IsSliceOf old step_limit false t new) e h in (s, slice_nearer old new as_told i s)
 
-begun_as : (old new : Machine) (told as_told : Begun) → told ≡ as_told → IsBorder old.state.job → IsBegin old told new → IsBegin old as_told new × Begins old.state.job as_told new.state.job
+begun_as : (old new : Machine) (told as_told : Begun) → told ≡ as_told → IsBorder old.state.job → IsBegin old told new → IsBegin old as_told new ×
+    Begins old.state.job as_told new.state.job
 begun_as old new told as_told e i h =
     let s = subst (λ t. IsBegin old t new) e h in (s, begin_nearer old new as_told i s)
 
 pub returns-in-Ended-clause-finishes : goal.returns-in-Ended-clause-finishes
 returns-in-Ended-clause-finishes g c =
-    c.loop-outcome.invariant.1 _ _ (ended (sliced_as c.loop-outcome.kernel.machine c.slice.new.self.machine c.slice.result _ c.in-Ended.is c.loop-outcome.invariant.0 c.slice.ensures.slice).0)
+    c.loop-outcome.invariant.1
+    _ _ (ended (sliced_as c.loop-outcome.kernel.machine c.slice.new.self.machine c.slice.result _ c.in-Ended.is c.loop-outcome.invariant.0
+    c.slice.ensures.slice).0)
 
 pub returns-in-Ended-clause-idle : goal.returns-in-Ended-clause-idle
-returns-in-Ended-clause-idle g c = (sliced_as c.loop-outcome.kernel.machine c.slice.new.self.machine c.slice.result _ c.in-Ended.is c.loop-outcome.invariant.0 c.slice.ensures.slice).1
+returns-in-Ended-clause-idle g c =
+    (sliced_as c.loop-outcome.kernel.machine c.slice.new.self.machine c.slice.result _ c.in-Ended.is c.loop-outcome.invariant.0 c.slice.ensures.slice).1
 
 pub returns-in-Ended-begin-clause-finishes : goal.returns-in-Ended-begin-clause-finishes
 returns-in-Ended-begin-clause-finishes g c =
@@ -45,8 +50,12 @@ loop-outcome-smaller-in-Going-begin g c =
 pub loop-outcome-preserved-in-Going-begin : goal.loop-outcome-preserved-in-Going-begin
 loop-outcome-preserved-in-Going-begin g c =
     let s = sliced_as c.loop-outcome.kernel.machine c.slice.new.self.machine c.slice.result _ c.in-Border.is c.loop-outcome.invariant.0 c.slice.ensures.slice in
-    let b = begun_as c.slice.new.self.machine c.begin.new.self.machine c.begin.result _ c.in-Going-begin.is s.1.0 c.begin.ensures.begin in
-    (b.1.0, (λ o new f. c.loop-outcome.invariant.1 o new (next_cell s.0 b.0 f)), border_queue c.slice.new.self.machine c.begin.new.self.machine _ s.1.0 b.0 ∙ slice_queue c.loop-outcome.kernel.machine c.slice.new.self.machine step_limit false _ s.0 ∙ c.loop-outcome.invariant.2)
+    let b = begun_as c.slice.new.self.machine c.begin.new.self.machine c.begin.result _ c.in-Going-begin.is s.1.0 c.begin.ensures.begin in (
+      b.1.0,
+      (λ o new f. c.loop-outcome.invariant.1 o new (next_cell s.0 b.0 f)),
+      border_queue c.slice.new.self.machine c.begin.new.self.machine _ s.1.0 b.0
+          ∙ slice_queue c.loop-outcome.kernel.machine c.slice.new.self.machine step_limit false _ s.0 ∙ c.loop-outcome.invariant.2,
+    )
 
 pub loop-outcome-smaller-in-Going : goal.loop-outcome-smaller-in-Going
 loop-outcome-smaller-in-Going g c =
@@ -54,8 +63,12 @@ loop-outcome-smaller-in-Going g c =
 
 pub loop-outcome-preserved-in-Going : goal.loop-outcome-preserved-in-Going
 loop-outcome-preserved-in-Going g c =
-    let s = sliced_as c.loop-outcome.kernel.machine c.slice.new.self.machine c.slice.result _ c.in-Going.is c.loop-outcome.invariant.0 c.slice.ensures.slice in
-    (s.1.0, (λ o new f. c.loop-outcome.invariant.1 o new (going s.0 f)), slice_queue c.loop-outcome.kernel.machine c.slice.new.self.machine step_limit false _ s.0 ∙ c.loop-outcome.invariant.2)
+    let s =
+    sliced_as c.loop-outcome.kernel.machine c.slice.new.self.machine c.slice.result _ c.in-Going.is c.loop-outcome.invariant.0 c.slice.ensures.slice in (
+      s.1.0,
+      (λ o new f. c.loop-outcome.invariant.1 o new (going s.0 f)),
+      slice_queue c.loop-outcome.kernel.machine c.slice.new.self.machine step_limit false _ s.0 ∙ c.loop-outcome.invariant.2,
+    )
 
 pub loop-outcome-smaller : goal.loop-outcome-smaller
 loop-outcome-smaller g c =
@@ -63,8 +76,12 @@ loop-outcome-smaller g c =
 
 pub loop-outcome-preserved : goal.loop-outcome-preserved
 loop-outcome-preserved g c =
-    let s = sliced_as c.loop-outcome.kernel.machine c.slice.new.self.machine c.slice.result _ c.in-Backing.is c.loop-outcome.invariant.0 c.slice.ensures.slice in
-    (s.1.0, (λ o new f. c.loop-outcome.invariant.1 o new (backing s.0 f)), slice_queue c.loop-outcome.kernel.machine c.slice.new.self.machine step_limit false _ s.0 ∙ c.loop-outcome.invariant.2)
+    let s = sliced_as c.loop-outcome.kernel.machine c.slice.new.self.machine c.slice.result _ c.in-Backing.is c.loop-outcome.invariant.0
+    c.slice.ensures.slice in (
+      s.1.0,
+      (λ o new f. c.loop-outcome.invariant.1 o new (backing s.0 f)),
+      slice_queue c.loop-outcome.kernel.machine c.slice.new.self.machine step_limit false _ s.0 ∙ c.loop-outcome.invariant.2,
+    )
 
 pub returns-in-Ended-clause-queue : goal.returns-in-Ended-clause-queue
 returns-in-Ended-clause-queue g c =
@@ -75,4 +92,5 @@ pub returns-in-Ended-begin-clause-queue : goal.returns-in-Ended-begin-clause-que
 returns-in-Ended-begin-clause-queue g c =
     let s = sliced_as c.loop-outcome.kernel.machine c.slice.new.self.machine c.slice.result _ c.in-Border.is c.loop-outcome.invariant.0 c.slice.ensures.slice in
     let b = begun_as c.slice.new.self.machine c.begin.new.self.machine c.begin.result _ c.in-Ended-begin.is s.1.0 c.begin.ensures.begin in
-    border_queue c.slice.new.self.machine c.begin.new.self.machine _ s.1.0 b.0 ∙ slice_queue c.loop-outcome.kernel.machine c.slice.new.self.machine step_limit false _ s.0 ∙ c.loop-outcome.invariant.2
+    border_queue c.slice.new.self.machine c.begin.new.self.machine _ s.1.0 b.0
+    ∙ slice_queue c.loop-outcome.kernel.machine c.slice.new.self.machine step_limit false _ s.0 ∙ c.loop-outcome.invariant.2

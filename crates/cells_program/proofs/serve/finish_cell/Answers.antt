@@ -18,21 +18,26 @@ returns-in-Ended-clause-finishes g c =
     in_time (sliced_as c.args.kernel.now.machine c.slice.new.self.machine c.args.steps c.slice.result _ c.in-Ended.is c.requires c.slice.ensures.slice).0
 
 pub returns-in-Ended-clause-idle : goal.returns-in-Ended-clause-idle
-returns-in-Ended-clause-idle g c = (sliced_as c.args.kernel.now.machine c.slice.new.self.machine c.args.steps c.slice.result _ c.in-Ended.is c.requires c.slice.ensures.slice).1
+returns-in-Ended-clause-idle g c =
+    (sliced_as c.args.kernel.now.machine c.slice.new.self.machine c.args.steps c.slice.result _ c.in-Ended.is c.requires c.slice.ensures.slice).1
 
 pub returns-in-Ended-clause-queue : goal.returns-in-Ended-clause-queue
 returns-in-Ended-clause-queue g c = slice_queue c.args.kernel.now.machine c.slice.new.self.machine c.args.steps false _ c.slice.ensures.slice
 
 pub go_back-requires : goal.go_back-requires
-go_back-requires g c = (sliced_as c.args.kernel.now.machine c.slice.new.self.machine c.args.steps c.slice.result _ c.in-Going.is c.requires c.slice.ensures.slice).1
+go_back-requires g c =
+    (sliced_as c.args.kernel.now.machine c.slice.new.self.machine c.args.steps c.slice.result _ c.in-Going.is c.requires c.slice.ensures.slice).1
 
 pub returns-in-Going-clause-finishes : goal.returns-in-Going-clause-finishes
 returns-in-Going-clause-finishes g c =
-    interrupted (sliced_as c.args.kernel.now.machine c.slice.new.self.machine c.args.steps c.slice.result _ c.in-Going.is c.requires c.slice.ensures.slice).0 c.go_back.ensures.goes_back
+    interrupted (sliced_as c.args.kernel.now.machine c.slice.new.self.machine c.args.steps c.slice.result _ c.in-Going.is c.requires c.slice.ensures.slice).0
+    c.go_back.ensures.goes_back
 
 pub go_back-requires-in-Backing : goal.go_back-requires-in-Backing
-go_back-requires-in-Backing g c = (sliced_as c.args.kernel.now.machine c.slice.new.self.machine c.args.steps c.slice.result _ c.in-Backing.is c.requires c.slice.ensures.slice).1
+go_back-requires-in-Backing g c =
+    (sliced_as c.args.kernel.now.machine c.slice.new.self.machine c.args.steps c.slice.result _ c.in-Backing.is c.requires c.slice.ensures.slice).1
 
 pub returns-in-Backing-clause-finishes : goal.returns-in-Backing-clause-finishes
 returns-in-Backing-clause-finishes g c =
-    faulted (sliced_as c.args.kernel.now.machine c.slice.new.self.machine c.args.steps c.slice.result _ c.in-Backing.is c.requires c.slice.ensures.slice).0 c.go_back-in-Backing.ensures.goes_back
+    faulted (sliced_as c.args.kernel.now.machine c.slice.new.self.machine c.args.steps c.slice.result _ c.in-Backing.is c.requires c.slice.ensures.slice).0
+    c.go_back-in-Backing.ensures.goes_back

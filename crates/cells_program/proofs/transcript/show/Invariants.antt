@@ -7,4 +7,5 @@ use Rattle.cells_program.proofs.transcript.show.Given as goal
 -- the first i names are written
 abbrev pub invariant-loop-i : goal.invariant-loop-i
 invariant-loop-i g l =
-    Appends (g.W.Write.contents l.fn.writer) (g.W.Write.contents l.writer) (first_text l.fn.kernel.machine.state.past.position (listed (here l.fn.kernel.machine.state.past).store) l.i)
+    Appends (g.W.Write.contents l.fn.writer) (g.W.Write.contents l.writer)
+    (first_text l.fn.kernel.machine.state.past.position (listed (here l.fn.kernel.machine.state.past).store) l.i)

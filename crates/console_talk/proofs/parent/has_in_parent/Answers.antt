@@ -9,8 +9,11 @@ use Rattle.console_talk.proofs.parent.has_in_parent.Goals as goal
 pub returns-in-Ok : goal.returns-in-Ok
 returns-in-Ok c =
     let read = c.in-Ok.ensures.ok in
-    c.is_word.ensures ∙ sym (ap (λ o. option_map_or (λ d. is_word c.args.name.now c.args.word.now d) o false) (ap data_of (sym c.deref.ensures.value) ∙ data_of-read _ _ read.0 read.1))
+    c.is_word.ensures
+    ∙ sym (ap (λ o. option_map_or (λ d. is_word c.args.name.now c.args.word.now d) o false)
+    (ap data_of (sym c.deref.ensures.value) ∙ data_of-read _ _ read.0 read.1))
 
 pub returns-else-is_memory : goal.returns-else-is_memory
 returns-else-is_memory c =
-    sym (ap (λ o. option_map_or (λ d. is_word c.args.name.now c.args.word.now d) o false) (ap data_of (sym c.deref.ensures.value) ∙ data_of-unread _ (λ u. c.in-Err.ensures.err (λ m. false≢true (c.if-is_memory.ensures.1 m)) u)))
+    sym (ap (λ o. option_map_or (λ d. is_word c.args.name.now c.args.word.now d) o false)
+    (ap data_of (sym c.deref.ensures.value) ∙ data_of-unread _ (λ u. c.in-Err.ensures.err (λ m. false≢true (c.if-is_memory.ensures.1 m)) u)))

@@ -4,4 +4,5 @@ use Rattle.console_talk.specs.Lines.{with_lines}
 use Rattle.console_talk.proofs.printed.push_lines.Given as goal
 
 abbrev pub invariant-loop-item : goal.invariant-loop-item
-invariant-loop-item l = with_lines (string_bytes l.text) (items_view (drop l.item-index l.items)) ≡ with_lines (string_bytes l.initial.text) (items_view l.items)
+invariant-loop-item l = with_lines (string_bytes l.text) (items_view (drop l.item-index l.items)) ≡ with_lines (string_bytes l.initial.text)
+    (items_view l.items)

@@ -27,7 +27,8 @@ returns-in-Some c =
     let ys = names_view c.args.arguments.now in
     let cs = meant_kinds c.in-Some.kinds.now in
     let first = c.args.first in
-    let many = count_same (length cs) (length ys) (length-map c.in-Some.kinds.now meant_kind ∙ c.if-kinds-arguments.true ∙ sym (length-map c.args.arguments.now name_view)) in
+    let many = count_same (length cs) (length ys)
+    (length-map c.in-Some.kinds.now meant_kind ∙ c.if-kinds-arguments.true ∙ sym (length-map c.args.arguments.now name_view)) in
     two_parts first c.twice_fault-next.result c.kinds_fault.result (twice_faults [] ys) (kinds_faults g cs ys) c.twice_fault-next.ensures c.kinds_fault.ensures
     ∙ ap (λ b. first_from first (twice_faults [] ys ++ counted_faults b g cs at ys)) (sym many)
     ∙ ap (λ o. first_from first (twice_faults [] ys ++ found_faults g o at ys)) (sym c.in-Some.ensures)
@@ -39,7 +40,8 @@ returns-in-Some-2 c =
     let ys = names_view c.args.arguments.now in
     let cs = meant_kinds c.in-Some.kinds.now in
     let first = c.args.first in
-    let other = count_differs (length cs) (length ys) (λ e. c.if-kinds-arguments.false (sym (length-map c.in-Some.kinds.now meant_kind) ∙ e ∙ length-map c.args.arguments.now name_view)) in
+    let other = count_differs (length cs) (length ys)
+    (λ e. c.if-kinds-arguments.false (sym (length-map c.in-Some.kinds.now meant_kind) ∙ e ∙ length-map c.args.arguments.now name_view)) in
     two_parts first c.twice_fault-next.result c.loose_fault-in-Some-2.result (twice_faults [] ys) (Arity at ∷ loose_faults g ys) c.twice_fault-next.ensures
     (c.loose_fault-in-Some-2.ensures ∙ ap (λ f. first_from f (loose_faults g ys)) c.sooner-in-Some-2.ensures)
     ∙ ap (λ b. first_from first (twice_faults [] ys ++ counted_faults b g cs at ys)) (sym other)

@@ -7,4 +7,5 @@ use Rattle.janus_check.proofs.call.twice_fault.Given as goal
 -- what is found from here on is what is found from the beginning
 abbrev pub invariant-loop-i : goal.invariant-loop-i
 invariant-loop-i l =
-    first_from l.next (twice_faults (names_view (take l.i l.arguments)) (names_view (drop l.i l.arguments))) ≡ first_from l.fn.first (twice_faults [] (names_view l.arguments))
+    first_from l.next (twice_faults (names_view (take l.i l.arguments)) (names_view (drop l.i l.arguments))) ≡ first_from l.fn.first
+    (twice_faults [] (names_view l.arguments))

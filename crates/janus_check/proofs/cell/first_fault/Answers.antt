@@ -19,14 +19,23 @@ returns-clause-first c =
     let none : heads_in c.declare_all.new.own.procedures ≡ [] = ap heads_in (c.in_ok-first.ensures.procedures ∙ c.requires.procedures) in
     let own : over g c.define_all.new.own.names ≡ after_declarations g (declarations_view ds) =
     ap (over g) c.define_all.ensures.names
-    ∙ c.in_ok-first.ensures.names ∙ ap (λ es. after_declarations (over g es) (declarations_view c.deref.result.now)) c.requires.names ∙ ap (λ ds. after_declarations g (declarations_view ds)) c.deref.ensures.value in
+    ∙ c.in_ok-first.ensures.names ∙ ap (λ es. after_declarations (over g es) (declarations_view c.deref.result.now)) c.requires.names
+    ∙ ap (λ ds. after_declarations g (declarations_view ds)) c.deref.ensures.value in
     let heads : heads_over env c.define_all.new.own ≡ heads_with hs (procedures_view ps) =
-    ap (λ n. n ++ hs) (c.in_ok-first-2.ensures.heads ∙ ap (λ n. after_heads n (procedures_view c.deref-2.result.now)) none ∙ ap (λ ps. after_heads [] (procedures_view ps)) c.deref-2.ensures.value) in
-    four_parts None c.in_ok-first.first c.in_ok-first-2.first c.block_fault-first.result c.bodies_fault.result (declarations_faults g (declarations_view ds)) (heads_faults hs [] (procedures_view ps)) (block_faults (heads_with hs (procedures_view ps)) (after_declarations g (declarations_view ds)) (block_view b)) (bodies_faults (heads_with hs (procedures_view ps)) (procedures_view ps))
-    (c.in_ok-first.ensures.fault ∙ ap (λ es. first_from None (declarations_faults (over g es) (declarations_view c.deref.result.now))) c.requires.names ∙ ap (λ ds. first_from None (declarations_faults g (declarations_view ds))) c.deref.ensures.value)
-    (c.in_ok-first-2.ensures.fault ∙ ap (λ n. first_from c.in_ok-first.first (heads_faults hs n (procedures_view c.deref-2.result.now))) none ∙ ap (λ ps. first_from c.in_ok-first.first (heads_faults hs [] (procedures_view ps))) c.deref-2.ensures.value)
+    ap (λ n. n ++ hs)
+    (c.in_ok-first-2.ensures.heads ∙ ap (λ n. after_heads n (procedures_view c.deref-2.result.now)) none
+    ∙ ap (λ ps. after_heads [] (procedures_view ps)) c.deref-2.ensures.value) in
+    four_parts None c.in_ok-first.first c.in_ok-first-2.first c.block_fault-first.result c.bodies_fault.result (declarations_faults g (declarations_view ds))
+    (heads_faults hs [] (procedures_view ps))
+    (block_faults (heads_with hs (procedures_view ps)) (after_declarations g (declarations_view ds)) (block_view b))
+    (bodies_faults (heads_with hs (procedures_view ps)) (procedures_view ps))
+    (c.in_ok-first.ensures.fault ∙ ap (λ es. first_from None (declarations_faults (over g es) (declarations_view c.deref.result.now))) c.requires.names
+    ∙ ap (λ ds. first_from None (declarations_faults g (declarations_view ds))) c.deref.ensures.value)
+    (c.in_ok-first-2.ensures.fault ∙ ap (λ n. first_from c.in_ok-first.first (heads_faults hs n (procedures_view c.deref-2.result.now))) none
+    ∙ ap (λ ps. first_from c.in_ok-first.first (heads_faults hs [] (procedures_view ps))) c.deref-2.ensures.value)
     (c.block_fault-first.ensures
-    ∙ ap (λ b. first_from c.in_ok-first-2.first (block_faults (heads_over env c.define_all.new.own) (over g c.define_all.new.own.names) (block_view b))) c.deref-3.ensures.value
+    ∙ ap (λ b. first_from c.in_ok-first-2.first (block_faults (heads_over env c.define_all.new.own) (over g c.define_all.new.own.names) (block_view b)))
+    c.deref-3.ensures.value
     ∙ ap (λ n. first_from c.in_ok-first-2.first (block_faults (heads_over env c.define_all.new.own) n (block_view b))) own
     ∙ ap (λ n. first_from c.in_ok-first-2.first (block_faults n (after_declarations g (declarations_view ds)) (block_view b))) heads)
     (c.bodies_fault.ensures
@@ -44,7 +53,10 @@ returns-clause-own c = λ formed.
     let none : heads_in c.declare_all.new.own.procedures ≡ [] = ap heads_in (c.in_ok-first.ensures.procedures ∙ c.requires.procedures) in
     let names : over g c.define_all.new.own.names ≡ after_declarations g (declarations_view ds) =
     ap (over g) c.define_all.ensures.names
-    ∙ c.in_ok-first.ensures.names ∙ ap (λ es. after_declarations (over g es) (declarations_view c.deref.result.now)) c.requires.names ∙ ap (λ ds. after_declarations g (declarations_view ds)) c.deref.ensures.value in
+    ∙ c.in_ok-first.ensures.names ∙ ap (λ es. after_declarations (over g es) (declarations_view c.deref.result.now)) c.requires.names
+    ∙ ap (λ ds. after_declarations g (declarations_view ds)) c.deref.ensures.value in
     let heads : heads_over env c.define_all.new.own ≡ heads_with hs (procedures_view ps) =
-    ap (λ n. n ++ hs) (c.in_ok-first-2.ensures.heads ∙ ap (λ n. after_heads n (procedures_view c.deref-2.result.now)) none ∙ ap (λ ps. after_heads [] (procedures_view ps)) c.deref-2.ensures.value) in
+    ap (λ n. n ++ hs)
+    (c.in_ok-first-2.ensures.heads ∙ ap (λ n. after_heads n (procedures_view c.deref-2.result.now)) none
+    ∙ ap (λ ps. after_heads [] (procedures_view ps)) c.deref-2.ensures.value) in
     own_is env c.define_all.new.own (declarations_view ds) (block_view b) (procedures_view ps) formed names heads

@@ -8,5 +8,6 @@ use Rattle.janus_check.proofs.cell.has_all_stacks.Goals as goal
 
 pub returns : goal.returns
 returns c =
-    ap (λ n. nat_le live_stack_limit (n + c.stacks-2.result)) c.stacks.ensures.count ∙ ap (λ n. nat_le live_stack_limit (stack_count (shape_in c.args.env.now.names) + n)) c.stacks-2.ensures.count
+    ap (λ n. nat_le live_stack_limit (n + c.stacks-2.result)) c.stacks.ensures.count
+    ∙ ap (λ n. nat_le live_stack_limit (stack_count (shape_in c.args.env.now.names) + n)) c.stacks-2.ensures.count
     ∙ ap (nat_le live_stack_limit) (sym (stacks-over (shape_in c.args.env.now.names) c.args.own.now.names))

@@ -9,7 +9,8 @@ use Rattle.janus_check.proofs.expression.+exp_fault.Goals as goal
 pub returns-in-Binary : goal.returns-in-Binary
 returns-in-Binary t c =
     let faults : Exp → _ = faults_of (faults_at c.args.context.now) in
-    two_parts c.args.first c.exp_fault-next.result c.exp_fault-in-Binary.result (faults (exp_view c.in-Binary.left.value)) (faults (exp_view c.in-Binary.right.value))
+    two_parts c.args.first c.exp_fault-next.result c.exp_fault-in-Binary.result (faults (exp_view c.in-Binary.left.value))
+    (faults (exp_view c.in-Binary.right.value))
     (c.exp_fault-next.ensures ∙ ap (λ e. first_from c.args.first (faults (exp_view e))) c.deref-in-Binary.ensures)
     (c.exp_fault-in-Binary.ensures ∙ ap (λ e. first_from c.exp_fault-next.result (faults (exp_view e))) c.deref-in-Binary-2.ensures)
     ∙ ap (λ e. first_from c.args.first (faults (exp_view e))) (sym c.in-Binary.is)
@@ -17,7 +18,8 @@ returns-in-Binary t c =
 pub returns-in-And : goal.returns-in-And
 returns-in-And t c =
     let faults : Exp → _ = faults_of (faults_at c.args.context.now) in
-    two_parts c.args.first c.exp_fault-next-in-And.result c.exp_fault-in-And.result (faults (exp_view c.in-And.left.value)) (faults (exp_view c.in-And.right.value))
+    two_parts c.args.first c.exp_fault-next-in-And.result c.exp_fault-in-And.result (faults (exp_view c.in-And.left.value))
+    (faults (exp_view c.in-And.right.value))
     (c.exp_fault-next-in-And.ensures ∙ ap (λ e. first_from c.args.first (faults (exp_view e))) c.deref-in-And.ensures)
     (c.exp_fault-in-And.ensures ∙ ap (λ e. first_from c.exp_fault-next-in-And.result (faults (exp_view e))) c.deref-in-And-2.ensures)
     ∙ ap (λ e. first_from c.args.first (faults (exp_view e))) (sym c.in-And.is)

@@ -9,15 +9,19 @@ use Rattle.janus_check.proofs.expression.check_exp.Goals as goal
 
 pub returns-in-None-clause-passes : goal.returns-in-None-clause-passes
 returns-in-None-clause-passes c =
-    let found = c.exp_fault.ensures ∙ ap (λ n. first_from None (exp_faults (over (shape_in n) c.args.env.now.names) (exp_view c.args.exp.now))) c.new-none.ensures.names in
+    let found = c.exp_fault.ensures ∙ ap (λ n. first_from None (exp_faults (over (shape_in n) c.args.env.now.names) (exp_view c.args.exp.now)))
+    c.new-none.ensures.names in
     first_none (exp_faults (shape_in c.args.env.now.names) (exp_view c.args.exp.now)) (sym found ∙ c.in-None.is)
 
 pub returns-in-None-clause-well_formed : goal.returns-in-None-clause-well_formed
 returns-in-None-clause-well_formed c =
-    let found = c.exp_fault.ensures ∙ ap (λ n. first_from None (exp_faults (over (shape_in n) c.args.env.now.names) (exp_view c.args.exp.now))) c.new-none.ensures.names in
-    exp_formed (shape_in c.args.env.now.names) (exp_view c.args.exp.now) (first_none (exp_faults (shape_in c.args.env.now.names) (exp_view c.args.exp.now)) (sym found ∙ c.in-None.is))
+    let found = c.exp_fault.ensures ∙ ap (λ n. first_from None (exp_faults (over (shape_in n) c.args.env.now.names) (exp_view c.args.exp.now)))
+    c.new-none.ensures.names in
+    exp_formed (shape_in c.args.env.now.names) (exp_view c.args.exp.now)
+    (first_none (exp_faults (shape_in c.args.env.now.names) (exp_view c.args.exp.now)) (sym found ∙ c.in-None.is))
 
 pub returns-clause-first : goal.returns-clause-first
 returns-clause-first c =
-    let found = c.exp_fault.ensures ∙ ap (λ n. first_from None (exp_faults (over (shape_in n) c.args.env.now.names) (exp_view c.args.exp.now))) c.new-none.ensures.names in
+    let found = c.exp_fault.ensures ∙ ap (λ n. first_from None (exp_faults (over (shape_in n) c.args.env.now.names) (exp_view c.args.exp.now)))
+    c.new-none.ensures.names in
     found_is_first (exp_faults (shape_in c.args.env.now.names) (exp_view c.args.exp.now)) c.in-Some.fault (sym found ∙ c.in-Some.is)

@@ -13,15 +13,19 @@ use Rattle.janus_check.proofs.expression.fault_at.Goals as goal
 pub returns-then-eq : goal.returns-then-eq
 returns-then-eq c =
     let g = in_sight c.in-EndOfLocal.sight.now in
-    let same : same_name (name_of c.args.name.now) (name_of c.in-EndOfLocal.local.now) ≡ true = same_as_bytes (name_of c.args.name.now) (name_of c.in-EndOfLocal.local.now) ∙ sym c.if-eq.ensures in
+    let same : same_name (name_of c.args.name.now) (name_of c.in-EndOfLocal.local.now) ≡ true =
+    same_as_bytes (name_of c.args.name.now) (name_of c.in-EndOfLocal.local.now) ∙ sym c.if-eq.ensures in
     c.sooner.ensures
-    ∙ ap (λ b. first_from c.args.first (if b then SelfUse c.args.name.now.span ∷ [] else use_faults g (meant_kind c.args.kind) (name_view c.args.name.now))) (sym same)
+    ∙ ap (λ b. first_from c.args.first (if b then SelfUse c.args.name.now.span ∷ [] else use_faults g (meant_kind c.args.kind) (name_view c.args.name.now)))
+    (sym same)
     ∙ ap (λ s. first_from c.args.first (faults_at s (meant_kind c.args.kind) (name_view c.args.name.now))) (sym c.in-EndOfLocal.is)
 
 pub returns-else-eq : goal.returns-else-eq
 returns-else-eq c =
     let g = in_sight c.in-EndOfLocal.sight.now in
-    let other : same_name (name_of c.args.name.now) (name_of c.in-EndOfLocal.local.now) ≡ false = same_as_bytes (name_of c.args.name.now) (name_of c.in-EndOfLocal.local.now) ∙ sym c.if-eq.ensures in
+    let other : same_name (name_of c.args.name.now) (name_of c.in-EndOfLocal.local.now) ≡ false =
+    same_as_bytes (name_of c.args.name.now) (name_of c.in-EndOfLocal.local.now) ∙ sym c.if-eq.ensures in
     c.use_fault-else-eq.ensures
-    ∙ ap (λ b. first_from c.args.first (if b then SelfUse c.args.name.now.span ∷ [] else use_faults g (meant_kind c.args.kind) (name_view c.args.name.now))) (sym other)
+    ∙ ap (λ b. first_from c.args.first (if b then SelfUse c.args.name.now.span ∷ [] else use_faults g (meant_kind c.args.kind) (name_view c.args.name.now)))
+    (sym other)
     ∙ ap (λ s. first_from c.args.first (faults_at s (meant_kind c.args.kind) (name_view c.args.name.now))) (sym c.in-EndOfLocal.is)

@@ -55,7 +55,8 @@ stm_names-returns-in-LocalInt t c =
     let past_inside = c.is_inside-next.result in
     two_found found past_inside c.exp_names-in-LocalInt.result (begin || inside) (in_exp x (exp_view c.in-LocalInt.end))
     (two_found found past_begin past_inside begin inside c.exp_names-next-in-LocalInt.ensures
-    (c.is_inside-next.ensures ∙ ap (λ b. past_begin || (own && b)) (c.block_names-inside.ensures ∙ ap (λ b. in_block x (block_view b)) c.deref-in-LocalInt.ensures.value)))
+    (c.is_inside-next.ensures
+    ∙ ap (λ b. past_begin || (own && b)) (c.block_names-inside.ensures ∙ ap (λ b. in_block x (block_view b)) c.deref-in-LocalInt.ensures.value)))
     c.exp_names-in-LocalInt.ensures
     ∙ ap (λ s. found || in_stm x s) (sym (view_local_int local c.in-LocalInt.field-3 c.in-LocalInt.begin c.in-LocalInt.end c.in-LocalInt.body))
     ∙ ap (λ s. found || in_stm x (stm_view s)) (sym c.in-LocalInt.is)
@@ -66,6 +67,7 @@ stm_names-returns-in-LocalStack t c =
     let found = c.args.found in
     let local = c.in-LocalStack.local in
     let own = not (is_it x (name_view local)) in
-    c.is_inside.ensures ∙ ap (λ b. found || (own && b)) (c.block_names-inside-in-LocalStack.ensures ∙ ap (λ b. in_block x (block_view b)) c.deref-in-LocalStack.ensures.value)
+    c.is_inside.ensures
+    ∙ ap (λ b. found || (own && b)) (c.block_names-inside-in-LocalStack.ensures ∙ ap (λ b. in_block x (block_view b)) c.deref-in-LocalStack.ensures.value)
     ∙ ap (λ s. found || in_stm x s) (sym (view_local_stack local c.in-LocalStack.field-2 c.in-LocalStack.body))
     ∙ ap (λ s. found || in_stm x (stm_view s)) (sym c.in-LocalStack.is)

@@ -15,8 +15,10 @@ returns-then-eq c =
     let i = c.loop-i.i in
     let ps = c.args.parameters.now in
     let rest = kind_at x (map plain_parameter (parameters_view (drop (i + 1) ps))) in
-    let same : same_name x e.0 ≡ true = ap (same_name x) (sym c.name_of_parameter.ensures.text) ∙ same_as_bytes x (name_of c.name_of_parameter.result.now) ∙ sym c.if-eq.ensures in
-    ap Some c.kind_of.ensures ∙ sym (ap (λ b. pick_newest b e.1 rest) same) ∙ ap (λ ps. kind_at x (map plain_parameter (parameters_view ps))) (dropped ps i p c.index-parameters-i.is c.loop-i-test.true) ∙ c.loop-i.invariant
+    let same : same_name x e.0 ≡ true = ap (same_name x) (sym c.name_of_parameter.ensures.text) ∙ same_as_bytes x (name_of c.name_of_parameter.result.now)
+    ∙ sym c.if-eq.ensures in
+    ap Some c.kind_of.ensures ∙ sym (ap (λ b. pick_newest b e.1 rest) same)
+    ∙ ap (λ ps. kind_at x (map plain_parameter (parameters_view ps))) (dropped ps i p c.index-parameters-i.is c.loop-i-test.true) ∙ c.loop-i.invariant
 
 pub loop-i-preserved : goal.loop-i-preserved
 loop-i-preserved c =
@@ -26,5 +28,7 @@ loop-i-preserved c =
     let i = c.loop-i.i in
     let ps = c.args.parameters.now in
     let rest = kind_at x (map plain_parameter (parameters_view (drop (i + 1) ps))) in
-    let other : same_name x e.0 ≡ false = ap (same_name x) (sym c.name_of_parameter.ensures.text) ∙ same_as_bytes x (name_of c.name_of_parameter.result.now) ∙ sym c.if-eq.ensures in
-    sym (ap (λ b. pick_newest b e.1 rest) other) ∙ ap (λ ps. kind_at x (map plain_parameter (parameters_view ps))) (dropped ps i p c.index-parameters-i.is c.loop-i-test.true) ∙ c.loop-i.invariant
+    let other : same_name x e.0 ≡ false = ap (same_name x) (sym c.name_of_parameter.ensures.text) ∙ same_as_bytes x (name_of c.name_of_parameter.result.now)
+    ∙ sym c.if-eq.ensures in
+    sym (ap (λ b. pick_newest b e.1 rest) other)
+    ∙ ap (λ ps. kind_at x (map plain_parameter (parameters_view ps))) (dropped ps i p c.index-parameters-i.is c.loop-i-test.true) ∙ c.loop-i.invariant

@@ -7,4 +7,5 @@ use Rattle.janus_check.proofs.parameter.kind_among.Given as goal
 -- the name has the same kind among the rest as among all
 abbrev pub invariant-loop-i : goal.invariant-loop-i
 invariant-loop-i l =
-    kind_at (name_of l.name) (map plain_parameter (parameters_view (drop l.i l.parameters))) ≡ kind_at (name_of l.name) (map plain_parameter (parameters_view l.parameters))
+    kind_at (name_of l.name) (map plain_parameter (parameters_view (drop l.i l.parameters))) ≡ kind_at (name_of l.name)
+    (map plain_parameter (parameters_view l.parameters))

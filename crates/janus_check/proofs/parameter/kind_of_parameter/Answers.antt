@@ -10,7 +10,9 @@ pub returns-then-parameters-le-PARAMETER_LIMIT : goal.returns-then-parameters-le
 returns-then-parameters-le-PARAMETER_LIMIT c =
     let xs = parameters_view c.args.parameters.now in
     let n = length-map c.args.parameters.now parameter_view in
-    c.kind_among.ensures ∙ ap (λ xs. kind_at (name_of c.args.name.now) (map plain_parameter xs)) (sym (take_all parameter_limit xs (omega (arith, n, c.if-parameters-le-PARAMETER_LIMIT.true))))
+    c.kind_among.ensures
+    ∙ ap (λ xs. kind_at (name_of c.args.name.now) (map plain_parameter xs))
+    (sym (take_all parameter_limit xs (omega (arith, n, c.if-parameters-le-PARAMETER_LIMIT.true))))
 
 pub returns-else-parameters-le-PARAMETER_LIMIT : goal.returns-else-parameters-le-PARAMETER_LIMIT
 returns-else-parameters-le-PARAMETER_LIMIT c =

@@ -15,8 +15,10 @@ loop-i-preserved c =
     let before = parameters_view (take i ps) in
     let rest = parameters_view (drop (i + 1) ps) in
     let next = c.loop-i.next in
-    ap (λ b. first_from c.parameter_fault-next.result (parameters_faults b rest)) (ap parameters_view (taken ps i p c.index-parameters-i.is c.loop-i-test.true) ∙ map-append parameter_view (take i ps) (p ∷ []))
-    ∙ ap (λ f. first_from f (parameters_faults (before ++ parameter_view p ∷ []) rest)) (c.parameter_fault-next.ensures ∙ ap (λ n. first_from next (parameter_faults before n)) c.name_of_parameter.ensures.name)
+    ap (λ b. first_from c.parameter_fault-next.result (parameters_faults b rest))
+    (ap parameters_view (taken ps i p c.index-parameters-i.is c.loop-i-test.true) ∙ map-append parameter_view (take i ps) (p ∷ []))
+    ∙ ap (λ f. first_from f (parameters_faults (before ++ parameter_view p ∷ []) rest))
+    (c.parameter_fault-next.ensures ∙ ap (λ n. first_from next (parameter_faults before n)) c.name_of_parameter.ensures.name)
     ∙ sym (first_from-append next (parameter_faults before (parameter_name (parameter_view p))) (parameters_faults (before ++ parameter_view p ∷ []) rest))
     ∙ ap (λ ps. first_from next (parameters_faults before (parameters_view ps))) (dropped ps i p c.index-parameters-i.is c.loop-i-test.true)
     ∙ c.loop-i.invariant

@@ -22,8 +22,13 @@ returns-then-eq c =
     let same : same_name x e.0 ≡ true = ap (same_name x) (sym c.name_of_parameter.ensures.text) ∙ same_as_bytes x (name_of c.name_of_parameter.result.now)
     ∙ sym c.if-eq.ensures in
     let long : length rest ≡ length ps - 1 - i =
-    omega
-    (arith, length-map (parameters_view (drop (i + 1) ps)) plain_parameter, length-map (drop (i + 1) ps) parameter_view, length-drop (i + 1) ps, c.loop-i-test.true) in
+    omega (
+      arith,
+      length-map (parameters_view (drop (i + 1) ps)) plain_parameter,
+      length-map (drop (i + 1) ps) parameter_view,
+      length-drop (i + 1) ps,
+      c.loop-i-test.true,
+    ) in
     sym c.loop-i.invariant.1
     ∙ sym (ap (λ ps. slot_in (names_of (map plain_parameter (parameters_view ps))) x) (dropped ps i p c.index-parameters-i.is c.loop-i-test.true))
     ∙ slot_here x e rest same ∙ ap slot long

@@ -14,7 +14,9 @@ returns-clause-heads c =
     let own = heads_in c.args.own.now.procedures in
     let cs = meant_kinds c.args.kinds.items in
     let absent : head_at f own ≡ None =
-    ap (λ f. head_at f own) (sym c.deref.ensures) ∙ none_out (head_at c.deref.result.now own) (sym (c.is_some.ensures ∙ found_some (λ ks. meant_kinds ks.now) (head_at c.deref.result.now own) c.head.result c.head.ensures) ∙ c.if-is_some.false) in
+    ap (λ f. head_at f own) (sym c.deref.ensures)
+    ∙ none_out (head_at c.deref.result.now own)
+    (sym (c.is_some.ensures ∙ found_some (λ ks. meant_kinds ks.now) (head_at c.deref.result.now own) c.head.result c.head.ensures) ∙ c.if-is_some.false) in
     ap heads_in c.in_ok-define.ensures.ok
     ∙ above-append meant_kinds [] c.args.own.now.procedures ((_, c.args.kinds.items) ∷ [])
     ∙ ap (λ f. (f, cs) ∷ own) c.in_ok-clone.ensures.cases
@@ -26,7 +28,8 @@ returns-clause-counted c =
     let own = heads_in c.args.own.now.procedures in
     let env = heads_in c.args.env.now.procedures in
     let cs = meant_kinds c.args.kinds.items in
-    let new = ap heads_in c.in_ok-define.ensures.ok ∙ above-append meant_kinds [] c.args.own.now.procedures ((_, c.args.kinds.items) ∷ []) ∙ ap (λ f. (f, cs) ∷ own) c.in_ok-clone.ensures.cases in
+    let new = ap heads_in c.in_ok-define.ensures.ok ∙ above-append meant_kinds [] c.args.own.now.procedures ((_, c.args.kinds.items) ∷ [])
+    ∙ ap (λ f. (f, cs) ∷ own) c.in_ok-clone.ensures.cases in
     c.counted-total.ensures
     ∙ ap (λ f. count_new (head_at f (own ++ env)) c.args.count) c.deref-2.ensures
     ∙ ap (count_new (head_at f (own ++ env))) c.requires

@@ -9,13 +9,26 @@ pub overflow_add-result : goal.overflow_add-result
 overflow_add-result c =
     let own = heads_in c.args.own.now.procedures in
     let env = heads_in c.args.env.now.procedures in
-    omega (arith, c.requires.counted, different_within (own ++ env), length-append own env, length-alone meant_kinds c.args.own.now.procedures, length-alone meant_kinds c.args.env.now.procedures, c.procedures.ensures.count, c.procedures.ensures.small, c.procedures-2.ensures.count, c.procedures-2.ensures.small)
+    omega (
+      arith,
+      c.requires.counted,
+      different_within (own ++ env),
+      length-append own env,
+      length-alone meant_kinds c.args.own.now.procedures,
+      length-alone meant_kinds c.args.env.now.procedures,
+      c.procedures.ensures.count,
+      c.procedures.ensures.small,
+      c.procedures-2.ensures.count,
+      c.procedures-2.ensures.small,
+    )
 
 pub returns-in-Some : goal.returns-in-Some
 returns-in-Some c =
-    sym (ap (λ o. count_new o c.args.count) (at_second c.args.name.now (heads_in c.args.own.now.procedures) (heads_in c.args.env.now.procedures) c.requires.new ∙ c.in-Some.ensures))
+    sym (ap (λ o. count_new o c.args.count)
+    (at_second c.args.name.now (heads_in c.args.own.now.procedures) (heads_in c.args.env.now.procedures) c.requires.new ∙ c.in-Some.ensures))
 
 pub returns-in-None : goal.returns-in-None
 returns-in-None c =
-    let e = ap (λ o. count_new o c.args.count) (at_second c.args.name.now (heads_in c.args.own.now.procedures) (heads_in c.args.env.now.procedures) c.requires.new ∙ c.in-None.ensures) in
+    let e = ap (λ o. count_new o c.args.count)
+    (at_second c.args.name.now (heads_in c.args.own.now.procedures) (heads_in c.args.env.now.procedures) c.requires.new ∙ c.in-None.ensures) in
     omega (arith, e)

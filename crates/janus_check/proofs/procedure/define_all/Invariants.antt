@@ -12,7 +12,8 @@ abbrev pub invariant-loop-i : goal.invariant-loop-i
 invariant-loop-i l = record {
   faults : first_from l.next (heads_faults (heads_in l.env.procedures) (heads_in l.own.procedures) (procedures_view (drop l.i l.procedures)))
       ≡ first_from l.fn.first (heads_faults (heads_in l.env.procedures) (heads_in l.fn.own.procedures) (procedures_view l.procedures));
-  heads : after_heads (heads_in l.own.procedures) (procedures_view (drop l.i l.procedures)) ≡ after_heads (heads_in l.fn.own.procedures) (procedures_view l.procedures);
+  heads : after_heads (heads_in l.own.procedures) (procedures_view (drop l.i l.procedures)) ≡ after_heads (heads_in l.fn.own.procedures)
+      (procedures_view l.procedures);
   counted : l.count ≡ different (heads_over l.env l.own);
   names : l.own.names ≡ l.fn.own.names;
 }

@@ -20,4 +20,5 @@ same Stack Stack = refl
 
 pub returns-in-Some : goal.returns-in-Some
 returns-in-Some c =
-    c.ne.ensures ∙ ap not (compared eq-value.it same c.in-Some.found.now c.args.kinds.now) ∙ sym (ap (is_changed (meant_kinds c.args.kinds.now)) c.in-Some.ensures)
+    c.ne.ensures ∙ ap not (compared eq-value.it same c.in-Some.found.now c.args.kinds.now)
+    ∙ sym (ap (is_changed (meant_kinds c.args.kinds.now)) c.in-Some.ensures)

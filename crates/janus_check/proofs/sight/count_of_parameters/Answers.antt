@@ -11,7 +11,8 @@ returns-then-parameters-le-PARAMETER_LIMIT c =
     let xs = parameters_view c.args.parameters.now in
     let n = length-map c.args.parameters.now parameter_view in
     sym
-    (ap (λ xs. length (map plain_parameter xs)) (take_all parameter_limit xs (omega (arith, n, c.if-parameters-le-PARAMETER_LIMIT.true))) ∙ seen_long c.args.parameters.now)
+    (ap (λ xs. length (map plain_parameter xs)) (take_all parameter_limit xs (omega (arith, n, c.if-parameters-le-PARAMETER_LIMIT.true)))
+    ∙ seen_long c.args.parameters.now)
 
 pub returns-else-parameters-le-PARAMETER_LIMIT : goal.returns-else-parameters-le-PARAMETER_LIMIT
 returns-else-parameters-le-PARAMETER_LIMIT c =

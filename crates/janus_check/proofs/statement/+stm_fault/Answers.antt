@@ -33,7 +33,8 @@ stm_fault-returns-in-AssignElement t c =
     let uses = use_faults g AnArray (name_view c.in-AssignElement.name) in
     let index = side_faults g a (exp_view c.in-AssignElement.index) in
     two_parts c.args.first c.exp_fault-next.result c.exp_fault-in-AssignElement.result (uses ++ index) (side_faults g a (exp_view c.in-AssignElement.exp))
-    (two_parts c.args.first c.use_fault-next-in-AssignElement.result c.exp_fault-next.result uses index c.use_fault-next-in-AssignElement.ensures c.exp_fault-next.ensures)
+    (two_parts c.args.first c.use_fault-next-in-AssignElement.result c.exp_fault-next.result uses index c.use_fault-next-in-AssignElement.ensures
+    c.exp_fault-next.ensures)
     c.exp_fault-in-AssignElement.ensures
     ∙ ap (λ s. first_from c.args.first (stm_faults hs g (stm_view s))) (sym c.in-AssignElement.is)
 
@@ -63,7 +64,8 @@ stm_fault-returns-in-Loop t c =
     let other = block_faults hs g (block_view c.in-Loop.loop_part.items) in
     let past_first = c.exp_fault-next-in-Loop.result in
     let past_one = c.block_fault-next-in-Loop.result in
-    four_parts c.args.first past_first past_one c.block_fault-next-in-Loop-2.result c.exp_fault-in-Loop.result first one other (exp_faults g (exp_view c.in-Loop.exit))
+    four_parts c.args.first past_first past_one c.block_fault-next-in-Loop-2.result c.exp_fault-in-Loop.result first one other
+    (exp_faults g (exp_view c.in-Loop.exit))
     c.exp_fault-next-in-Loop.ensures
     (c.block_fault-next-in-Loop.ensures ∙ ap (λ b. first_from past_first (block_faults hs g (block_view b))) c.deref-in-Loop.ensures.value)
     (c.block_fault-next-in-Loop-2.ensures ∙ ap (λ b. first_from past_one (block_faults hs g (block_view b))) c.deref-in-Loop-2.ensures.value)
@@ -78,12 +80,14 @@ stm_fault-returns-in-LocalInt t c =
     let x = name_of c.in-LocalInt.name in
     let inner = (x, ANumber) ∷ g in
     let past_begin = c.exp_fault-next-in-LocalInt.result in
-    four_parts c.args.first c.shadow_fault-next.result past_begin c.block_fault-next-in-LocalInt.result c.exp_fault-in-LocalInt.result (shadow_faults g (name_view c.in-LocalInt.name)) (end_faults g x (exp_view c.in-LocalInt.begin))
+    four_parts c.args.first c.shadow_fault-next.result past_begin c.block_fault-next-in-LocalInt.result c.exp_fault-in-LocalInt.result
+    (shadow_faults g (name_view c.in-LocalInt.name)) (end_faults g x (exp_view c.in-LocalInt.begin))
     (block_faults hs inner (block_view c.in-LocalInt.body.items)) (end_faults g x (exp_view c.in-LocalInt.end))
     c.shadow_fault-next.ensures c.exp_fault-next-in-LocalInt.ensures
     (c.block_fault-next-in-LocalInt.ensures ∙ ap (λ b. first_from past_begin (block_faults hs inner (block_view b))) c.deref-in-LocalInt.ensures.value)
     c.exp_fault-in-LocalInt.ensures
-    ∙ ap (λ s. first_from c.args.first (stm_faults hs g s)) (sym (view_local_int c.in-LocalInt.name c.in-LocalInt.field-3 c.in-LocalInt.begin c.in-LocalInt.end c.in-LocalInt.body))
+    ∙ ap (λ s. first_from c.args.first (stm_faults hs g s))
+    (sym (view_local_int c.in-LocalInt.name c.in-LocalInt.field-3 c.in-LocalInt.begin c.in-LocalInt.end c.in-LocalInt.body))
     ∙ ap (λ s. first_from c.args.first (stm_faults hs g (stm_view s))) (sym c.in-LocalInt.is)
 
 pub stm_fault-returns-in-LocalStack : goal.stm_fault-returns-in-LocalStack
@@ -92,7 +96,8 @@ stm_fault-returns-in-LocalStack t c =
     let hs = heads_seen c.args.sight.now in
     let inner = (name_of c.in-LocalStack.name, AStack) ∷ g in
     let past_name = c.shadow_fault-next-in-LocalStack.result in
-    two_parts c.args.first past_name c.block_fault.result (shadow_faults g (name_view c.in-LocalStack.name)) (block_faults hs inner (block_view c.in-LocalStack.body.items)) c.shadow_fault-next-in-LocalStack.ensures
+    two_parts c.args.first past_name c.block_fault.result (shadow_faults g (name_view c.in-LocalStack.name))
+    (block_faults hs inner (block_view c.in-LocalStack.body.items)) c.shadow_fault-next-in-LocalStack.ensures
     (c.block_fault.ensures ∙ ap (λ b. first_from past_name (block_faults hs inner (block_view b))) c.deref-in-LocalStack.ensures.value)
     ∙ ap (λ s. first_from c.args.first (stm_faults hs g s)) (sym (view_local_stack c.in-LocalStack.name c.in-LocalStack.field-2 c.in-LocalStack.body))
     ∙ ap (λ s. first_from c.args.first (stm_faults hs g (stm_view s))) (sym c.in-LocalStack.is)

@@ -23,7 +23,9 @@ closed_statement-returns-in_ok-loop_part-in-Loop t c =
 
 pub closed_statements-loop-i-preserved : goal.closed_statements-loop-i-preserved
 closed_statements-loop-i-preserved t c =
-    one_more c.args.statements.now c.loop-i.copies.items c.push.new.self.items c.loop-i.i c.in_ok-closed_statement.field-0 c.index-statements-i.result c.loop-i-test.true c.loop-i.invariant (c.in_ok-closed_statement.ensures ∙ ap (λ s. closed_stm (stm_view s)) c.index-statements-i.is) c.in_ok-push.ensures.items
+    one_more c.args.statements.now c.loop-i.copies.items c.push.new.self.items c.loop-i.i c.in_ok-closed_statement.field-0 c.index-statements-i.result
+    c.loop-i-test.true c.loop-i.invariant (c.in_ok-closed_statement.ensures ∙ ap (λ s. closed_stm (stm_view s)) c.index-statements-i.is)
+    c.in_ok-push.ensures.items
 
 pub closed_statement-returns-in_ok-block-in-LocalInt : goal.closed_statement-returns-in_ok-block-in-LocalInt
 closed_statement-returns-in_ok-block-in-LocalInt t c =

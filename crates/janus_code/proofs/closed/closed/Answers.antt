@@ -11,4 +11,5 @@ returns c =
     let b = c.in_ok-body.body.items in
     ap (λ n. procedure_of n (parameters_view ps) (block_view b)) (name_copied p.name c.in_ok-name.name c.in_ok-name.ensures.name c.in_ok-name.ensures.place)
     ∙ ap (λ ps. procedure_of (name_view p.name) ps (block_view b)) (c.in_ok-parameters.ensures ∙ ap parameters_view c.deref.ensures.value)
-    ∙ ap (procedure_of (name_view p.name) (parameters_view p.parameters.items)) (c.in_ok-body.ensures ∙ ap (λ b. closed_block (block_view b)) c.deref-2.ensures.value)
+    ∙ ap (procedure_of (name_view p.name) (parameters_view p.parameters.items))
+    (c.in_ok-body.ensures ∙ ap (λ b. closed_block (block_view b)) c.deref-2.ensures.value)

@@ -12,7 +12,8 @@ pub copy-returns-in_ok-operand-in-Negative : goal.copy-returns-in_ok-operand-in-
 copy-returns-in_ok-operand-in-Negative t c =
     copy_of c.args.exp.now _ _ c.in-Negative.is
     (negative_copy c.in-Negative.operand c.in_ok-operand-in-Negative.operand
-    (copy_through c.deref-in-Negative.result.now _ c.in_ok-operand-in-Negative.operand.value _ c.deref-in-Negative.ensures refl c.in_ok-operand-in-Negative.ensures))
+    (copy_through c.deref-in-Negative.result.now _ c.in_ok-operand-in-Negative.operand.value _ c.deref-in-Negative.ensures refl
+    c.in_ok-operand-in-Negative.ensures))
 
 pub copy-returns-in_ok-right-in-Binary : goal.copy-returns-in_ok-right-in-Binary
 copy-returns-in_ok-right-in-Binary t c =

@@ -18,7 +18,8 @@ invariant-flat_block-loop-i l = record {
   as_many : length l.numbers.items ≡ l.i;
   grows : Grows l.fn.draft.members.items l.fn.draft.statements.items l.draft.members.items l.draft.statements.items;
   below : (j : ℕ) → j < l.i → get_or l.numbers.items j 0 < length l.draft.statements.items;
-  trees : (j : ℕ) (s : code_stm.Stm) → j < l.i → slice_get l.block j ≡ Some s → tree_at all_slots l.draft.members.items l.draft.statements.items (get_or l.numbers.items j 0) ≡ stm_in l.entries (names_of (in_sight l.sight)) (stm_of s);
+  trees : (j : ℕ) (s : code_stm.Stm) → j < l.i → slice_get l.block j ≡ Some s → tree_at all_slots l.draft.members.items l.draft.statements.items
+      (get_or l.numbers.items j 0) ≡ stm_in l.entries (names_of (in_sight l.sight)) (stm_of s);
   numbered : (xs : List Name) → l.draft.width ≤ length xs → HaveNumbers xs l.fn.draft.statements.items → HaveNumbers xs l.draft.statements.items;
   wider : l.fn.draft.width ≤ l.draft.width;
   width : max l.draft.width (length (in_sight l.sight) + open_in_block (block_of (drop l.i l.block)))

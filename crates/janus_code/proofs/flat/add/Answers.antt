@@ -8,7 +8,8 @@ use Rattle.janus_code.proofs.flat.add.Goals as goal
 pub returns-clause-grows : goal.returns-clause-grows
 returns-clause-grows c =
     let d = c.args.draft.now in
-    subst (λ (ss : List Statement). Grows d.members.items d.statements.items d.members.items ss) (sym c.in_ok-push.ensures.items) (grows_by_statement d.members.items d.statements.items c.args.statement)
+    subst (λ (ss : List Statement). Grows d.members.items d.statements.items d.members.items ss) (sym c.in_ok-push.ensures.items)
+    (grows_by_statement d.members.items d.statements.items c.args.statement)
 
 pub returns-clause-tree : goal.returns-clause-tree
 returns-clause-tree c =

@@ -20,5 +20,6 @@ returns-clause-block c =
     let all : HaveNumbers all_slots c.shrink_to_fit.new.self.items = subst (HaveNumbers all_slots) (sym c.shrink_to_fit.ensures.items) made in
     let is : block_at (tree_at all_slots c.shrink_to_fit-2.new.self.items c.shrink_to_fit.new.self.items) c.shrink_to_fit-2.new.self.items b ≡ block =
     subst (λ (ms : List ℕ). block_at (tree_at all_slots ms c.shrink_to_fit.new.self.items) ms b ≡ block) (sym c.shrink_to_fit-2.ensures.items)
-    (subst (λ (ss : List Statement). block_at (tree_at all_slots c.flat_block.new.draft.members.items ss) c.flat_block.new.draft.members.items b ≡ block) (sym c.shrink_to_fit.ensures.items) c.in_ok-body.ensures.block) in
+    (subst (λ (ss : List Statement). block_at (tree_at all_slots c.flat_block.new.draft.members.items ss) c.flat_block.new.draft.members.items b ≡ block)
+    (sym c.shrink_to_fit.ensures.items) c.in_ok-body.ensures.block) in
     λ xs s h. same_code xs all_slots _ s are_all h all ∙ code_is _ ∙ is

@@ -15,7 +15,8 @@ pub flat_code-requires : goal.flat_code-requires
 flat_code-requires c =
     subst (SeesBlk c.args.entries.now (in_sight c.args.sight.now))
     (ap plain_block (sym (ap statements_in c.cell.ensures)) ∙ ap block_of (sym c.deref.ensures.value))
-    (block_seen (heads_seen c.args.sight.now) c.args.entries.now (in_sight c.args.sight.now) (plain_cell (cell_in c.args.checked.now)).block c.requires.entries c.requires.formed)
+    (block_seen (heads_seen c.args.sight.now) c.args.entries.now (in_sight c.args.sight.now) (plain_cell (cell_in c.args.checked.now)).block c.requires.entries
+    c.requires.formed)
 
 pub returns-clause-width : goal.returns-clause-width
 returns-clause-width c =

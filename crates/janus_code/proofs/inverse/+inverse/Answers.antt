@@ -23,7 +23,9 @@ inverse_statement-returns-in_ok-loop_part-in-Loop t c =
 
 pub inverse_statements-loop-i-preserved : goal.inverse_statements-loop-i-preserved
 inverse_statements-loop-i-preserved t c =
-    one_more c.args.statements.now c.loop-i.inverses.items c.push.new.self.items c.loop-i.i c.in_ok-inverse_statement.field-0 c.index-statements-i.result (omega arith) (omega arith) c.loop-i.invariant (c.in_ok-inverse_statement.ensures ∙ ap (λ s. inverse_stm (stm_view s)) c.index-statements-i.is) c.in_ok-push.ensures.items
+    one_more c.args.statements.now c.loop-i.inverses.items c.push.new.self.items c.loop-i.i c.in_ok-inverse_statement.field-0 c.index-statements-i.result
+    (omega arith) (omega arith) c.loop-i.invariant (c.in_ok-inverse_statement.ensures ∙ ap (λ s. inverse_stm (stm_view s)) c.index-statements-i.is)
+    c.in_ok-push.ensures.items
 
 pub inverse_statement-returns-in_ok-block-in-LocalInt : goal.inverse_statement-returns-in_ok-block-in-LocalInt
 inverse_statement-returns-in_ok-block-in-LocalInt t c =

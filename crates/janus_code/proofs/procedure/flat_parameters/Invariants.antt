@@ -8,5 +8,6 @@ use Rattle.janus_code.proofs.procedure.flat_parameters.Given as goal
 
 abbrev pub invariant-loop-i : goal.invariant-loop-i
 invariant-loop-i l =
-    (params_of all_slots l.flat.items ++ stacked (map plain_parameter (parameters_view (drop l.i l.parameters))) ≡ stacked (map plain_parameter (parameters_view l.parameters)))
+    (params_of all_slots l.flat.items ++ stacked (map plain_parameter (parameters_view (drop l.i l.parameters))) ≡ stacked
+    (map plain_parameter (parameters_view l.parameters)))
     × ParametersHaveNumbers (slots_from 0 (length l.parameters)) l.flat.items

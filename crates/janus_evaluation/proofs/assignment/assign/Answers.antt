@@ -14,12 +14,18 @@ use Rattle.janus_evaluation.proofs.assignment.assign.Goals as goal
 pub value-requires : goal.value-requires
 value-requires g c =
     let xs = c.args.store.now.names in
-    record { safe = value_safe (symbol_name xs c.args.name.now) (update_of c.args.update) (exp_of xs c.args.exp.now) c.args.store.now.slots c.requires.safe; numbered = c.requires.numbered }
+    record {
+      safe = value_safe (symbol_name xs c.args.name.now) (update_of c.args.update) (exp_of xs c.args.exp.now) c.args.store.now.slots c.requires.safe;
+      numbered = c.requires.numbered;
+    }
 
 pub returns-in-Err-clause-done : goal.returns-in-Err-clause-done
 returns-in-Err-clause-done g c =
-    let xs = c.args.store.now.names in
-    (assign_bad (symbol_name xs c.args.name.now) (update_of c.args.update) (exp_of xs c.args.exp.now) c.args.store.now.slots (fault_of c.in-Err.fault) c.requires.safe (sym c.in-Err.ensures), refl)
+    let xs = c.args.store.now.names in (
+      assign_bad (symbol_name xs c.args.name.now) (update_of c.args.update) (exp_of xs c.args.exp.now) c.args.store.now.slots (fault_of c.in-Err.fault)
+          c.requires.safe (sym c.in-Err.ensures),
+      refl,
+    )
 
 pub unreachable-requires : goal.unreachable-requires
 unreachable-requires g c =
@@ -33,8 +39,12 @@ unreachable-requires g c =
 pub set-requires : goal.set-requires
 set-requires g c =
     let xs = c.args.store.now.names in
-    let at = is_numbered xs c.args.name.now.number c.requires.at in
-    (symbol_name xs c.args.name.now, at, is_number (symbol_name xs c.args.name.now) (update_of c.args.update) (exp_of xs c.args.exp.now) c.args.store.now.slots c.requires.safe)
+    let at = is_numbered xs c.args.name.now.number c.requires.at in (
+      symbol_name xs c.args.name.now,
+      at,
+      is_number (symbol_name xs c.args.name.now) (update_of c.args.update) (exp_of xs c.args.exp.now)
+          c.args.store.now.slots c.requires.safe,
+    )
 
 pub returns-clause-done : goal.returns-clause-done
 returns-clause-done g c =
@@ -53,8 +63,10 @@ returns-clause-done g c =
     let zo : to_z w32 (of_z w32 old) ≡ old = grind (arith, to_z-of_z) in
     let m : ℤ = c.changed.result in
     let zc : to_z w32 (of_z w32 m) ≡ m = grind (arith, to_z-of_z) in
-    let made : to_z w32 (of_z w32 c.changed.result) ≡ changed o n.0 w = zc ∙ c.changed.ensures ∙ ap (λ v. changed o v (to_z w32 (of_z w32 w))) (zo ∙ same) ∙ ap (changed o n.0) z in
-    assign_fine x o e s n.0 w c.set.new.self.slots c.requires.safe n.1 (sym c.in-Ok.ensures) (ap (λ m. write x (Num m) s) (sym made) ∙ c.set.ensures.written x at)
+    let made : to_z w32 (of_z w32 c.changed.result) ≡ changed o n.0 w = zc ∙ c.changed.ensures ∙ ap (λ v. changed o v (to_z w32 (of_z w32 w))) (zo ∙ same)
+    ∙ ap (changed o n.0) z in
+    assign_fine x o e s n.0 w c.set.new.self.slots c.requires.safe n.1 (sym c.in-Ok.ensures)
+    (ap (λ m. write x (Num m) s) (sym made) ∙ c.set.ensures.written x at)
 
 pub get-requires : goal.get-requires
 get-requires g c =

@@ -12,7 +12,8 @@ use Rattle.janus_code.specs.Numbered.{HasNumbers}
 use Rattle.janus_evaluation.specs.Results.{fault_of}
 use Rattle.janus_evaluation.proofs.Numbers.{wrap_number, bit_wraps}
 use Rattle.janus_evaluation.proofs.Sizes.{exp_size}
-use Rattle.janus_evaluation.proofs.Values.{variable_is, is_number, is_array, empty_is_stack, top_is_stack, empty_is, top_is, element_is, element_bad, negative_is, binary_is, binary_right, and_is, and_at, or_is, or_at}
+use Rattle.janus_evaluation.proofs.Values.{variable_is, is_number, is_array, empty_is_stack, top_is_stack, empty_is, top_is, element_is, element_bad}
+use Rattle.janus_evaluation.proofs.Values.{negative_is, binary_is, binary_right, and_is, and_at, or_is, or_at}
 use Rattle.janus_evaluation.proofs.expression.+computed.Goals as goal
 
 pub operand-computed-requires : goal.operand-computed-requires
@@ -49,7 +50,16 @@ computed-operand-requires g t c =
     let i = exp_of xs c.in-Element.index.value in
     let safe : value (tree.At a i) s ≡ Bad Broken → ⊥ = λ q. c.requires.safe (ap (λ e. value (exp_of xs e) s) c.in-Element.is ∙ q) in
     let arr = is_array s a i safe in
-    λ κs sub. (omega (arith, c.decreases, ap exp_size c.in-Element.is, ap exp_size c.deref.ensures), (sub, (λ h. safe (element_bad s a i arr.0 Broken arr.1 (ap (λ e. value (exp_of xs e) s) (sym c.deref.ensures) ∙ h)), subst (HasNumbers xs) (sym c.deref.ensures) (subst (HasNumbers xs) c.in-Element.is c.requires.numbered).1)))
+    λ κs sub. (
+      omega (arith, c.decreases, ap exp_size c.in-Element.is, ap exp_size c.deref.ensures),
+      (
+        sub,
+        (
+          λ h. safe (element_bad s a i arr.0 Broken arr.1 (ap (λ e. value (exp_of xs e) s) (sym c.deref.ensures) ∙ h)),
+          subst (HasNumbers xs) (sym c.deref.ensures) (subst (HasNumbers xs) c.in-Element.is c.requires.numbered).1,
+        ),
+      ),
+    )
 
 pub computed-element-requires : goal.computed-element-requires
 computed-element-requires g t c =
@@ -65,7 +75,18 @@ pub computed-operand-requires-in-Negative : goal.computed-operand-requires-in-Ne
 computed-operand-requires-in-Negative g t c =
     let xs = c.args.store.now.names in
     let s = c.args.store.now.slots in
-    λ κs sub. (omega (arith, c.decreases, ap exp_size c.in-Negative.is, ap exp_size c.deref-in-Negative.ensures), (sub, (λ h. c.requires.safe (ap (λ e. value (exp_of xs e) s) c.in-Negative.is ∙ negative_is s (exp_of xs c.in-Negative.positive.value) (Bad Broken) (ap (λ e. value (exp_of xs e) s) (sym c.deref-in-Negative.ensures) ∙ h)), subst (HasNumbers xs) (sym c.deref-in-Negative.ensures) (subst (HasNumbers xs) c.in-Negative.is c.requires.numbered))))
+    λ κs sub. (
+      omega (arith, c.decreases, ap exp_size c.in-Negative.is, ap exp_size c.deref-in-Negative.ensures),
+      (
+        sub,
+        (
+          λ h. c.requires.safe
+              (ap (λ e. value (exp_of xs e) s) c.in-Negative.is
+              ∙ negative_is s (exp_of xs c.in-Negative.positive.value) (Bad Broken) (ap (λ e. value (exp_of xs e) s) (sym c.deref-in-Negative.ensures) ∙ h)),
+          subst (HasNumbers xs) (sym c.deref-in-Negative.ensures) (subst (HasNumbers xs) c.in-Negative.is c.requires.numbered),
+        ),
+      ),
+    )
 
 pub computed-operand-requires-in-Binary : goal.computed-operand-requires-in-Binary
 computed-operand-requires-in-Binary g t c =
@@ -74,7 +95,18 @@ computed-operand-requires-in-Binary g t c =
     let o = operator_of c.in-Binary.operator in
     let l = exp_of xs c.in-Binary.left.value in
     let r = exp_of xs c.in-Binary.right.value in
-    λ κs sub. (omega (arith, c.decreases, ap exp_size c.in-Binary.is, ap exp_size c.deref-in-Binary.ensures), (sub, (λ h. c.requires.safe (ap (λ e. value (exp_of xs e) s) c.in-Binary.is ∙ binary_is s o l r (Bad Broken) (ap (λ e. value (exp_of xs e) s) (sym c.deref-in-Binary.ensures) ∙ h)), subst (HasNumbers xs) (sym c.deref-in-Binary.ensures) (subst (HasNumbers xs) c.in-Binary.is c.requires.numbered).0)))
+    λ κs sub. (
+      omega (arith, c.decreases, ap exp_size c.in-Binary.is, ap exp_size c.deref-in-Binary.ensures),
+      (
+        sub,
+        (
+          λ h. c.requires.safe
+              (ap (λ e. value (exp_of xs e) s) c.in-Binary.is
+              ∙ binary_is s o l r (Bad Broken) (ap (λ e. value (exp_of xs e) s) (sym c.deref-in-Binary.ensures) ∙ h)),
+          subst (HasNumbers xs) (sym c.deref-in-Binary.ensures) (subst (HasNumbers xs) c.in-Binary.is c.requires.numbered).0,
+        ),
+      ),
+    )
 
 pub computed-operand-requires-in-Ok-operand-2 : goal.computed-operand-requires-in-Ok-operand-2
 computed-operand-requires-in-Ok-operand-2 g t c =
@@ -84,7 +116,18 @@ computed-operand-requires-in-Ok-operand-2 g t c =
     let l = exp_of xs c.in-Binary.left.value in
     let r = exp_of xs c.in-Binary.right.value in
     let left : value l s ≡ Fine c.in-Ok-operand-2.left = sym (c.in-Ok-operand-2.ensures ∙ ap (λ e. value (exp_of xs e) s) c.deref-in-Binary.ensures) in
-    λ κs sub. (omega (arith, c.decreases, ap exp_size c.in-Binary.is, ap exp_size c.deref-in-Ok-operand-2.ensures), (sub, (λ h. c.requires.safe (ap (λ e. value (exp_of xs e) s) c.in-Binary.is ∙ binary_right s o l r c.in-Ok-operand-2.left (Bad Broken) left (ap (λ e. value (exp_of xs e) s) (sym c.deref-in-Ok-operand-2.ensures) ∙ h)), subst (HasNumbers xs) (sym c.deref-in-Ok-operand-2.ensures) (subst (HasNumbers xs) c.in-Binary.is c.requires.numbered).1)))
+    λ κs sub. (
+      omega (arith, c.decreases, ap exp_size c.in-Binary.is, ap exp_size c.deref-in-Ok-operand-2.ensures),
+      (
+        sub,
+        (
+          λ h. c.requires.safe
+              (ap (λ e. value (exp_of xs e) s) c.in-Binary.is
+              ∙ binary_right s o l r c.in-Ok-operand-2.left (Bad Broken) left (ap (λ e. value (exp_of xs e) s) (sym c.deref-in-Ok-operand-2.ensures) ∙ h)),
+          subst (HasNumbers xs) (sym c.deref-in-Ok-operand-2.ensures) (subst (HasNumbers xs) c.in-Binary.is c.requires.numbered).1,
+        ),
+      ),
+    )
 
 pub computed-operand-requires-in-And : goal.computed-operand-requires-in-And
 computed-operand-requires-in-And g t c =
@@ -92,7 +135,17 @@ computed-operand-requires-in-And g t c =
     let s = c.args.store.now.slots in
     let l = exp_of xs c.in-And.left.value in
     let r = exp_of xs c.in-And.right.value in
-    λ κs sub. (omega (arith, c.decreases, ap exp_size c.in-And.is, ap exp_size c.deref-in-And.ensures), (sub, (λ h. c.requires.safe (ap (λ e. value (exp_of xs e) s) c.in-And.is ∙ and_is s l r (Bad Broken) (ap (λ e. value (exp_of xs e) s) (sym c.deref-in-And.ensures) ∙ h)), subst (HasNumbers xs) (sym c.deref-in-And.ensures) (subst (HasNumbers xs) c.in-And.is c.requires.numbered).0)))
+    λ κs sub. (
+      omega (arith, c.decreases, ap exp_size c.in-And.is, ap exp_size c.deref-in-And.ensures),
+      (
+        sub,
+        (
+          λ h. c.requires.safe
+              (ap (λ e. value (exp_of xs e) s) c.in-And.is ∙ and_is s l r (Bad Broken) (ap (λ e. value (exp_of xs e) s) (sym c.deref-in-And.ensures) ∙ h)),
+          subst (HasNumbers xs) (sym c.deref-in-And.ensures) (subst (HasNumbers xs) c.in-And.is c.requires.numbered).0,
+        ),
+      ),
+    )
 
 pub computed-operand-requires-then-holds : goal.computed-operand-requires-then-holds
 computed-operand-requires-then-holds g t c =
@@ -104,7 +157,18 @@ computed-operand-requires-then-holds g t c =
     let z : to_z w32 (of_z w32 n) ≡ n = grind (arith, to_z-of_z) in
     let left : value l s ≡ Fine n = sym (c.in-Ok-operand-4.ensures ∙ ap (λ e. value (exp_of xs e) s) c.deref-in-And.ensures) in
     let test : nonzero n ≡ true = ap nonzero (sym z) ∙ sym c.holds.ensures ∙ c.if-holds.true in
-    λ κs sub. (omega (arith, c.decreases, ap exp_size c.in-And.is, ap exp_size c.deref-then-holds.ensures), (sub, (λ h. c.requires.safe (ap (λ e. value (exp_of xs e) s) c.in-And.is ∙ and_at s l r n true (Bad Broken) left test (ap (λ e. value (exp_of xs e) s) (sym c.deref-then-holds.ensures) ∙ h)), subst (HasNumbers xs) (sym c.deref-then-holds.ensures) (subst (HasNumbers xs) c.in-And.is c.requires.numbered).1)))
+    λ κs sub. (
+      omega (arith, c.decreases, ap exp_size c.in-And.is, ap exp_size c.deref-then-holds.ensures),
+      (
+        sub,
+        (
+          λ h. c.requires.safe
+              (ap (λ e. value (exp_of xs e) s) c.in-And.is
+              ∙ and_at s l r n true (Bad Broken) left test (ap (λ e. value (exp_of xs e) s) (sym c.deref-then-holds.ensures) ∙ h)),
+          subst (HasNumbers xs) (sym c.deref-then-holds.ensures) (subst (HasNumbers xs) c.in-And.is c.requires.numbered).1,
+        ),
+      ),
+    )
 
 pub computed-operand-requires-in-Or : goal.computed-operand-requires-in-Or
 computed-operand-requires-in-Or g t c =
@@ -112,7 +176,17 @@ computed-operand-requires-in-Or g t c =
     let s = c.args.store.now.slots in
     let l = exp_of xs c.in-Or.left.value in
     let r = exp_of xs c.in-Or.right.value in
-    λ κs sub. (omega (arith, c.decreases, ap exp_size c.in-Or.is, ap exp_size c.deref-in-Or.ensures), (sub, (λ h. c.requires.safe (ap (λ e. value (exp_of xs e) s) c.in-Or.is ∙ or_is s l r (Bad Broken) (ap (λ e. value (exp_of xs e) s) (sym c.deref-in-Or.ensures) ∙ h)), subst (HasNumbers xs) (sym c.deref-in-Or.ensures) (subst (HasNumbers xs) c.in-Or.is c.requires.numbered).0)))
+    λ κs sub. (
+      omega (arith, c.decreases, ap exp_size c.in-Or.is, ap exp_size c.deref-in-Or.ensures),
+      (
+        sub,
+        (
+          λ h. c.requires.safe
+              (ap (λ e. value (exp_of xs e) s) c.in-Or.is ∙ or_is s l r (Bad Broken) (ap (λ e. value (exp_of xs e) s) (sym c.deref-in-Or.ensures) ∙ h)),
+          subst (HasNumbers xs) (sym c.deref-in-Or.ensures) (subst (HasNumbers xs) c.in-Or.is c.requires.numbered).0,
+        ),
+      ),
+    )
 
 pub computed-operand-requires-else-holds-2 : goal.computed-operand-requires-else-holds-2
 computed-operand-requires-else-holds-2 g t c =
@@ -124,7 +198,18 @@ computed-operand-requires-else-holds-2 g t c =
     let z : to_z w32 (of_z w32 n) ≡ n = grind (arith, to_z-of_z) in
     let left : value l s ≡ Fine n = sym (c.in-Ok-operand-5.ensures ∙ ap (λ e. value (exp_of xs e) s) c.deref-in-Or.ensures) in
     let test : nonzero n ≡ false = ap nonzero (sym z) ∙ sym c.holds-in-Ok-operand-5.ensures ∙ c.if-holds-2.false in
-    λ κs sub. (omega (arith, c.decreases, ap exp_size c.in-Or.is, ap exp_size c.deref-else-holds-2.ensures), (sub, (λ h. c.requires.safe (ap (λ e. value (exp_of xs e) s) c.in-Or.is ∙ or_at s l r n false (Bad Broken) left test (ap (λ e. value (exp_of xs e) s) (sym c.deref-else-holds-2.ensures) ∙ h)), subst (HasNumbers xs) (sym c.deref-else-holds-2.ensures) (subst (HasNumbers xs) c.in-Or.is c.requires.numbered).1)))
+    λ κs sub. (
+      omega (arith, c.decreases, ap exp_size c.in-Or.is, ap exp_size c.deref-else-holds-2.ensures),
+      (
+        sub,
+        (
+          λ h. c.requires.safe
+              (ap (λ e. value (exp_of xs e) s) c.in-Or.is
+              ∙ or_at s l r n false (Bad Broken) left test (ap (λ e. value (exp_of xs e) s) (sym c.deref-else-holds-2.ensures) ∙ h)),
+          subst (HasNumbers xs) (sym c.deref-else-holds-2.ensures) (subst (HasNumbers xs) c.in-Or.is c.requires.numbered).1,
+        ),
+      ),
+    )
 
 pub computed-returns-in-Number : goal.computed-returns-in-Number
 unfolding value wrap
@@ -142,7 +227,8 @@ computed-returns-in-Some g t c =
     let n : ℤ = c.in-Some.number in
     let z : to_z w32 (of_z w32 n) ≡ n = grind (arith, to_z-of_z) in
     let at = is_numbered xs c.in-Variable.name.number (subst (HasNumbers xs) c.in-Variable.is c.requires.numbered) in
-    ap Fine z ∙ c.in-Some.ensures (symbol_name xs c.in-Variable.name) at ∙ sym (variable_is s (symbol_name xs c.in-Variable.name)) ∙ ap (λ e. value (exp_of xs e) s) (sym c.in-Variable.is)
+    ap Fine z ∙ c.in-Some.ensures (symbol_name xs c.in-Variable.name) at ∙ sym (variable_is s (symbol_name xs c.in-Variable.name))
+    ∙ ap (λ e. value (exp_of xs e) s) (sym c.in-Variable.is)
 
 pub computed-returns-in-Ok : goal.computed-returns-in-Ok
 computed-returns-in-Ok g t c =
@@ -167,7 +253,8 @@ computed-returns-in-Err g t c =
     let i = exp_of xs c.in-Element.index.value in
     let safe : value (tree.At a i) s ≡ Bad Broken → ⊥ = λ q. c.requires.safe (ap (λ e. value (exp_of xs e) s) c.in-Element.is ∙ q) in
     let arr = is_array s a i safe in
-    sym (element_bad s a i arr.0 (fault_of c.in-Err.fault) arr.1 (sym (c.in-Err.ensures ∙ ap (λ e. value (exp_of xs e) s) c.deref.ensures))) ∙ ap (λ e. value (exp_of xs e) s) (sym c.in-Element.is)
+    sym (element_bad s a i arr.0 (fault_of c.in-Err.fault) arr.1 (sym (c.in-Err.ensures ∙ ap (λ e. value (exp_of xs e) s) c.deref.ensures)))
+    ∙ ap (λ e. value (exp_of xs e) s) (sym c.in-Element.is)
 
 pub computed-returns-in-Ok-operand : goal.computed-returns-in-Ok-operand
 computed-returns-in-Ok-operand g t c =
@@ -179,13 +266,15 @@ computed-returns-in-Ok-operand g t c =
     let m : ℤ = c.negative.result in
     let y : to_z w32 (of_z w32 m) ≡ m = grind (arith, to_z-of_z) in
     ap Fine (y ∙ c.negative.ensures ∙ ap (λ n. wrap (neg_ℤ n)) z)
-    ∙ sym (negative_is s e (Fine n) (sym (c.in-Ok-operand.ensures ∙ ap (λ e. value (exp_of xs e) s) c.deref-in-Negative.ensures))) ∙ ap (λ e. value (exp_of xs e) s) (sym c.in-Negative.is)
+    ∙ sym (negative_is s e (Fine n) (sym (c.in-Ok-operand.ensures ∙ ap (λ e. value (exp_of xs e) s) c.deref-in-Negative.ensures)))
+    ∙ ap (λ e. value (exp_of xs e) s) (sym c.in-Negative.is)
 
 pub computed-returns-in-Err-operand : goal.computed-returns-in-Err-operand
 computed-returns-in-Err-operand g t c =
     let xs = c.args.store.now.names in
     let s = c.args.store.now.slots in
-    sym (negative_is s (exp_of xs c.in-Negative.positive.value) (Bad (fault_of c.in-Err-operand.fault)) (sym (c.in-Err-operand.ensures ∙ ap (λ e. value (exp_of xs e) s) c.deref-in-Negative.ensures))) ∙ ap (λ e. value (exp_of xs e) s) (sym c.in-Negative.is)
+    sym (negative_is s (exp_of xs c.in-Negative.positive.value) (Bad (fault_of c.in-Err-operand.fault))
+    (sym (c.in-Err-operand.ensures ∙ ap (λ e. value (exp_of xs e) s) c.deref-in-Negative.ensures))) ∙ ap (λ e. value (exp_of xs e) s) (sym c.in-Negative.is)
 
 pub computed-returns-in-Ok-operand-3 : goal.computed-returns-in-Ok-operand-3
 computed-returns-in-Ok-operand-3 g t c =
@@ -200,7 +289,8 @@ computed-returns-in-Ok-operand-3 g t c =
     let b : ℤ = c.in-Ok-operand-3.right in
     let y : to_z w32 (of_z w32 b) ≡ b = grind (arith, to_z-of_z) in
     c.operate.ensures ∙ ap (λ a. operate o a (to_z w32 (of_z w32 b))) x ∙ ap (operate o a) y
-    ∙ sym (binary_right s o l r a (Fine b) left (sym (c.in-Ok-operand-3.ensures ∙ ap (λ e. value (exp_of xs e) s) c.deref-in-Ok-operand-2.ensures))) ∙ ap (λ e. value (exp_of xs e) s) (sym c.in-Binary.is)
+    ∙ sym (binary_right s o l r a (Fine b) left (sym (c.in-Ok-operand-3.ensures ∙ ap (λ e. value (exp_of xs e) s) c.deref-in-Ok-operand-2.ensures)))
+    ∙ ap (λ e. value (exp_of xs e) s) (sym c.in-Binary.is)
 
 pub computed-returns-in-Err-operand-3 : goal.computed-returns-in-Err-operand-3
 computed-returns-in-Err-operand-3 g t c =
@@ -210,7 +300,9 @@ computed-returns-in-Err-operand-3 g t c =
     let l = exp_of xs c.in-Binary.left.value in
     let r = exp_of xs c.in-Binary.right.value in
     let left : value l s ≡ Fine c.in-Ok-operand-2.left = sym (c.in-Ok-operand-2.ensures ∙ ap (λ e. value (exp_of xs e) s) c.deref-in-Binary.ensures) in
-    sym (binary_right s o l r c.in-Ok-operand-2.left (Bad (fault_of c.in-Err-operand-3.fault)) left (sym (c.in-Err-operand-3.ensures ∙ ap (λ e. value (exp_of xs e) s) c.deref-in-Ok-operand-2.ensures))) ∙ ap (λ e. value (exp_of xs e) s) (sym c.in-Binary.is)
+    sym (binary_right s o l r c.in-Ok-operand-2.left (Bad (fault_of c.in-Err-operand-3.fault)) left
+    (sym (c.in-Err-operand-3.ensures ∙ ap (λ e. value (exp_of xs e) s) c.deref-in-Ok-operand-2.ensures)))
+    ∙ ap (λ e. value (exp_of xs e) s) (sym c.in-Binary.is)
 
 pub computed-returns-in-Err-operand-2 : goal.computed-returns-in-Err-operand-2
 computed-returns-in-Err-operand-2 g t c =
@@ -219,7 +311,8 @@ computed-returns-in-Err-operand-2 g t c =
     let o = operator_of c.in-Binary.operator in
     let l = exp_of xs c.in-Binary.left.value in
     let r = exp_of xs c.in-Binary.right.value in
-    sym (binary_is s o l r (Bad (fault_of c.in-Err-operand-2.fault)) (sym (c.in-Err-operand-2.ensures ∙ ap (λ e. value (exp_of xs e) s) c.deref-in-Binary.ensures))) ∙ ap (λ e. value (exp_of xs e) s) (sym c.in-Binary.is)
+    sym (binary_is s o l r (Bad (fault_of c.in-Err-operand-2.fault))
+    (sym (c.in-Err-operand-2.ensures ∙ ap (λ e. value (exp_of xs e) s) c.deref-in-Binary.ensures))) ∙ ap (λ e. value (exp_of xs e) s) (sym c.in-Binary.is)
 
 pub computed-returns-then-holds : goal.computed-returns-then-holds
 computed-returns-then-holds g t c =
@@ -252,7 +345,8 @@ computed-returns-in-Err-operand-4 g t c =
     let s = c.args.store.now.slots in
     let l = exp_of xs c.in-And.left.value in
     let r = exp_of xs c.in-And.right.value in
-    sym (and_is s l r (Bad (fault_of c.in-Err-operand-4.fault)) (sym (c.in-Err-operand-4.ensures ∙ ap (λ e. value (exp_of xs e) s) c.deref-in-And.ensures))) ∙ ap (λ e. value (exp_of xs e) s) (sym c.in-And.is)
+    sym (and_is s l r (Bad (fault_of c.in-Err-operand-4.fault)) (sym (c.in-Err-operand-4.ensures ∙ ap (λ e. value (exp_of xs e) s) c.deref-in-And.ensures)))
+    ∙ ap (λ e. value (exp_of xs e) s) (sym c.in-And.is)
 
 pub computed-returns-then-holds-2 : goal.computed-returns-then-holds-2
 computed-returns-then-holds-2 g t c =
@@ -285,7 +379,8 @@ computed-returns-in-Err-operand-5 g t c =
     let s = c.args.store.now.slots in
     let l = exp_of xs c.in-Or.left.value in
     let r = exp_of xs c.in-Or.right.value in
-    sym (or_is s l r (Bad (fault_of c.in-Err-operand-5.fault)) (sym (c.in-Err-operand-5.ensures ∙ ap (λ e. value (exp_of xs e) s) c.deref-in-Or.ensures))) ∙ ap (λ e. value (exp_of xs e) s) (sym c.in-Or.is)
+    sym (or_is s l r (Bad (fault_of c.in-Err-operand-5.fault)) (sym (c.in-Err-operand-5.ensures ∙ ap (λ e. value (exp_of xs e) s) c.deref-in-Or.ensures)))
+    ∙ ap (λ e. value (exp_of xs e) s) (sym c.in-Or.is)
 
 pub computed-is_empty-requires : goal.computed-is_empty-requires
 computed-is_empty-requires g t c =
@@ -304,7 +399,8 @@ computed-returns-in-Empty g t c =
     let at = is_numbered xs c.in-Empty.name.number (subst (HasNumbers xs) c.in-Empty.is c.requires.numbered) in
     let n : ℤ = c.bit_of.result in
     let z : to_z w32 (of_z w32 n) ≡ n = grind (arith, to_z-of_z) in
-    ap Fine (z ∙ c.bit_of.ensures ∙ ap (λ b. wrap (bit b)) (c.is_empty.ensures x l.0 at l.1)) ∙ sym (empty_is s x l.0 l.1) ∙ ap (λ e. value (exp_of xs e) s) (sym c.in-Empty.is)
+    ap Fine (z ∙ c.bit_of.ensures ∙ ap (λ b. wrap (bit b)) (c.is_empty.ensures x l.0 at l.1)) ∙ sym (empty_is s x l.0 l.1)
+    ∙ ap (λ e. value (exp_of xs e) s) (sym c.in-Empty.is)
 
 pub computed-top-requires : goal.computed-top-requires
 computed-top-requires g t c =

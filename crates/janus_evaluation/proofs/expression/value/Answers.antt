@@ -16,7 +16,11 @@ leaf-requires g c =
     let o = operator_of c.in-Binary.operator in
     let l = exp_of xs c.in-Binary.left.value in
     let r = exp_of xs c.in-Binary.right.value in
-    record { safe = λ h. c.requires.safe (ap (λ e. value (exp_of xs e) s) c.in-Binary.is ∙ binary_is s o l r (Bad Broken) (ap (λ e. value (exp_of xs e) s) (sym c.deref.ensures) ∙ h)); numbered = subst (HasNumbers xs) (sym c.deref.ensures) (subst (HasNumbers xs) c.in-Binary.is c.requires.numbered).0 }
+    record {
+      safe = λ h. c.requires.safe
+          (ap (λ e. value (exp_of xs e) s) c.in-Binary.is ∙ binary_is s o l r (Bad Broken) (ap (λ e. value (exp_of xs e) s) (sym c.deref.ensures) ∙ h));
+      numbered = subst (HasNumbers xs) (sym c.deref.ensures) (subst (HasNumbers xs) c.in-Binary.is c.requires.numbered).0;
+    }
 
 pub leaf-requires-in-Some : goal.leaf-requires-in-Some
 leaf-requires-in-Some g c =
@@ -26,7 +30,13 @@ leaf-requires-in-Some g c =
     let l = exp_of xs c.in-Binary.left.value in
     let r = exp_of xs c.in-Binary.right.value in
     let left : value l s ≡ Fine c.in-Some.first = ap (λ e. value (exp_of xs e) s) (sym c.deref.ensures) ∙ c.in-Some.ensures in
-    record { safe = λ h. c.requires.safe (ap (λ e. value (exp_of xs e) s) c.in-Binary.is ∙ binary_right s o l r c.in-Some.first (Bad Broken) left (ap (λ e. value (exp_of xs e) s) (sym c.deref-in-Some.ensures) ∙ h)); numbered = subst (HasNumbers xs) (sym c.deref-in-Some.ensures) (subst (HasNumbers xs) c.in-Binary.is c.requires.numbered).1 }
+    record {
+      safe = λ h. c.requires.safe
+          (ap (λ e. value (exp_of xs e) s) c.in-Binary.is
+          ∙ binary_right s o l r c.in-Some.first (Bad Broken) left (ap (λ e. value (exp_of xs e) s) (sym c.deref-in-Some.ensures) ∙ h));
+      numbered = subst
+          (HasNumbers xs) (sym c.deref-in-Some.ensures) (subst (HasNumbers xs) c.in-Binary.is c.requires.numbered).1;
+    }
 
 pub returns-in-Some-leaf : goal.returns-in-Some-leaf
 returns-in-Some-leaf g c =

@@ -69,8 +69,11 @@ set-requires g c =
     let r = c.push.new.self.slots in
     let others = values_lent c.args.store.now.callers in
     let b = pushed_pair others x y s c.requires.safe in
-    let l = values_there x y s b in
-    (x, ap (λ (xs : List Name). slice_get xs c.args.variable.now.number) c.push.ensures.shape.names ∙ variable_at, (b.number, number_still x y s b _ r (c.push.ensures.written y b.values stack_at l)))
+    let l = values_there x y s b in (
+      x,
+      ap (λ (xs : List Name). slice_get xs c.args.variable.now.number) c.push.ensures.shape.names ∙ variable_at,
+      (b.number, number_still x y s b _ r (c.push.ensures.written y b.values stack_at l)),
+    )
 
 pub returns-clause-done : goal.returns-clause-done
 returns-clause-done g c =
@@ -89,6 +92,8 @@ returns-clause-done g c =
     let got : Fine n ≡ Fine b.number = c.in-Some.ensures x variable_at ∙ ap (λ r. and_then r number) (number_there x y s b) in
     let same : n ≡ b.number = cc in
     let z : to_z w32 (of_z w32 n) ≡ n = grind (arith, to_z-of_z) in
-    let written : write y (Stk (b.number ∷ b.values)) s ≡ Fine r = ap (λ m. write y (Stk (m ∷ b.values)) s) (sym (z ∙ same)) ∙ c.push.ensures.written y b.values stack_at l in
-    let room : values_held c.args.store.now < value_limit = below_limit (values_held c.args.store.now) c.is_full.result c.if-is_full.false c.is_full.ensures.1 in
+    let written : write y (Stk (b.number ∷ b.values)) s ≡ Fine r = ap (λ m. write y (Stk (m ∷ b.values)) s) (sym (z ∙ same))
+    ∙ c.push.ensures.written y b.values stack_at l in
+    let room : values_held c.args.store.now < value_limit =
+    below_limit (values_held c.args.store.now) c.is_full.result c.if-is_full.false c.is_full.ensures.1 in
     push_fine others x y s b r c.set.new.self.slots (omega (arith, room)) written (c.set.ensures.written x at)

@@ -20,7 +20,8 @@ loop-i-preserved c =
     let lt : i < length ss = omega arith in
     let read : slice_get ss i ≡ Some c.index.result.now = slice_get_read ss (length ss) i c.index.result.now refl lt c.index.ensures in
     let grown = c.in_ok-push.ensures.items in
-    let inverse : IsInverse ms others c.index.result.now one = subst (λ (ms : List ℕ). IsInverse ms others c.index.result.now one) c.deref.ensures.value c.in_ok-inverse.ensures.inverse in
+    let inverse : IsInverse ms others c.index.result.now one =
+    subst (λ (ms : List ℕ). IsInverse ms others c.index.result.now one) c.deref.ensures.value c.in_ok-inverse.ensures.inverse in
     record {
       as_many = omega (arith, ap length grown, length-append rs (one ∷ []), v.as_many);
       inverse = subst (ArePairs (IsInverse ms others) ss) (sym grown)
@@ -34,9 +35,11 @@ invariant_of-result c =
     let code = c.args.code.now in
     let v = c.loop-i.invariant in
     let many : length c.loop-i.statements.items ≡ length code.statements.items = omega (arith, v.as_many, code.statements.ok.0) in
-    let back : IsBackward code.members.items c.backward.new.others.items code.body c.in_ok-body.body = subst (λ (ms : List ℕ). IsBackward ms c.backward.new.others.items code.body c.in_ok-body.body) c.deref-2.ensures.value c.in_ok-body.ensures.backward in
+    let back : IsBackward code.members.items c.backward.new.others.items code.body c.in_ok-body.body =
+    subst (λ (ms : List ℕ). IsBackward ms c.backward.new.others.items code.body c.in_ok-body.body) c.deref-2.ensures.value c.in_ok-body.ensures.backward in
     record {
-      downward = inverse_downward code.members.items code.statements.items code.body c.loop-i.members.items c.backward.new.others.items c.loop-i.statements.items c.in_ok-body.body code.downward many v.inverse c.in_ok-body.ensures.longer back;
+      downward = inverse_downward code.members.items code.statements.items code.body c.loop-i.members.items c.backward.new.others.items
+          c.loop-i.statements.items c.in_ok-body.body code.downward many v.inverse c.in_ok-body.ensures.longer back;
     }
 
 pub returns-clause-parts : goal.returns-clause-parts
@@ -44,8 +47,10 @@ returns-clause-parts c =
     let code = c.args.code.now in
     let v = c.loop-i.invariant in
     let many : length c.loop-i.statements.items ≡ length code.statements.items = omega (arith, v.as_many, code.statements.ok.0) in
-    let back : IsBackward code.members.items c.backward.new.others.items code.body c.in_ok-body.body = subst (λ (ms : List ℕ). IsBackward ms c.backward.new.others.items code.body c.in_ok-body.body) c.deref-2.ensures.value c.in_ok-body.ensures.backward in
-    are_inverse code.members.items code.statements.items code.body c.loop-i.members.items c.backward.new.others.items c.loop-i.statements.items c.in_ok-body.body many v.inverse c.in_ok-body.ensures.longer back
+    let back : IsBackward code.members.items c.backward.new.others.items code.body c.in_ok-body.body =
+    subst (λ (ms : List ℕ). IsBackward ms c.backward.new.others.items code.body c.in_ok-body.body) c.deref-2.ensures.value c.in_ok-body.ensures.backward in
+    are_inverse code.members.items code.statements.items code.body c.loop-i.members.items c.backward.new.others.items c.loop-i.statements.items
+    c.in_ok-body.body many v.inverse c.in_ok-body.ensures.longer back
 
 pub returns-clause-block : goal.returns-clause-block
 unfolding code_tree inner_block
@@ -53,16 +58,22 @@ returns-clause-block c =
     let code = c.args.code.now in
     let v = c.loop-i.invariant in
     let many : length c.loop-i.statements.items ≡ length code.statements.items = omega (arith, v.as_many, code.statements.ok.0) in
-    let back : IsBackward code.members.items c.backward.new.others.items code.body c.in_ok-body.body = subst (λ (ms : List ℕ). IsBackward ms c.backward.new.others.items code.body c.in_ok-body.body) c.deref-2.ensures.value c.in_ok-body.ensures.backward in
-    let down = inverse_downward code.members.items code.statements.items code.body c.loop-i.members.items c.backward.new.others.items c.loop-i.statements.items c.in_ok-body.body code.downward many v.inverse c.in_ok-body.ensures.longer back in
-    λ xs. body_turned xs code.members.items code.statements.items code.body c.backward.new.others.items c.loop-i.statements.items c.in_ok-body.body code.downward.each down.each
-    (are_inverse code.members.items code.statements.items code.body c.loop-i.members.items c.backward.new.others.items c.loop-i.statements.items c.in_ok-body.body many v.inverse c.in_ok-body.ensures.longer back) code.downward.whole
+    let back : IsBackward code.members.items c.backward.new.others.items code.body c.in_ok-body.body =
+    subst (λ (ms : List ℕ). IsBackward ms c.backward.new.others.items code.body c.in_ok-body.body) c.deref-2.ensures.value c.in_ok-body.ensures.backward in
+    let down = inverse_downward code.members.items code.statements.items code.body c.loop-i.members.items c.backward.new.others.items c.loop-i.statements.items
+    c.in_ok-body.body code.downward many v.inverse c.in_ok-body.ensures.longer back in
+    λ xs. body_turned xs code.members.items code.statements.items code.body c.backward.new.others.items c.loop-i.statements.items c.in_ok-body.body
+    code.downward.each down.each
+    (are_inverse code.members.items code.statements.items code.body c.loop-i.members.items c.backward.new.others.items c.loop-i.statements.items
+    c.in_ok-body.body many v.inverse c.in_ok-body.ensures.longer back) code.downward.whole
 
 pub returns-clause-numbered : goal.returns-clause-numbered
 returns-clause-numbered c =
     let code = c.args.code.now in
     let v = c.loop-i.invariant in
     let many : length c.loop-i.statements.items ≡ length code.statements.items = omega (arith, v.as_many, code.statements.ok.0) in
-    let back : IsBackward code.members.items c.backward.new.others.items code.body c.in_ok-body.body = subst (λ (ms : List ℕ). IsBackward ms c.backward.new.others.items code.body c.in_ok-body.body) c.deref-2.ensures.value c.in_ok-body.ensures.backward in
+    let back : IsBackward code.members.items c.backward.new.others.items code.body c.in_ok-body.body =
+    subst (λ (ms : List ℕ). IsBackward ms c.backward.new.others.items code.body c.in_ok-body.body) c.deref-2.ensures.value c.in_ok-body.ensures.backward in
     all_turned code.members.items code.statements.items code.body c.backward.new.others.items c.loop-i.statements.items c.in_ok-body.body
-    (are_inverse code.members.items code.statements.items code.body c.loop-i.members.items c.backward.new.others.items c.loop-i.statements.items c.in_ok-body.body many v.inverse c.in_ok-body.ensures.longer back)
+    (are_inverse code.members.items code.statements.items code.body c.loop-i.members.items c.backward.new.others.items c.loop-i.statements.items
+    c.in_ok-body.body many v.inverse c.in_ok-body.ensures.longer back)

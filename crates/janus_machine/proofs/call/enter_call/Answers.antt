@@ -12,7 +12,8 @@ use Rattle.janus_machine.specs.Places.{linear_in, block_in}
 use Rattle.janus_machine.specs.Procedures.{body_at, in_effect}
 use Rattle.janus_machine.specs.Nested.{book_in, book_or}
 use Rattle.janus_machine.specs.Cursors.{book_of}
-use Rattle.janus_machine.proofs.Entering.{call_stands, room_small, deep_here, is_known, found, entered, lends, counted, few, call_room, stands_new, leads_new, agrees_new, wild_is_broken, behind_inside, call_tree}
+use Rattle.janus_machine.proofs.Entering.{call_stands, room_small, deep_here, is_known, found, entered, lends, counted, few, call_room, stands_new, leads_new}
+use Rattle.janus_machine.proofs.Entering.{agrees_new, wild_is_broken, behind_inside, call_tree}
 use Rattle.janus_machine.proofs.Turning.{there_and_back}
 use Rattle.janus_machine.proofs.call.enter_call.Goals as goal
 
@@ -62,7 +63,8 @@ unreachable-requires-in_default-body g c =
     let callee = c.in-Some.ensures.called in
     let numbered = c.requires.numbered in
     let lt = c.if-room_left-cursor.false in
-    is_known t b u h stands n room st here num ys d callee numbered lt safe.0 safe.1 safe.2 safe.3 safe.4 (sym c.body.ensures ∙ ap in_effect c.in_default-body.is)
+    is_known t b u h stands n room st here num ys d callee numbered lt safe.0 safe.1 safe.2 safe.3 safe.4
+    (sym c.body.ensures ∙ ap in_effect c.in_default-body.is)
 
 pub lend-requires-clause-few : goal.lend-requires-clause-few
 lend-requires-clause-few g c =
@@ -182,7 +184,11 @@ lend-requires-clause-room g c =
     let there : body_at t num ≡ Some body = sym c.in-Some-body.ensures in
     let f = found t b u h stands n room st here num ys d callee numbered lt safe.0 safe.1 safe.2 safe.3 safe.4 body there in
     let e = entered t b u h stands n room st here num ys d callee numbered lt safe.0 safe.1 safe.2 safe.3 safe.4 body there in
-    record { calls = (call_room t b u h stands room lt (room_small t b u h stands n room st here num ys d callee numbered)).1; params = few t b u h stands n room st here num ys d callee numbered lt safe.0 safe.1 safe.2 safe.3 safe.4 body there }
+    record {
+      calls = (call_room t b u h stands room lt (room_small t b u h stands n room st here num ys d callee numbered)).1;
+      params = few t b u h stands n
+          room st here num ys d callee numbered lt safe.0 safe.1 safe.2 safe.3 safe.4 body there;
+    }
 
 pub push_reserved-requires : goal.push_reserved-requires
 push_reserved-requires g c =
@@ -280,9 +286,11 @@ returns-clause-stands g c =
     let placed = c.turned_place.ensures h.names (book_of t b u) end in
     let p_there = there_and_back h.names (book_of t b u) u.direction n place placed low in
     let made = c.lend.ensures (names_of f.0.params) (subst (λ xs. AreNamed h.names xs (names_of f.0.params)) (sym c.deref.ensures.value) f.2.parameters) in
-    let to_go : c.last-cursor.result ≡ block_size (block_in h.names body.book d) - 1 = c.last-cursor.ensures h.names ∙ ap (λ (l : Linear). block_size (code_block h.names l.code) - 1) c.linear.ensures in
+    let to_go : c.last-cursor.result ≡ block_size (block_in h.names body.book d) - 1 = c.last-cursor.ensures h.names
+    ∙ ap (λ (l : Linear). block_size (code_block h.names l.code) - 1) c.linear.ensures in
     let new_used : u.used + (16383 - room) + 2 ≡ u.used + (frame_limit - 1 - room) + 2 = refl in
-    stands_new t b u h stands n room st here num ys d callee numbered lt body there f.0 f.2 e.values e.caller e.inside e.pulled e.bound _ c.lend.new.store place c.is_turned.result c.push_reserved.ensures.items c.is_turned.ensures p_there.0 p_there.1 refl to_go new_used refl made
+    stands_new t b u h stands n room st here num ys d callee numbered lt body there f.0 f.2 e.values e.caller e.inside e.pulled e.bound _ c.lend.new.store place
+    c.is_turned.result c.push_reserved.ensures.items c.is_turned.ensures p_there.0 p_there.1 refl to_go new_used refl made
 
 pub returns-clause-steps : goal.returns-clause-steps
 returns-clause-steps g c = λ ps k known a.
@@ -314,9 +322,21 @@ returns-clause-steps g c = λ ps k known a.
     let placed = c.turned_place.ensures h.names (book_of t b u) end in
     let p_there = there_and_back h.names (book_of t b u) u.direction n place placed low in
     let made = c.lend.ensures (names_of f.0.params) (subst (λ xs. AreNamed h.names xs (names_of f.0.params)) (sym c.deref.ensures.value) f.2.parameters) in
-    let to_go : c.last-cursor.result ≡ block_size (block_in h.names body.book d) - 1 = c.last-cursor.ensures h.names ∙ ap (λ (l : Linear). block_size (code_block h.names l.code) - 1) c.linear.ensures in
+    let to_go : c.last-cursor.result ≡ block_size (block_in h.names body.book d) - 1 = c.last-cursor.ensures h.names
+    ∙ ap (λ (l : Linear). block_size (code_block h.names l.code) - 1) c.linear.ensures in
     let new_used : u.used + (16383 - room) + 2 ≡ u.used + (frame_limit - 1 - room) + 2 = refl in
-    leads_new t b u h stands n room st here num ys d callee numbered lt body there f.0 f.2 e.values e.caller e.inside e.pulled e.bound (record { direction = d; to_go = c.last-cursor.result; calls = c.push_reserved.new.self; used = u.used + (16383 - room) + 2; count = u.count; turned = u.turned; room = subst (λ m. 8192 ≤ m) (sym c.push_reserved.ensures.capacity) u.room }) c.lend.new.store place c.is_turned.result c.push_reserved.ensures.items c.is_turned.ensures p_there.0 p_there.1 refl to_go new_used refl made ps k known
+    leads_new t b u h stands n room st here num ys d callee numbered lt body there f.0 f.2 e.values e.caller e.inside e.pulled e.bound
+    (record {
+      direction = d;
+      to_go = c.last-cursor.result;
+      calls = c.push_reserved.new.self;
+      used = u.used + (16383 - room) + 2;
+      count = u.count;
+      turned =
+          u.turned;
+      room = subst (λ m. 8192 ≤ m) (sym c.push_reserved.ensures.capacity) u.room;
+    }) c.lend.new.store place c.is_turned.result
+    c.push_reserved.ensures.items c.is_turned.ensures p_there.0 p_there.1 refl to_go new_used refl made ps k known
 
 pub returns-clause-names : goal.returns-clause-names
 returns-clause-names g c =
@@ -348,7 +368,8 @@ returns-clause-names g c =
     let placed = c.turned_place.ensures h.names (book_of t b u) end in
     let p_there = there_and_back h.names (book_of t b u) u.direction n place placed low in
     let made = c.lend.ensures (names_of f.0.params) (subst (λ xs. AreNamed h.names xs (names_of f.0.params)) (sym c.deref.ensures.value) f.2.parameters) in
-    let to_go : c.last-cursor.result ≡ block_size (block_in h.names body.book d) - 1 = c.last-cursor.ensures h.names ∙ ap (λ (l : Linear). block_size (code_block h.names l.code) - 1) c.linear.ensures in
+    let to_go : c.last-cursor.result ≡ block_size (block_in h.names body.book d) - 1 = c.last-cursor.ensures h.names
+    ∙ ap (λ (l : Linear). block_size (code_block h.names l.code) - 1) c.linear.ensures in
     let new_used : u.used + (16383 - room) + 2 ≡ u.used + (frame_limit - 1 - room) + 2 = refl in
     record { declared = made.declared; texts = made.texts; names = made.names }
 
@@ -382,9 +403,11 @@ returns-clause-agrees g c =
     let placed = c.turned_place.ensures h.names (book_of t b u) end in
     let p_there = there_and_back h.names (book_of t b u) u.direction n place placed low in
     let made = c.lend.ensures (names_of f.0.params) (subst (λ xs. AreNamed h.names xs (names_of f.0.params)) (sym c.deref.ensures.value) f.2.parameters) in
-    let to_go : c.last-cursor.result ≡ block_size (block_in h.names body.book d) - 1 = c.last-cursor.ensures h.names ∙ ap (λ (l : Linear). block_size (code_block h.names l.code) - 1) c.linear.ensures in
+    let to_go : c.last-cursor.result ≡ block_size (block_in h.names body.book d) - 1 = c.last-cursor.ensures h.names
+    ∙ ap (λ (l : Linear). block_size (code_block h.names l.code) - 1) c.linear.ensures in
     let new_used : u.used + (16383 - room) + 2 ≡ u.used + (frame_limit - 1 - room) + 2 = refl in
-    agrees_new t b u h stands n room st here num ys d callee numbered lt body there f.0 f.2 e.values e.caller e.inside e.pulled e.bound _ c.lend.new.store place c.is_turned.result c.push_reserved.ensures.items c.is_turned.ensures p_there.0 p_there.1 refl to_go new_used refl made
+    agrees_new t b u h stands n room st here num ys d callee numbered lt body there f.0 f.2 e.values e.caller e.inside e.pulled e.bound _ c.lend.new.store place
+    c.is_turned.result c.push_reserved.ensures.items c.is_turned.ensures p_there.0 p_there.1 refl to_go new_used refl made
 
 pub returns-clause-there : goal.returns-clause-there
 returns-clause-there g c =

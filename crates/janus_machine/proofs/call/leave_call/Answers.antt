@@ -22,7 +22,8 @@ unbind-requires g c =
     let call = c.in-Some.call in
     let cs = reverse c.pop.new.self.items in
     let calls_are : calls_of u ≡ call ∷ cs = ap reverse c.in-Some.ensures.items ∙ reverse-append c.pop.new.self.items (call ∷ []) in
-    let lender = some_caller h.names t b u.direction call cs h.callers (subst (λ cs. AreOpenCalls h.names t b u.direction cs h.callers) calls_are stands.calls) in
+    let lender = some_caller h.names t b u.direction call cs h.callers
+    (subst (λ cs. AreOpenCalls h.names t b u.direction cs h.callers) calls_are stands.calls) in
     parameters_alone t b u h stands call cs calls_are lender.0 lender.1 lender.2 c.requires.ended safe.1 safe.3
 
 pub returns-clause-stands : goal.returns-clause-stands
@@ -36,18 +37,24 @@ returns-clause-stands g c =
     let call = c.in-Some.call in
     let cs = reverse c.pop.new.self.items in
     let calls_are : calls_of u ≡ call ∷ cs = ap reverse c.in-Some.ensures.items ∙ reverse-append c.pop.new.self.items (call ∷ []) in
-    let lender = some_caller h.names t b u.direction call cs h.callers (subst (λ cs. AreOpenCalls h.names t b u.direction cs h.callers) calls_are stands.calls) in
+    let lender = some_caller h.names t b u.direction call cs h.callers
+    (subst (λ cs. AreOpenCalls h.names t b u.direction cs h.callers) calls_are stands.calls) in
     let x = is_left t b u h stands call cs calls_are lender.0 lender.1 lender.2 c.requires.ended safe.0 safe.1 safe.2 safe.4 in
     let q = known_body t b u h stands call cs calls_are lender.0 lender.1 lender.2 c.requires.ended safe.0 safe.2 in
     let way = c.caller_direction-direction.result in
     let turned : way ≡ caller_way call.uncalled u.direction = c.caller_direction-direction.ensures in
     let caller = book_in t b cs in
     let end : c.last-end.result ≡ block_size (block_in h.names caller way) - 1 =
-    c.last-end.ensures h.names ∙ ap (λ (l : Linear). block_size (code_block h.names l.code) - 1) (c.linear.ensures ∙ ap (λ (k : Book). linear_in k way) (c.running-caller.ensures ∙ ap (λ is. book_in t b (reverse is)) c.deref.ensures.value)) in
+    c.last-end.ensures h.names
+    ∙ ap (λ (l : Linear). block_size (code_block h.names l.code) - 1)
+    (c.linear.ensures ∙ ap (λ (k : Book). linear_in k way) (c.running-caller.ensures ∙ ap (λ is. book_in t b (reverse is)) c.deref.ensures.value)) in
     let placed = c.turned_place-at.ensures h.names caller end in
-    let to_go : c.saturating_sub-cursor.result ≡ block_size (block_in h.names caller (caller_way call.uncalled u.direction)) - 1 - suc (call_at h.names caller (caller_way call.uncalled u.direction) call.place) =
-    subst (λ w. c.saturating_sub-cursor.result ≡ block_size (block_in h.names caller w) - 1 - suc (call_at h.names caller w call.place)) turned (omega (arith, c.saturating_sub-cursor.ensures, c.saturating_sub.ensures, end, placed)) in
-    stands_left t b u h stands call cs calls_are lender.0 lender.1 lender.2 c.requires.ended q.0 q.2 x.values x.unbound x.filled x.returned _ c.unbind.new.self refl turned to_go refl refl c.unbind.ensures
+    let to_go : c.saturating_sub-cursor.result ≡ block_size (block_in h.names caller (caller_way call.uncalled u.direction)) - 1 - suc
+    (call_at h.names caller (caller_way call.uncalled u.direction) call.place) =
+    subst (λ w. c.saturating_sub-cursor.result ≡ block_size (block_in h.names caller w) - 1 - suc (call_at h.names caller w call.place)) turned
+    (omega (arith, c.saturating_sub-cursor.ensures, c.saturating_sub.ensures, end, placed)) in
+    stands_left t b u h stands call cs calls_are lender.0 lender.1 lender.2 c.requires.ended q.0 q.2 x.values x.unbound x.filled x.returned _ c.unbind.new.self
+    refl turned to_go refl refl c.unbind.ensures
 
 pub returns-clause-steps : goal.returns-clause-steps
 returns-clause-steps g c = λ ps k known a.
@@ -60,18 +67,33 @@ returns-clause-steps g c = λ ps k known a.
     let call = c.in-Some.call in
     let cs = reverse c.pop.new.self.items in
     let calls_are : calls_of u ≡ call ∷ cs = ap reverse c.in-Some.ensures.items ∙ reverse-append c.pop.new.self.items (call ∷ []) in
-    let lender = some_caller h.names t b u.direction call cs h.callers (subst (λ cs. AreOpenCalls h.names t b u.direction cs h.callers) calls_are stands.calls) in
+    let lender = some_caller h.names t b u.direction call cs h.callers
+    (subst (λ cs. AreOpenCalls h.names t b u.direction cs h.callers) calls_are stands.calls) in
     let x = is_left t b u h stands call cs calls_are lender.0 lender.1 lender.2 c.requires.ended safe.0 safe.1 safe.2 safe.4 in
     let q = known_body t b u h stands call cs calls_are lender.0 lender.1 lender.2 c.requires.ended safe.0 safe.2 in
     let way = c.caller_direction-direction.result in
     let turned : way ≡ caller_way call.uncalled u.direction = c.caller_direction-direction.ensures in
     let caller = book_in t b cs in
     let end : c.last-end.result ≡ block_size (block_in h.names caller way) - 1 =
-    c.last-end.ensures h.names ∙ ap (λ (l : Linear). block_size (code_block h.names l.code) - 1) (c.linear.ensures ∙ ap (λ (k : Book). linear_in k way) (c.running-caller.ensures ∙ ap (λ is. book_in t b (reverse is)) c.deref.ensures.value)) in
+    c.last-end.ensures h.names
+    ∙ ap (λ (l : Linear). block_size (code_block h.names l.code) - 1)
+    (c.linear.ensures ∙ ap (λ (k : Book). linear_in k way) (c.running-caller.ensures ∙ ap (λ is. book_in t b (reverse is)) c.deref.ensures.value)) in
     let placed = c.turned_place-at.ensures h.names caller end in
-    let to_go : c.saturating_sub-cursor.result ≡ block_size (block_in h.names caller (caller_way call.uncalled u.direction)) - 1 - suc (call_at h.names caller (caller_way call.uncalled u.direction) call.place) =
-    subst (λ w. c.saturating_sub-cursor.result ≡ block_size (block_in h.names caller w) - 1 - suc (call_at h.names caller w call.place)) turned (omega (arith, c.saturating_sub-cursor.ensures, c.saturating_sub.ensures, end, placed)) in
-    leads_left t b u h stands call cs calls_are lender.0 lender.1 lender.2 c.requires.ended q.0 q.2 x.values x.unbound x.filled x.returned (record { direction = way; to_go = c.saturating_sub-cursor.result; calls = c.pop.new.self; used = call.used; count = u.count; turned = u.turned; room = subst (λ m. 8192 ≤ m) (sym c.in-Some.ensures.capacity) u.room }) c.unbind.new.self refl turned to_go refl refl c.unbind.ensures ps k known
+    let to_go : c.saturating_sub-cursor.result ≡ block_size (block_in h.names caller (caller_way call.uncalled u.direction)) - 1 - suc
+    (call_at h.names caller (caller_way call.uncalled u.direction) call.place) =
+    subst (λ w. c.saturating_sub-cursor.result ≡ block_size (block_in h.names caller w) - 1 - suc (call_at h.names caller w call.place)) turned
+    (omega (arith, c.saturating_sub-cursor.ensures, c.saturating_sub.ensures, end, placed)) in
+    leads_left t b u h stands call cs calls_are lender.0 lender.1 lender.2 c.requires.ended q.0 q.2 x.values x.unbound x.filled x.returned
+    (record {
+      direction = way;
+      to_go = c.saturating_sub-cursor.result;
+      calls = c.pop.new.self;
+      used = call.used;
+      count = u.count;
+      turned = u.turned;
+      room =
+          subst (λ m. 8192 ≤ m) (sym c.in-Some.ensures.capacity) u.room;
+    }) c.unbind.new.self refl turned to_go refl refl c.unbind.ensures ps k known
 
 pub returns-clause-agrees : goal.returns-clause-agrees
 returns-clause-agrees g c =
@@ -84,18 +106,24 @@ returns-clause-agrees g c =
     let call = c.in-Some.call in
     let cs = reverse c.pop.new.self.items in
     let calls_are : calls_of u ≡ call ∷ cs = ap reverse c.in-Some.ensures.items ∙ reverse-append c.pop.new.self.items (call ∷ []) in
-    let lender = some_caller h.names t b u.direction call cs h.callers (subst (λ cs. AreOpenCalls h.names t b u.direction cs h.callers) calls_are stands.calls) in
+    let lender = some_caller h.names t b u.direction call cs h.callers
+    (subst (λ cs. AreOpenCalls h.names t b u.direction cs h.callers) calls_are stands.calls) in
     let x = is_left t b u h stands call cs calls_are lender.0 lender.1 lender.2 c.requires.ended safe.0 safe.1 safe.2 safe.4 in
     let q = known_body t b u h stands call cs calls_are lender.0 lender.1 lender.2 c.requires.ended safe.0 safe.2 in
     let way = c.caller_direction-direction.result in
     let turned : way ≡ caller_way call.uncalled u.direction = c.caller_direction-direction.ensures in
     let caller = book_in t b cs in
     let end : c.last-end.result ≡ block_size (block_in h.names caller way) - 1 =
-    c.last-end.ensures h.names ∙ ap (λ (l : Linear). block_size (code_block h.names l.code) - 1) (c.linear.ensures ∙ ap (λ (k : Book). linear_in k way) (c.running-caller.ensures ∙ ap (λ is. book_in t b (reverse is)) c.deref.ensures.value)) in
+    c.last-end.ensures h.names
+    ∙ ap (λ (l : Linear). block_size (code_block h.names l.code) - 1)
+    (c.linear.ensures ∙ ap (λ (k : Book). linear_in k way) (c.running-caller.ensures ∙ ap (λ is. book_in t b (reverse is)) c.deref.ensures.value)) in
     let placed = c.turned_place-at.ensures h.names caller end in
-    let to_go : c.saturating_sub-cursor.result ≡ block_size (block_in h.names caller (caller_way call.uncalled u.direction)) - 1 - suc (call_at h.names caller (caller_way call.uncalled u.direction) call.place) =
-    subst (λ w. c.saturating_sub-cursor.result ≡ block_size (block_in h.names caller w) - 1 - suc (call_at h.names caller w call.place)) turned (omega (arith, c.saturating_sub-cursor.ensures, c.saturating_sub.ensures, end, placed)) in
-    agrees_left t b u h stands call cs calls_are lender.0 lender.1 lender.2 c.requires.ended q.0 q.2 x.values x.unbound x.filled x.returned _ c.unbind.new.self refl turned to_go refl refl c.unbind.ensures
+    let to_go : c.saturating_sub-cursor.result ≡ block_size (block_in h.names caller (caller_way call.uncalled u.direction)) - 1 - suc
+    (call_at h.names caller (caller_way call.uncalled u.direction) call.place) =
+    subst (λ w. c.saturating_sub-cursor.result ≡ block_size (block_in h.names caller w) - 1 - suc (call_at h.names caller w call.place)) turned
+    (omega (arith, c.saturating_sub-cursor.ensures, c.saturating_sub.ensures, end, placed)) in
+    agrees_left t b u h stands call cs calls_are lender.0 lender.1 lender.2 c.requires.ended q.0 q.2 x.values x.unbound x.filled x.returned _ c.unbind.new.self
+    refl turned to_go refl refl c.unbind.ensures
 
 pub returns-clause-there : goal.returns-clause-there
 returns-clause-there g c =

@@ -11,7 +11,8 @@ returns-in-LocalInt-clause-done g c =
     let s = c.args.store.now.slots in
     let t = c.close_number.new.store.slots in
     let is = sym (ap (λ z. closed_of xs z s) c.in-LocalInt.is) in
-    subst (λ r. IsDone r s t c.done.result) is (c.done.ensures.done (drop_int (symbol_name xs c.in-LocalInt.name) (exp_of xs c.in-LocalInt.last) s) s t c.close_number.ensures.done)
+    subst (λ r. IsDone r s t c.done.result) is
+    (c.done.ensures.done (drop_int (symbol_name xs c.in-LocalInt.name) (exp_of xs c.in-LocalInt.last) s) s t c.close_number.ensures.done)
 
 pub returns-in-LocalStack-clause-done : goal.returns-in-LocalStack-clause-done
 returns-in-LocalStack-clause-done g c =
@@ -19,4 +20,5 @@ returns-in-LocalStack-clause-done g c =
     let s = c.args.store.now.slots in
     let t = c.close_stack.new.store.slots in
     let is = sym (ap (λ z. closed_of xs z s) c.in-LocalStack.is) in
-    subst (λ r. IsDone r s t c.done-in-LocalStack.result) is (c.done-in-LocalStack.ensures.done (drop_stack (symbol_name xs c.in-LocalStack.name) s) s t c.close_stack.ensures.done)
+    subst (λ r. IsDone r s t c.done-in-LocalStack.result) is
+    (c.done-in-LocalStack.ensures.done (drop_stack (symbol_name xs c.in-LocalStack.name) s) s t c.close_stack.ensures.done)

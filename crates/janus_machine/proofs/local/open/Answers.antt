@@ -13,7 +13,8 @@ returns-in-LocalInt-clause-done g c =
     let n = live_stacks c.args.store.now in
     let t = c.open_number.new.store.slots in
     let is = sym (ap (λ z. opened_of xs n z s) c.in-LocalInt.is) in
-    subst (λ r. IsDone r s t c.done.result) is (c.done.ensures.done (number_opened (symbol_name xs c.in-LocalInt.name) (exp_of xs c.in-LocalInt.first) s) s t c.open_number.ensures.done)
+    subst (λ r. IsDone r s t c.done.result) is
+    (c.done.ensures.done (number_opened (symbol_name xs c.in-LocalInt.name) (exp_of xs c.in-LocalInt.first) s) s t c.open_number.ensures.done)
 
 pub returns-in-LocalStack-clause-done : goal.returns-in-LocalStack-clause-done
 returns-in-LocalStack-clause-done g c =
@@ -22,4 +23,5 @@ returns-in-LocalStack-clause-done g c =
     let n = live_stacks c.args.store.now in
     let t = c.open_stack.new.store.slots in
     let is = sym (ap (λ z. opened_of xs n z s) c.in-LocalStack.is) in
-    subst (λ r. IsDone r s t c.done-in-LocalStack.result) is (c.done-in-LocalStack.ensures.done (stack_opened n (symbol_name xs c.in-LocalStack.name) s) s t c.open_stack.ensures.done)
+    subst (λ r. IsDone r s t c.done-in-LocalStack.result) is
+    (c.done-in-LocalStack.ensures.done (stack_opened n (symbol_name xs c.in-LocalStack.name) s) s t c.open_stack.ensures.done)

@@ -43,7 +43,8 @@ returns-in-AssignElement-clause-done g c =
     let o = update_of c.in-AssignElement.update in
     let e = exp_of xs c.in-AssignElement.exp in
     let is = sym (ap (λ z. run_of xs (values_lent c.args.store.now.callers) z s) c.in-AssignElement.is) in
-    subst (λ r. IsDone r s t c.done-in-AssignElement.result) is (c.done-in-AssignElement.ensures.done (assign_at (symbol_name xs c.in-AssignElement.name) i o e s) s t c.assign_element.ensures.done)
+    subst (λ r. IsDone r s t c.done-in-AssignElement.result) is
+    (c.done-in-AssignElement.ensures.done (assign_at (symbol_name xs c.in-AssignElement.name) i o e s) s t c.assign_element.ensures.done)
 
 pub push-requires-clause-variable : goal.push-requires-clause-variable
 push-requires-clause-variable g c = (subst (StatementHasNumbers c.args.store.now.names) c.in-Push.is c.requires.numbered).0
@@ -57,7 +58,9 @@ returns-in-Push-clause-done g c =
     let s = c.args.store.now.slots in
     let t = c.push.new.store.slots in
     let is = sym (ap (λ z. run_of xs (values_lent c.args.store.now.callers) z s) c.in-Push.is) in
-    subst (λ r. IsDone r s t c.done-in-Push.result) is (c.done-in-Push.ensures.done (push pool (values_lent c.args.store.now.callers) (symbol_name xs c.in-Push.variable) (symbol_name xs c.in-Push.stack) s) s t c.push.ensures.done)
+    subst (λ r. IsDone r s t c.done-in-Push.result) is
+    (c.done-in-Push.ensures.done (push pool (values_lent c.args.store.now.callers) (symbol_name xs c.in-Push.variable) (symbol_name xs c.in-Push.stack) s)
+    s t c.push.ensures.done)
 
 pub pop-requires-clause-variable : goal.pop-requires-clause-variable
 pop-requires-clause-variable g c = (subst (StatementHasNumbers c.args.store.now.names) c.in-Pop.is c.requires.numbered).0
@@ -71,7 +74,8 @@ returns-in-Pop-clause-done g c =
     let s = c.args.store.now.slots in
     let t = c.pop.new.store.slots in
     let is = sym (ap (λ z. run_of xs (values_lent c.args.store.now.callers) z s) c.in-Pop.is) in
-    subst (λ r. IsDone r s t c.done-in-Pop.result) is (c.done-in-Pop.ensures.done (pop (symbol_name xs c.in-Pop.variable) (symbol_name xs c.in-Pop.stack) s) s t c.pop.ensures.done)
+    subst (λ r. IsDone r s t c.done-in-Pop.result) is
+    (c.done-in-Pop.ensures.done (pop (symbol_name xs c.in-Pop.variable) (symbol_name xs c.in-Pop.stack) s) s t c.pop.ensures.done)
 
 pub swap-requires-clause-first : goal.swap-requires-clause-first
 swap-requires-clause-first g c = (subst (StatementHasNumbers c.args.store.now.names) c.in-Swap.is c.requires.numbered).0

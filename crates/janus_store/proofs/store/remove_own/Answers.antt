@@ -9,7 +9,8 @@ remove-requires c =
     let ws = c.remove-variable.new.variables.items in
     let y = c.remove-variable.result in
     let gone = c.remove-variable.ensures.variables in
-    subst (λ k. 0 < length (list_of k c.args.places.now)) (sym c.kind.ensures) (one_there c.args.places.now vs ws y (c.requires.own ws y gone) gone c.requires.sorted)
+    subst (λ k. 0 < length (list_of k c.args.places.now)) (sym c.kind.ensures)
+    (one_there c.args.places.now vs ws y (c.requires.own ws y gone) gone c.requires.sorted)
 
 pub returns-clause-sorted : goal.returns-clause-sorted
 returns-clause-sorted c =
@@ -17,4 +18,5 @@ returns-clause-sorted c =
     let ws = c.remove-variable.new.variables.items in
     let y = c.remove-variable.result in
     let gone = c.remove-variable.ensures.variables in
-    sorted_under c.args.places.now vs ws y (c.requires.own ws y gone) gone c.requires.sorted c.remove.new.self (c.remove.ensures ∙ ap (λ k. without_last k c.args.places.now) c.kind.ensures)
+    sorted_under c.args.places.now vs ws y (c.requires.own ws y gone) gone c.requires.sorted c.remove.new.self
+    (c.remove.ensures ∙ ap (λ k. without_last k c.args.places.now) c.kind.ensures)

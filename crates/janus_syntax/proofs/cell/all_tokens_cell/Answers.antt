@@ -18,17 +18,20 @@ returns-in_err-cell c =
     let h = c.in_ok-read.ensures in
     let p = err_from_is_err_and c.from_residual-in_err-cell.result c.from_residual-in_err-cell.ensures.1 in
     rw (p.1, p.2) (passes_on _ _ c.in_err-cell.field-0.0 c.in_err-cell.ensures
-    (λ out f. cell_stops_procedures h.declarations h.statements out (as_read (λ m d. FailsPart (Procedures m d) 0 (views c.in_ok-read.rest.now) out) c.in_ok-read.main _ (cell_view c.in_ok-read.read) _ h.bare h.cell f)))
+    (λ out f. cell_stops_procedures h.declarations h.statements out
+    (as_read (λ m d. FailsPart (Procedures m d) 0 (views c.in_ok-read.rest.now) out) c.in_ok-read.main _ (cell_view c.in_ok-read.read) _ h.bare h.cell f)))
 
 pub returns-in_err-end : goal.returns-in_err-end
 returns-in_err-end c =
     let h = c.in_ok-read.ensures in
-    let i = as_read (λ m d. IsPart (Procedures m d) 0 (cell_view c.in_ok-cell.cell) (views c.in_ok-read.rest.now) (views c.in_ok-cell.rest.now)) c.in_ok-read.main (is_bare h.listed h.block) (cell_view c.in_ok-read.read) (cell_of h.listed h.block []) h.bare h.cell c.in_ok-cell.ensures in
+    let i = as_read (λ m d. IsPart (Procedures m d) 0 (cell_view c.in_ok-cell.cell) (views c.in_ok-read.rest.now) (views c.in_ok-cell.rest.now))
+    c.in_ok-read.main (is_bare h.listed h.block) (cell_view c.in_ok-read.read) (cell_of h.listed h.block []) h.bare h.cell c.in_ok-cell.ensures in
     let p = err_from_is_err_and c.from_residual-in_err-end.result c.from_residual-in_err-end.ensures.1 in
     rw (p.1, p.2) (passes_on _ _ c.in_err-end.field-0.0 c.in_err-end.ensures (λ out f. cell_stops_end h.declarations h.statements out i f))
 
 pub returns : goal.returns
 returns c =
     let h = c.in_ok-read.ensures in
-    let i = as_read (λ m d. IsPart (Procedures m d) 0 (cell_view c.in_ok-cell.cell) (views c.in_ok-read.rest.now) (views c.in_ok-cell.rest.now)) c.in_ok-read.main (is_bare h.listed h.block) (cell_view c.in_ok-read.read) (cell_of h.listed h.block []) h.bare h.cell c.in_ok-cell.ensures in
+    let i = as_read (λ m d. IsPart (Procedures m d) 0 (cell_view c.in_ok-cell.cell) (views c.in_ok-read.rest.now) (views c.in_ok-cell.rest.now))
+    c.in_ok-read.main (is_bare h.listed h.block) (cell_view c.in_ok-read.read) (cell_of h.listed h.block []) h.bare h.cell c.in_ok-cell.ensures in
     cell_is h.declarations h.statements i c.in_ok-end.ensures

@@ -12,7 +12,9 @@ returns-in_err-name c =
 pub returns-in_err-declaration : goal.returns-in_err-declaration
 returns-in_err-declaration c =
     let p = err_from_is_err_and c.from_residual-in_err-declaration.result c.from_residual-in_err-declaration.ensures.1 in
-    rw (p.1, p.2) (passes_on _ _ c.in_err-declaration.field-0.0 c.in_err-declaration.ensures (λ out f. declaration_stops_bound out c.in-Some.ensures.found c.in_ok-name.ensures f))
+    rw (p.1, p.2)
+    (passes_on _ _ c.in_err-declaration.field-0.0 c.in_err-declaration.ensures
+    (λ out f. declaration_stops_bound out c.in-Some.ensures.found c.in_ok-name.ensures f))
 
 pub returns-in-Some : goal.returns-in-Some
 returns-in-Some c = declaration_is c.in-Some.ensures.found c.in_ok-name.ensures c.in_ok-declaration.ensures

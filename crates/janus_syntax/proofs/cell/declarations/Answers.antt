@@ -7,7 +7,8 @@ use Rattle.janus_syntax.proofs.Declared.{view_push, declared_begins, declared_go
 use Rattle.janus_syntax.proofs.cell.declarations.Goals as goal
 
 pub declarations-init : goal.declarations-init
-declarations-init c = rw (c.so_far-declarations.ensures.read, c.so_far-declarations.ensures.tokens, c.new.ensures.items) (declared_begins (views c.args.tokens.now))
+declarations-init c =
+    rw (c.so_far-declarations.ensures.read, c.so_far-declarations.ensures.tokens, c.new.ensures.items) (declared_begins (views c.args.tokens.now))
 
 pub returns-in_err-next : goal.returns-in_err-next
 returns-in_err-next c =

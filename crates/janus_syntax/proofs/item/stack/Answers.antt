@@ -17,7 +17,8 @@ returns-in_err-stack c =
 pub returns-in_err-rest-2 : goal.returns-in_err-rest-2
 returns-in_err-rest-2 c =
     let p = err_from_is_err_and c.from_residual-in_err-rest-2.result c.from_residual-in_err-rest-2.ensures.1 in
-    rw (p.1, p.2) (passes_on _ _ c.in_err-rest-2.field-0.0 c.in_err-rest-2.ensures (λ out f. stack_stops_close out c.in_ok-rest.ensures c.in_ok-stack.ensures f))
+    rw (p.1, p.2)
+    (passes_on _ _ c.in_err-rest-2.field-0.0 c.in_err-rest-2.ensures (λ out f. stack_stops_close out c.in_ok-rest.ensures c.in_ok-stack.ensures f))
 
 pub returns : goal.returns
 returns c = stack_is c.in_ok-rest.ensures c.in_ok-stack.ensures c.in_ok-rest-2.ensures

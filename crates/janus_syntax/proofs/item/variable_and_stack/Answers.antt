@@ -17,17 +17,22 @@ returns-in_err-variable c =
 pub returns-in_err-rest-2 : goal.returns-in_err-rest-2
 returns-in_err-rest-2 c =
     let p = err_from_is_err_and c.from_residual-in_err-rest-2.result c.from_residual-in_err-rest-2.ensures.1 in
-    rw (p.1, p.2) (passes_on _ _ c.in_err-rest-2.field-0.0 c.in_err-rest-2.ensures (λ out f. pair_stops_comma out c.in_ok-rest.ensures c.in_ok-variable.ensures f))
+    rw (p.1, p.2)
+    (passes_on _ _ c.in_err-rest-2.field-0.0 c.in_err-rest-2.ensures (λ out f. pair_stops_comma out c.in_ok-rest.ensures c.in_ok-variable.ensures f))
 
 pub returns-in_err-stack : goal.returns-in_err-stack
 returns-in_err-stack c =
     let p = err_from_is_err_and c.from_residual-in_err-stack.result c.from_residual-in_err-stack.ensures.1 in
-    rw (p.1, p.2) (passes_on _ _ c.in_err-stack.field-0.0 c.in_err-stack.ensures (λ out f. pair_stops_stack out c.in_ok-rest.ensures c.in_ok-variable.ensures c.in_ok-rest-2.ensures f))
+    rw (p.1, p.2)
+    (passes_on _ _ c.in_err-stack.field-0.0 c.in_err-stack.ensures
+    (λ out f. pair_stops_stack out c.in_ok-rest.ensures c.in_ok-variable.ensures c.in_ok-rest-2.ensures f))
 
 pub returns-in_err-rest-3 : goal.returns-in_err-rest-3
 returns-in_err-rest-3 c =
     let p = err_from_is_err_and c.from_residual-in_err-rest-3.result c.from_residual-in_err-rest-3.ensures.1 in
-    rw (p.1, p.2) (passes_on _ _ c.in_err-rest-3.field-0.0 c.in_err-rest-3.ensures (λ out f. pair_stops_close out c.in_ok-rest.ensures c.in_ok-variable.ensures c.in_ok-rest-2.ensures c.in_ok-stack.ensures f))
+    rw (p.1, p.2)
+    (passes_on _ _ c.in_err-rest-3.field-0.0 c.in_err-rest-3.ensures
+    (λ out f. pair_stops_close out c.in_ok-rest.ensures c.in_ok-variable.ensures c.in_ok-rest-2.ensures c.in_ok-stack.ensures f))
 
 pub returns : goal.returns
 returns c = pair_is c.in_ok-rest.ensures c.in_ok-variable.ensures c.in_ok-rest-2.ensures c.in_ok-stack.ensures c.in_ok-rest-3.ensures

@@ -2,7 +2,8 @@ use Rattle.std.proofs.Common.{ap, sym, ◌∙◌, length, get_or, refl, drop, su
 use Rattle.std.specs.List.{prefix_len}
 use Rattle.janus_syntax.specs.Lexical.{class_of, of_name, of_number, in_line}
 use Rattle.janus_syntax.specs.Scan.{IsLongestSign}
-use Rattle.janus_syntax.proofs.Fronts.{letters_front, digits_front, comment_front, sign_front, underscore_none, space_front, letters_cut, digits_cut, space_cut, line_cut, sign_cut, slashes, no_slashes}
+use Rattle.janus_syntax.proofs.Fronts.{letters_front, digits_front, comment_front, sign_front, underscore_none, space_front, letters_cut, digits_cut, space_cut}
+use Rattle.janus_syntax.proofs.Fronts.{line_cut, sign_cut, slashes, no_slashes}
 use Rattle.janus_syntax.proofs.lexer.front_of.Goals as goal
 
 pub returns-in-Letter-clause-found : goal.returns-in-Letter-clause-found
@@ -57,7 +58,8 @@ returns-then-starts_with-clause-found c =
     comment_front c.args.text.now (drop 2 c.as_bytes-octets.result.now) c.line_len.result (sym bytes ∙ two) (c.line_len.ensures ∙ ap (prefix_len in_line) bytes)
 
 pub returns-then-starts_with-clause-cut : goal.returns-then-starts_with-clause-cut
-returns-then-starts_with-clause-cut c = line_cut c.args.text.now c.line_len.result (c.line_len.ensures ∙ ap (prefix_len in_line) c.as_bytes-octets.ensures.value)
+returns-then-starts_with-clause-cut c =
+    line_cut c.args.text.now c.line_len.result (c.line_len.ensures ∙ ap (prefix_len in_line) c.as_bytes-octets.ensures.value)
 
 pub returns-in_ok-sign-in-Other-clause-found : goal.returns-in_ok-sign-in-Other-clause-found
 returns-in_ok-sign-in-Other-clause-found c =

@@ -12,8 +12,10 @@ loop-n-preserved c = record {
 
 pub returns-else-goes_on : goal.returns-else-goes_on
 returns-else-goes_on c =
-    sym (prefix_len_is (λ o. goes_on c.args.first (class_of o)) c.args.octets.now c.loop-n.n 0 c.loop-n.invariant.in_range c.loop-n.invariant.all (λ h. sym (ap (goes_on c.args.first) c.class_of.ensures) ∙ sym c.goes_on.ensures ∙ c.if-goes_on.false))
+    sym (prefix_len_is (λ o. goes_on c.args.first (class_of o)) c.args.octets.now c.loop-n.n 0 c.loop-n.invariant.in_range c.loop-n.invariant.all
+    (λ h. sym (ap (goes_on c.args.first) c.class_of.ensures) ∙ sym c.goes_on.ensures ∙ c.if-goes_on.false))
 
 pub returns-after-loop-n : goal.returns-after-loop-n
 returns-after-loop-n c =
-    sym (prefix_len_is (λ o. goes_on c.args.first (class_of o)) c.args.octets.now c.loop-n.n 0 c.loop-n.invariant.in_range c.loop-n.invariant.all (λ h. absurd (omega arith)))
+    sym (prefix_len_is (λ o. goes_on c.args.first (class_of o)) c.args.octets.now c.loop-n.n 0 c.loop-n.invariant.in_range c.loop-n.invariant.all
+    (λ h. absurd (omega arith)))

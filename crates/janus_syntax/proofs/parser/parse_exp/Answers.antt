@@ -30,4 +30,5 @@ returns-clause-read c =
 pub returns-clause-only : goal.returns-clause-only
 returns-clause-only c tree q =
     let l = subst (λ ts. AreTokens c.args.text.now (views ts)) (sym c.deref.ensures.value) c.in_ok-tokens.ensures.read in
-    rw c.fault.ensures (only_exp tree _ _ c.in-Err.problem (c.in-Err.ensures.only tree (tree_of_tokens Whole c.args.text.now (views c.deref.result.now) tree l q)))
+    rw c.fault.ensures
+    (only_exp tree _ _ c.in-Err.problem (c.in-Err.ensures.only tree (tree_of_tokens Whole c.args.text.now (views c.deref.result.now) tree l q)))

@@ -7,4 +7,5 @@ use Rattle.janus_syntax.proofs.printer.+put_stm.Given as goal
 
 -- what is left makes of the line what all make of the first
 abbrev pub invariant-put_block-loop-i : goal.invariant-put_block-loop-i
-invariant-put_block-loop-i l = (end : code.Line) → Adds l.line end (block_pieces (block_view (drop l.i l.block))) → Adds l.fn.line end (block_pieces (block_view l.block))
+invariant-put_block-loop-i l = (end : code.Line) → Adds l.line end (block_pieces (block_view (drop l.i l.block))) →
+    Adds l.fn.line end (block_pieces (block_view l.block))

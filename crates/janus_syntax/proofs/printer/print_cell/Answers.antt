@@ -3,4 +3,6 @@ use Rattle.janus_syntax.proofs.printer.print_cell.Goals as goal
 
 pub returns : goal.returns
 returns c =
-    told _ _ _ _ c.no_line-line.ensures (both (rw c.deref.ensures.value at c.put_declarations.ensures) (both (rw c.deref-2.ensures.value at c.put_block.ensures) (rw c.deref-3.ensures.value at c.put_procedures.ensures))) c.text_of.ensures
+    told _ _ _ _ c.no_line-line.ensures
+    (both (rw c.deref.ensures.value at c.put_declarations.ensures)
+    (both (rw c.deref-2.ensures.value at c.put_block.ensures) (rw c.deref-3.ensures.value at c.put_procedures.ensures))) c.text_of.ensures

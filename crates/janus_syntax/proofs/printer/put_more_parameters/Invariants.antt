@@ -7,4 +7,5 @@ use Rattle.janus_syntax.proofs.printer.put_more_parameters.Given as goal
 
 -- what is left makes of the line what all make of the first
 abbrev pub invariant-loop-i : goal.invariant-loop-i
-invariant-loop-i l = (end : code.Line) → Adds l.line end (more_parameters_pieces (parameters_view (drop l.i l.parameters))) → Adds l.fn.line end (more_parameters_pieces (parameters_view l.parameters))
+invariant-loop-i l = (end : code.Line) → Adds l.line end (more_parameters_pieces (parameters_view (drop l.i l.parameters))) →
+    Adds l.fn.line end (more_parameters_pieces (parameters_view l.parameters))

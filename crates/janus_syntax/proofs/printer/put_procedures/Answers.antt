@@ -7,7 +7,9 @@ use Rattle.janus_syntax.proofs.printer.put_procedures.Goals as goal
 pub loop-i-preserved : goal.loop-i-preserved
 loop-i-preserved c =
     let x = c.index-procedures-i.result in
-    next_item (λ xs. procedures_pieces (procedures_view xs)) c.args.procedures.now c.loop-i.i x (procedure_pieces (procedure_view x)) c.args.line.now _ _ c.loop-i-test.true c.index-procedures-i.is (λ ys. refl) c.loop-i.invariant c.put_procedure.ensures
+    next_item (λ xs. procedures_pieces (procedures_view xs)) c.args.procedures.now c.loop-i.i x (procedure_pieces (procedure_view x))
+    c.args.line.now _ _ c.loop-i-test.true c.index-procedures-i.is (λ ys. refl) c.loop-i.invariant c.put_procedure.ensures
 
 pub returns : goal.returns
-returns c = last_item (λ xs. procedures_pieces (procedures_view xs)) c.args.procedures.now c.loop-i.i c.args.line.now _ (omega (arith, c.loop-i-test.false)) refl c.loop-i.invariant
+returns c = last_item (λ xs. procedures_pieces (procedures_view xs)) c.args.procedures.now c.loop-i.i c.args.line.now _ (omega (arith, c.loop-i-test.false))
+    refl c.loop-i.invariant

@@ -12,7 +12,9 @@ returns-in_err-name c =
 pub returns-in_err-parameter : goal.returns-in_err-parameter
 returns-in_err-parameter c =
     let p = err_from_is_err_and c.from_residual-in_err-parameter.result c.from_residual-in_err-parameter.ensures.1 in
-    rw (p.1, p.2) (passes_on _ _ c.in_err-parameter.field-0.0 c.in_err-parameter.ensures (λ out f. parameter_stops_brackets out c.in-Some.ensures.found c.in_ok-name.ensures f))
+    rw (p.1, p.2)
+    (passes_on _ _ c.in_err-parameter.field-0.0 c.in_err-parameter.ensures
+    (λ out f. parameter_stops_brackets out c.in-Some.ensures.found c.in_ok-name.ensures f))
 
 pub returns-in-Some : goal.returns-in-Some
 returns-in-Some c = parameter_is c.in-Some.ensures.found c.in_ok-name.ensures c.in_ok-parameter.ensures

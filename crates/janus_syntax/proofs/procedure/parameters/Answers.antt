@@ -18,25 +18,31 @@ returns-in_err-first c =
     rw (p.1, p.2) (passes_on _ _ c.in_err-first.field-0.0 c.in_err-first.ensures (λ out f. first_fails (views c.args.tokens.now) out f))
 
 pub returns-in_default : goal.returns-in_default
-returns-in_default c = rw c.new.ensures.items (none_is (views c.args.tokens.now) (subst (IsParameterOrOther (views c.args.tokens.now)) c.in_default.is c.in_ok-first.ensures))
+returns-in_default c =
+    rw c.new.ensures.items (none_is (views c.args.tokens.now) (subst (IsParameterOrOther (views c.args.tokens.now)) c.in_default.is c.in_ok-first.ensures))
 
 pub parameters-init : goal.parameters-init
-parameters-init c = rw (c.in_ok-push.ensures.items, c.new-parameters.ensures.items) (first_is (subst (IsParameterOrOther (views c.args.tokens.now)) c.in-Some.is c.in_ok-first.ensures))
+parameters-init c =
+    rw (c.in_ok-push.ensures.items, c.new-parameters.ensures.items)
+    (first_is (subst (IsParameterOrOther (views c.args.tokens.now)) c.in-Some.is c.in_ok-first.ensures))
 
 pub returns-in_err-next : goal.returns-in_err-next
 returns-in_err-next c =
     let p = err_from_is_err_and c.from_residual-in_err-next.result c.from_residual-in_err-next.ensures.1 in
-    rw (p.1, p.2) (passes_on _ _ c.in_err-next.field-0.0 c.in_err-next.ensures (λ out f. parameters_fail out c.parameters.invariant c.in-Some-sign_at.ensures.found f))
+    rw (p.1, p.2)
+    (passes_on _ _ c.in_err-next.field-0.0 c.in_err-next.ensures (λ out f. parameters_fail out c.parameters.invariant c.in-Some-sign_at.ensures.found f))
 
 pub returns-in_default-2 : goal.returns-in_default-2
 returns-in_default-2 c =
     subst (λ n. FailsPart Parameters 0 (views c.args.tokens.now) (Expected what.Kind n)) (length-map c.in-Some-sign_at.behind.now token_view)
-    (parameter_wanted c.parameters.invariant c.in-Some-sign_at.ensures.found (subst (IsParameterOrOther (views c.in-Some-sign_at.behind.now)) c.in_default-2.is c.in_ok-next.ensures))
+    (parameter_wanted c.parameters.invariant c.in-Some-sign_at.ensures.found
+    (subst (IsParameterOrOther (views c.in-Some-sign_at.behind.now)) c.in_default-2.is c.in_ok-next.ensures))
 
 pub parameters-preserved : goal.parameters-preserved
 parameters-preserved c =
     let i = subst (IsParameterOrOther (views c.in-Some-sign_at.behind.now)) c.in-Some-2.is c.in_ok-next.ensures in
-    rw (c.in_ok-push-2.ensures.items, view_push c.parameters.parameters.items c.in-Some-2.next) (parameters_go_on c.parameters.invariant c.in-Some-sign_at.ensures.found i)
+    rw (c.in_ok-push-2.ensures.items, view_push c.parameters.parameters.items c.in-Some-2.next)
+    (parameters_go_on c.parameters.invariant c.in-Some-sign_at.ensures.found i)
 
 pub returns : goal.returns
 returns c = parameters_end c.parameters.invariant c.in_default-sign_at.ensures.none

@@ -12,17 +12,21 @@ returns-in_err-rest c =
 pub returns-in_err-parameters : goal.returns-in_err-parameters
 returns-in_err-parameters c =
     let p = err_from_is_err_and c.from_residual-in_err-parameters.result c.from_residual-in_err-parameters.ensures.1 in
-    λ name. rw (p.1, p.2) (passes_on _ _ c.in_err-parameters.field-0.0 c.in_err-parameters.ensures (λ out f. name_stops_parameters name out c.in_ok-rest.ensures f))
+    λ name. rw (p.1, p.2)
+    (passes_on _ _ c.in_err-parameters.field-0.0 c.in_err-parameters.ensures (λ out f. name_stops_parameters name out c.in_ok-rest.ensures f))
 
 pub returns-in_err-rest-2 : goal.returns-in_err-rest-2
 returns-in_err-rest-2 c =
     let p = err_from_is_err_and c.from_residual-in_err-rest-2.result c.from_residual-in_err-rest-2.ensures.1 in
-    λ name. rw (p.1, p.2) (passes_on _ _ c.in_err-rest-2.field-0.0 c.in_err-rest-2.ensures (λ out f. name_stops_close name out c.in_ok-rest.ensures c.in_ok-parameters.ensures f))
+    λ name. rw (p.1, p.2)
+    (passes_on _ _ c.in_err-rest-2.field-0.0 c.in_err-rest-2.ensures (λ out f. name_stops_close name out c.in_ok-rest.ensures c.in_ok-parameters.ensures f))
 
 pub returns-in_err-body : goal.returns-in_err-body
 returns-in_err-body c =
     let p = err_from_is_err_and c.from_residual-in_err-body.result c.from_residual-in_err-body.ensures.1 in
-    λ name. rw (p.1, p.2) (passes_on _ _ c.in_err-body.field-0.0 c.in_err-body.ensures (λ out f. name_stops_body name out c.in_ok-rest.ensures c.in_ok-parameters.ensures c.in_ok-rest-2.ensures f))
+    λ name. rw (p.1, p.2)
+    (passes_on _ _ c.in_err-body.field-0.0 c.in_err-body.ensures
+    (λ out f. name_stops_body name out c.in_ok-rest.ensures c.in_ok-parameters.ensures c.in_ok-rest-2.ensures f))
 
 pub returns : goal.returns
 returns c = λ name. name_is name c.in_ok-rest.ensures c.in_ok-parameters.ensures c.in_ok-rest-2.ensures c.in_ok-body.ensures

@@ -6,7 +6,8 @@ use Rattle.janus_syntax.proofs.Procedures.{procedures_begin, procedures_go_on, p
 use Rattle.janus_syntax.proofs.procedure.procedures.Goals as goal
 
 pub procedures-init : goal.procedures-init
-procedures-init c = rw (c.so_far-whole.ensures.read, c.so_far-whole.ensures.tokens) (procedures_begin c.args.main (cell_view c.args.cell) (views c.args.tokens.now))
+procedures-init c =
+    rw (c.so_far-whole.ensures.read, c.so_far-whole.ensures.tokens) (procedures_begin c.args.main (cell_view c.args.cell) (views c.args.tokens.now))
 
 pub returns-in_err-next : goal.returns-in_err-next
 returns-in_err-next c =

@@ -17,7 +17,8 @@ returns-in_err-rest c =
 pub returns-in_err-exp : goal.returns-in_err-exp
 returns-in_err-exp c =
     let p = err_from_is_err_and c.from_residual-in_err-exp.result c.from_residual-in_err-exp.ensures.1 in
-    rw (p.1, p.2) (passes_on _ _ c.in_err-exp.field-0.0 c.in_err-exp.ensures (λ out f. int_stops_first c.args.depth out c.in_ok-name.ensures c.in_ok-rest.ensures f))
+    rw (p.1, p.2)
+    (passes_on _ _ c.in_err-exp.field-0.0 c.in_err-exp.ensures (λ out f. int_stops_first c.args.depth out c.in_ok-name.ensures c.in_ok-rest.ensures f))
 
 pub returns : goal.returns
 returns c = record { behind_name = _; behind_sign = _; name = c.in_ok-name.ensures; equals = c.in_ok-rest.ensures; first = c.in_ok-exp.ensures }

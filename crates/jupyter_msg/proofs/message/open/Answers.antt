@@ -3,7 +3,8 @@ use Rattle.std.proofs.lemmas.List.{take_rest, length-drop, length-map}
 use Rattle.std.proofs.lemmas.Result.{err_from_is_err_and}
 use Rattle.jupyter_msg.specs.Octets.{octets}
 use Rattle.jupyter_msg.proofs.CutLemmas.{none_of, cut_of}
-use Rattle.jupyter_msg.proofs.OpenLemmas.{five_after, taken_message, memory_refused, every_message, exactly_refused, judged_refused, refused_at, taken_read, not_read, not_message, no_delimiter_early, refused_early, passed_early}
+use Rattle.jupyter_msg.proofs.OpenLemmas.{five_after, taken_message, memory_refused, every_message, exactly_refused, judged_refused, refused_at, taken_read}
+use Rattle.jupyter_msg.proofs.OpenLemmas.{not_read, not_message, no_delimiter_early, refused_early, passed_early}
 use Rattle.jupyter_msg.specs.declared.fault.MsgFault.TheVariants.{NoDelimiter}
 use Rattle.jupyter_msg.proofs.message.open.Goals as goal
 
@@ -14,7 +15,15 @@ returns-in_default c =
     let ok = not_message key frames (Err NoDelimiter) NoDelimiter refl in
     let none = none_of c.args.frames.items (sym (rw c.deref.ensures.value at c.in_default.ensures)) in
     let refused = refused_at key frames (Err NoDelimiter) NoDelimiter refl (inr none) in
-    record { message = ok; read = tt; refused = refused; every = every_message key frames (Err NoDelimiter) ok refused; exactly = exactly_refused key frames (Err NoDelimiter) ok refused; early = λ fault t q. ap Err (no_delimiter_early key frames none fault q) }
+    record {
+      message = ok;
+      read = tt;
+      refused = refused;
+      every = every_message key frames (Err NoDelimiter) ok refused;
+      exactly = exactly_refused key frames
+          (Err NoDelimiter) ok refused;
+      early = λ fault t q. ap Err (no_delimiter_early key frames none fault q);
+    }
 
 pub returns-in_err-read : goal.returns-in_err-read
 returns-in_err-read c =
@@ -26,7 +35,16 @@ returns-in_err-read c =
     let early = rw (c.deref-2.ensures.value, take_rest) at c.in_err-read.ensures.early in
     let ok = not_message key frames c.from_residual.result p.0 p.1 in
     let refused = refused_at key frames c.from_residual.result p.0 p.1 (rw p.2 (judged_refused key frames _ _ _ cut judged)) in
-    record { message = ok; read = not_read c.from_residual.result p.0 p.1; refused = refused; every = every_message key frames c.from_residual.result ok refused; exactly = exactly_refused key frames c.from_residual.result ok refused; early = λ fault t q. refused_early key frames _ _ c.from_residual.result _ p.0 fault cut p.1 (rw p.2 refl) (early fault t) q }
+    record {
+      message = ok;
+      read = not_read c.from_residual.result p.0 p.1;
+      refused = refused;
+      every = every_message key frames c.from_residual.result ok
+          refused;
+      exactly = exactly_refused key frames c.from_residual.result ok refused;
+      early =
+          λ fault t q. refused_early key frames _ _ c.from_residual.result _ p.0 fault cut p.1 (rw p.2 refl) (early fault t) q;
+    }
 
 pub take_apart-requires : goal.take_apart-requires
 take_apart-requires c =
@@ -47,4 +65,12 @@ returns c =
     let from = rw (c.deref-2.ensures.value, take_rest) at c.in_ok-read.ensures.read in
     let read = taken_read _ c.in_ok-read.read c.take_apart.result from c.take_apart.ensures.after c.take_apart.ensures.read in
     let refused = memory_refused key frames c.take_apart.result c.take_apart.ensures.memory in
-    record { message = ok; read = read; refused = refused; every = every_message key frames c.take_apart.result ok refused; exactly = exactly_refused key frames c.take_apart.result ok refused; early = λ fault t q. passed_early key frames _ _ c.take_apart.result cut passed fault q }
+    record {
+      message = ok;
+      read = read;
+      refused = refused;
+      every = every_message key frames c.take_apart.result ok refused;
+      exactly = exactly_refused key frames
+          c.take_apart.result ok refused;
+      early = λ fault t q. passed_early key frames _ _ c.take_apart.result cut passed fault q;
+    }

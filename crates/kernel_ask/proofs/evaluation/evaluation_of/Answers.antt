@@ -14,7 +14,8 @@ use Rattle.kernel_ask.specs.Evaluation.{IsEvaluated}
 use Rattle.kernel_ask.proofs.evaluation.evaluation_of.Goals as goal
 
 -- a refusal of the text is told as it is, and want of memory as such
-told : (s : Store) (text : List ℕ) (fault : SyntaxFault) (r : Refusal) → Refuses Whole text fault → r ≡ refused_by_syntax fault → IsEvaluated s text (Err (Refused r))
+told : (s : Store) (text : List ℕ) (fault : SyntaxFault) (r : Refusal) → Refuses Whole text fault → r ≡ refused_by_syntax fault →
+    IsEvaluated s text (Err (Refused r))
 told s text (fault.BadToken at) r refused is = rw is refused
 told s text (fault.Expected what at) r refused is = rw is refused
 told s text (fault.NumberTooLarge at) r refused is = rw is refused
@@ -35,4 +36,5 @@ returns-in-Ok g c = λ text read.
 
 pub returns-in-Err : goal.returns-in-Err
 returns-in-Err g c = λ text read.
-    told c.args.store.now.sight text c.in-Err.fault c.of_syntax.result (subst (λ (r : Result code.Exp SyntaxFault). IsParsedExp text r) c.in-Err.is read) c.of_syntax.ensures
+    told c.args.store.now.sight text c.in-Err.fault c.of_syntax.result (subst (λ (r : Result code.Exp SyntaxFault). IsParsedExp text r) c.in-Err.is read)
+    c.of_syntax.ensures

@@ -29,7 +29,8 @@ value-requires-clause-safe g c = λ broken.
     not_broken e s formed (sym c.in-Ok-slotted.ensures.same ∙ broken)
 
 -- a fault of the check is told as it is, and want of memory as such
-told : (s : Store) (text : List ℕ) (tree : tree.Exp) (fault : CheckFault) (r : Refusal) → HasExp text tree → IsFirst fault (exp_faults (shape_of s) tree) → r ≡ refused_by_check fault →
+told : (s : Store) (text : List ℕ) (tree : tree.Exp) (fault : CheckFault) (r : Refusal) → HasExp text tree → IsFirst fault (exp_faults (shape_of s) tree) →
+    r ≡ refused_by_check fault →
     IsEvaluated s text (Err (Refused r))
 told s text e (fault.Declared at) r has first is = rw is (record { tree = e; is_tree = has; first = first })
 told s text e (fault.Unknown at) r has first is = rw is (record { tree = e; is_tree = has; first = first })

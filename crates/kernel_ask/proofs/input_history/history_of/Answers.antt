@@ -9,4 +9,5 @@ pub returns-in-Tail : goal.returns-in-Tail
 returns-in-Tail c =
     let minutes = map entry_of c.args.entries.now in
     let all = inputs minutes c.args.counter in
-    IfOk-weaker c.tail.result _ _ (λ v e. e ∙ last_inputs minutes c.args.counter c.in-Tail.n c.requires ∙ ap (λ ask. told ask all) (sym c.in-Tail.is)) c.tail.ensures
+    IfOk-weaker c.tail.result _ _ (λ v e. e ∙ last_inputs minutes c.args.counter c.in-Tail.n c.requires ∙ ap (λ ask. told ask all) (sym c.in-Tail.is))
+    c.tail.ensures

@@ -20,7 +20,8 @@ loop-entry-preserved c =
       | then-number-counter+in_ok-tell w ↦ record {
         number = w.number-is ∙ number_more es i k e t number c.loop-entry-test.true c.entry-item.is one so_far.number w.if-number-counter.true;
         told =
-            told_more c.args.start c.args.stop es i k e t number (map input_of c.loop-entry.told.items) (map input_of c.if-number-counter.told.items) c.loop-entry-test.true c.entry-item.is one so_far.number
+            told_more c.args.start c.args.stop es i k e t number (map input_of c.loop-entry.told.items) (map input_of c.if-number-counter.told.items)
+            c.loop-entry-test.true c.entry-item.is one so_far.number
             w.if-number-counter.true so_far.told (ap (λ v. map input_of v.items) w.told-is ∙ w.in_ok-tell.ensures);
       }
       | else-number-counter w ↦
@@ -28,6 +29,7 @@ loop-entry-preserved c =
           let same = full_more es i k e t c.loop-entry-test.true c.entry-item.is one full in
           record {
             number = w.number-is ∙ so_far.number ∙ ap length (sym same);
-            told = ap (λ v. map input_of v.items) w.told-is ∙ so_far.told ∙ ap (λ ts. filter (λ i. is_within c.args.start c.args.stop i.0) (numbered 1 ts)) (sym same);
+            told = ap (λ v. map input_of v.items) w.told-is ∙ so_far.told ∙ ap (λ ts. filter (λ i. is_within c.args.start c.args.stop i.0) (numbered 1 ts))
+                (sym same);
           })
     ]

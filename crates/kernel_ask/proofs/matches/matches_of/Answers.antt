@@ -29,6 +29,7 @@ returns g c =
     let w : World = record { store = shown_store c.args.store.now; procedures = in_a_row c.args.procedures.now } in
     let all : map string_bytes c.add_keywords.new.names.keys ≡ all_matches w prefix =
     c.in_ok-add_keywords.ensures
-    ∙ ap (λ ks. with_matches prefix ks keywords) (c.in_ok-add_procedures.ensures ∙ ap (λ ks. with_matches prefix ks (procedure_names w.procedures)) (c.in_ok-add_declared.ensures
+    ∙ ap (λ ks. with_matches prefix ks keywords)
+    (c.in_ok-add_procedures.ensures ∙ ap (λ ks. with_matches prefix ks (procedure_names w.procedures)) (c.in_ok-add_declared.ensures
     ∙ ap (λ ks. with_matches prefix (map string_bytes ks) (names_of w.store)) c.new-names.ensures.empty)) in
     listed c.in_order.result c.add_keywords.new.names.keys w prefix c.in_order.ensures.items c.in_order.ensures.ordered all

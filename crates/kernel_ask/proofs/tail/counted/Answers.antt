@@ -15,7 +15,8 @@ twice c =
 
 all : (c : goal.After-counted_last) → c.last_end-ended.result.1 + c.counted_last.result ≡ counted_in (map entry_of c.args.entries.now)
 all c =
-    counted_by (map entry_of c.args.entries.now) c.args.counter (length c.args.entries.now) c.counted_last.result c.last_end-ended.result c.requires (sym (length-map c.args.entries.now entry_of)) c.last_end-ended.ensures
+    counted_by (map entry_of c.args.entries.now) c.args.counter (length c.args.entries.now) c.counted_last.result c.last_end-ended.result c.requires
+    (sym (length-map c.args.entries.now entry_of)) c.last_end-ended.ensures
     c.counted_last.ensures
 
 pub overflow_mul-open : goal.overflow_mul-open

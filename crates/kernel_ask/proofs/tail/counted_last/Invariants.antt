@@ -9,7 +9,8 @@ use Rattle.kernel_ask.proofs.tail.counted_last.Given as goal
 abbrev pub invariant-loop-entry : goal.invariant-loop-entry
 invariant-loop-entry l = record {
   all : l.number + counted_in (map entry_of l.rest) ≡ counted_in (map entry_of l.entries);
-  front : counted_to (posted_in (map entry_of l.rest) - l.left) (posts_of (map entry_of l.rest)) ≡ counted_to (posted_in (map entry_of l.entries) - l.posts) (posts_of (map entry_of l.entries));
+  front : counted_to (posted_in (map entry_of l.rest) - l.left) (posts_of (map entry_of l.rest)) ≡ counted_to (posted_in (map entry_of l.entries) - l.posts)
+      (posts_of (map entry_of l.entries));
   short : length l.rest + l.number ≤ length l.entries;
 }
 

@@ -24,13 +24,15 @@ loop-entry-preserved-after-number-counter c =
       told =
           elim c.if-number-counter.branch [
             | then-number-counter+in_ok-add w ↦
-                told_before (drop c.args.before (inputs front k)) [] (drop c.args.before (inputs (front ++ x ∷ []) k)) (map input_of c.loop-entry.told.items) (map input_of c.if-number-counter.told.items) (number, t)
+                told_before (drop c.args.before (inputs front k)) [] (drop c.args.before (inputs (front ++ x ∷ []) k)) (map input_of c.loop-entry.told.items)
+                (map input_of c.if-number-counter.told.items) (number, t)
                 (begun_behind front x t k c.args.before number one is w.if-number-counter.true low)
                 (ap (λ v. map input_of v.items) w.told-is ∙ w.in_ok-add.ensures)
                 ∙ so_far
             | else-number-counter w ↦
                 ap (λ v. drop c.args.before (inputs front k) ++ reverse (map input_of v.items)) w.told-is
-                ∙ ap (λ is. drop c.args.before is ++ reverse (map input_of c.loop-entry.told.items)) (sym (waiting_behind front x t k one (omega (arith, w.if-number-counter.false))))
+                ∙ ap (λ is. drop c.args.before is ++ reverse (map input_of c.loop-entry.told.items))
+                (sym (waiting_behind front x t k one (omega (arith, w.if-number-counter.false))))
                 ∙ so_far
           ];
     }

@@ -9,7 +9,8 @@ abbrev pub invariant-loop-entry : goal.invariant-loop-entry
 invariant-loop-entry l = record {
   number : l.number ≡ counted_in (map entry_of l.rest);
   within : l.before ≤ l.number;
-  told : drop l.before (inputs (map entry_of l.rest) l.counter) ++ reverse (map input_of l.told.items) ≡ drop l.before (inputs (map entry_of l.entries) l.counter);
+  told : drop l.before (inputs (map entry_of l.rest) l.counter) ++ reverse (map input_of l.told.items) ≡ drop l.before
+      (inputs (map entry_of l.entries) l.counter);
 }
 
 abbrev pub decreases-loop-entry : goal.decreases-loop-entry

@@ -7,4 +7,5 @@ returns-in-Some-clause-ended c =
     ended_iff c.args.minutes.now d.number c.in-Some.entry.now d.outcome d.count d.node _ c.requires.ends c.in-Some.ensures.some c.is_end.ensures
 
 pub returns-in-None-clause-ended : goal.returns-in-None-clause-ended
-returns-in-None-clause-ended c = let d = c.args.done.now in ended_none c.args.minutes.now d.number d.outcome d.count d.node c.requires.ends c.in-None.ensures.none
+returns-in-None-clause-ended c = let d = c.args.done.now in
+    ended_none c.args.minutes.now d.number d.outcome d.count d.node c.requires.ends c.in-None.ensures.none

@@ -16,7 +16,8 @@ loop-done-preserved c =
     let P : Done → Type 0 = HasEnd (map entry_of c.args.minutes.now) in
     record {
       mark = c.finds_end.ensures.mark;
-      ended = All-more P c.args.dones.now c.loop-done.done-index c.done-item.result c.loop-done-test.true c.loop-done.invariant.ended (subst P c.done-item.is (c.finds_end.ensures.ended.0 c.if-not-finds_end.false));
+      ended = All-more P c.args.dones.now c.loop-done.done-index c.done-item.result c.loop-done-test.true c.loop-done.invariant.ended
+          (subst P c.done-item.is (c.finds_end.ensures.ended.0 c.if-not-finds_end.false));
     }
 
 pub returns-clause-none : goal.returns-clause-none

@@ -14,4 +14,5 @@ returns-clause-some c =
 pub returns-clause-none : goal.returns-clause-none
 returns-clause-none c =
     if_none c.unknown_done.result c.unknown_done.ensures.none
-    (λ h. All-permutation (HasEnd (map entry_of c.args.minutes.now)) c.sort_unstable_by_key.new.self c.args.dones.now (IsPermutation-sym _ _ c.sort_unstable_by_key.ensures.permutation) h)
+    (λ h. All-permutation (HasEnd (map entry_of c.args.minutes.now)) c.sort_unstable_by_key.new.self c.args.dones.now
+    (IsPermutation-sym _ _ c.sort_unstable_by_key.ensures.permutation) h)

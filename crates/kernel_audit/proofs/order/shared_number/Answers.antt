@@ -6,7 +6,8 @@ use Rattle.kernel_audit.proofs.order.shared_number.Goals as goal
 pub returns-then-tickets-i-clause-some : goal.returns-then-tickets-i-clause-some
 returns-then-tickets-i-clause-some c =
     let low = c.loop-i.auto.i in
-    shared_at c.args.tickets.now (c.loop-i.i - 1) c.loop-i.i c.index-tickets-i.result c.index-tickets-i-in-loop-i.result c.index-tickets-i-then-tickets-i.result (omega arith)
+    shared_at c.args.tickets.now (c.loop-i.i - 1) c.loop-i.i c.index-tickets-i.result c.index-tickets-i-in-loop-i.result c.index-tickets-i-then-tickets-i.result
+    (omega arith)
     c.loop-i-test.true c.if-tickets-i.true
 
 pub returns-clause-none : goal.returns-clause-none

@@ -13,7 +13,8 @@ loop-index-preserved c =
     let more = part_more c.log.inside.ring.items start c.loop-index.index c.in-Some.broadcast.now c.loop-index.auto.index (sym c.in-Some.ensures) in
     let old = c.loop-index.invariant.got ∙ ap (λ l. take (c.loop-index.index - start) (drop start l)) (sym same) in
     record {
-      got = c.push_reserved.ensures.items ∙ (λ i. old i ++ (c.in_ok-clone.ensures.cases i) ∷ []) ∙ sym more ∙ ap (λ l. take (c.loop-index.index + 1 - start) (drop start l)) same;
+      got = c.push_reserved.ensures.items ∙ (λ i. old i ++ (c.in_ok-clone.ensures.cases i) ∷ []) ∙ sym more
+          ∙ ap (λ l. take (c.loop-index.index + 1 - start) (drop start l)) same;
       room = omega (arith, c.push_reserved.ensures.capacity, c.loop-index.invariant.room);
     }
 

@@ -16,7 +16,10 @@ pub invariant_of-message : goal.invariant_of-message
 invariant_of-message c =
     let frames = c.args.frames.items in
     record {
-      spells = (bodies_of frames, spells_all c.in-Ok.octets.items frames c.deref.result.now c.deref.ensures.value c.in-Ok.ensures.octets c.in-Ok.ensures.within);
+      spells = (
+        bodies_of frames,
+        spells_all c.in-Ok.octets.items frames c.deref.result.now c.deref.ensures.value c.in-Ok.ensures.octets c.in-Ok.ensures.within,
+      );
       first = c.topic_out-topic.ensures;
     }
 

@@ -19,6 +19,7 @@ loop-left-preserved c =
       ap in_a_row c.in_ok-push.ensures.items
           ∙ pushed c.loop-left.all.items _
           ∙ ap (λ l. l ++ plain_procedure (procedure_view y) ∷ []) c.loop-left.invariant.1
-          ∙ append_assoc (in_a_row c.args.all.now.items) (define (map plain_procedure (procedures_view (drop c.loop-left.left ys))) []) (plain_procedure (procedure_view y) ∷ [])
+          ∙ append_assoc (in_a_row c.args.all.now.items) (define (map plain_procedure (procedures_view (drop c.loop-left.left ys))) [])
+          (plain_procedure (procedure_view y) ∷ [])
           ∙ ap (λ l. in_a_row c.args.all.now.items ++ l) (sym more),
     )

@@ -7,7 +7,8 @@ use Rattle.kernel_history.proofs.defined.add_newest_first.Given as goal
 
 abbrev pub invariant-loop-left : goal.invariant-loop-left
 invariant-loop-left l =
-    (l.left ≤ length l.fn.procedures) × (in_a_row l.all.items ≡ in_a_row l.fn.all.items ++ define (map plain_procedure (procedures_view (drop l.left l.fn.procedures))) [])
+    (l.left ≤ length l.fn.procedures) ×
+    (in_a_row l.all.items ≡ in_a_row l.fn.all.items ++ define (map plain_procedure (procedures_view (drop l.left l.fn.procedures))) [])
 
 abbrev pub decreases-loop-left : goal.decreases-loop-left
 decreases-loop-left l = l.left

@@ -15,7 +15,8 @@ loop-at-init c =
     let own = map plain_procedure (procedures_view c.args.own.now) in
     let none : c.new-all.result.items ≡ [] = search rules in (
       position_known c.args.tree.now c.requires,
-      ap (λ l. l ++ (here (past_of c.args.tree.now)).procedures) (c.in_ok-add_newest_first.ensures ∙ ap (λ l. in_a_row l ++ define own []) none) ∙ sym (over own (here (past_of c.args.tree.now)).procedures),
+      ap (λ l. l ++ (here (past_of c.args.tree.now)).procedures) (c.in_ok-add_newest_first.ensures ∙ ap (λ l. in_a_row l ++ define own []) none)
+          ∙ sym (over own (here (past_of c.args.tree.now)).procedures),
     )
 
 pub loop-at-preserved : goal.loop-at-preserved

@@ -21,6 +21,8 @@ content-requires-clause-known c =
 pub returns-in-Down : goal.returns-in-Down
 returns-in-Down c =
     let way = sym c.way.ensures ∙ c.in-Down.is in
-    let at = cell_of_down c.args.tree.now c.args.work.now c.in-Move.travel c.content.result.now c.below.result c.requires.legal c.requires.possible c.in-Move.is way c.below.ensures c.content.ensures in
-    ap (λ (ps : List Proc). define ps (here (past_of c.args.tree.now)).procedures) (c.procedures-in-Down.ensures ∙ ap (λ (d : Cell). d.procedures) (cell_there c.args.tree.now _ c.content.result.now at))
+    let at = cell_of_down c.args.tree.now c.args.work.now c.in-Move.travel c.content.result.now c.below.result c.requires.legal c.requires.possible c.in-Move.is
+    way c.below.ensures c.content.ensures in
+    ap (λ (ps : List Proc). define ps (here (past_of c.args.tree.now)).procedures)
+    (c.procedures-in-Down.ensures ∙ ap (λ (d : Cell). d.procedures) (cell_there c.args.tree.now _ c.content.result.now at))
     ∙ sym (started_down (past_of c.args.tree.now) (work_of c.args.work.now) c.in-Move.travel (ap work_of c.in-Move.is) way)

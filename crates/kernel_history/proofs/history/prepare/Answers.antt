@@ -21,12 +21,14 @@ same_world s t ps qs store procedures = ap (λ (s : Store). world s ps) store �
 -- a text is loaded over the world of the position
 pub returns-clause-accepts : goal.returns-clause-accepts
 returns-clause-accepts g c =
-    let same : world_of (in_a_row c.deref.result.now) c.args.runner.now ≡ here (past_of c.args.tree.now) = same_world _ _ _ _ c.requires.is.1.0.store (ap in_a_row c.deref.ensures.value ∙ c.in-Ok.ensures) in
+    let same : world_of (in_a_row c.deref.result.now) c.args.runner.now ≡ here (past_of c.args.tree.now) =
+    same_world _ _ _ _ c.requires.is.1.0.store (ap in_a_row c.deref.ensures.value ∙ c.in-Ok.ensures) in
     subst (λ (w : World). IfOk c.load.result (λ program. Accepts w c.args.text.now (cell_of_program program))) same c.load.ensures.accepts
 
 pub returns-clause-refuses : goal.returns-clause-refuses
 returns-clause-refuses g c =
-    let same : world_of (in_a_row c.deref.result.now) c.args.runner.now ≡ here (past_of c.args.tree.now) = same_world _ _ _ _ c.requires.is.1.0.store (ap in_a_row c.deref.ensures.value ∙ c.in-Ok.ensures) in
+    let same : world_of (in_a_row c.deref.result.now) c.args.runner.now ≡ here (past_of c.args.tree.now) =
+    same_world _ _ _ _ c.requires.is.1.0.store (ap in_a_row c.deref.ensures.value ∙ c.in-Ok.ensures) in
     subst (λ (w : World). IfErr c.load.result (Refuses w c.args.text.now)) same c.load.ensures.refuses
 
 -- the runner shows the world of the position
@@ -34,5 +36,6 @@ pub returns-clause-ready : goal.returns-clause-ready
 returns-clause-ready g c =
     if_ok_map c.load.result
     (λ program ready.
-    subst (λ (s : Store). IsReady c.load.new.runner.store.names c.load.new.runner.entries (names_in (declare (declarations_of program) s)) c.load.new.runner.procedures program) c.requires.is.1.0.store ready)
+    subst (λ (s : Store). IsReady c.load.new.runner.store.names c.load.new.runner.entries (names_in (declare (declarations_of program) s))
+    c.load.new.runner.procedures program) c.requires.is.1.0.store ready)
     c.load.ensures.ready

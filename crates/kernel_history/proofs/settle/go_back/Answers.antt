@@ -14,15 +14,21 @@ use Rattle.kernel_history.proofs.Standing.{stands_with, inside_with, kept_at, ke
 use Rattle.kernel_history.proofs.settle.go_back.Goals as goal
 
 pub back-requires : goal.back-requires
-back-requires g c = inside_with c.args.tree.now c.args.entered.now.work c.args.entered.now.count (GoesBack c.args.why) c.args.runner.now c.program_of.result.now c.requires c.program_of.ensures
+back-requires g c =
+    inside_with c.args.tree.now c.args.entered.now.work c.args.entered.now.count (GoesBack c.args.why) c.args.runner.now c.program_of.result.now c.requires
+    c.program_of.ensures
 
 pub settle_back-requires-clause-kept : goal.settle_back-requires-clause-kept
 settle_back-requires-clause-kept g c =
     let e : c.args.entered.now.count - c.args.m ≡ 0 = sym c.saturating_sub-left.ensures ∙ c.if-left-eq0.true in
-    let stands = c.back.ensures.goes _ (stands_with c.args.tree.now c.args.entered.now.work c.args.entered.now.count true c.args.runner.now c.program_of.result.now c.program_of.ensures c.requires.stands) in (
+    let stands = c.back.ensures.goes
+    _ (stands_with c.args.tree.now c.args.entered.now.work c.args.entered.now.count true c.args.runner.now c.program_of.result.now c.program_of.ensures
+    c.requires.stands) in (
       c.args.why,
       subst (λ (n : ℕ). Kept c.args.tree.now c.back.new.self (Inside (record { work = c.args.entered.now.work; count = n; heading = GoesBack c.args.why }))) e
-          (kept_at c.args.tree.now c.args.entered.now.work c.args.entered.now.count (c.args.entered.now.count - c.args.m) (GoesBack c.args.why) (GoesBack c.args.why) c.args.runner.now c.back.new.self c.program_of.result.now c.requires (same_more c.args.runner.now.store.names c.back.new.self.store.names c.back.ensures.names) c.back.ensures.entries
+          (kept_at c.args.tree.now c.args.entered.now.work c.args.entered.now.count (c.args.entered.now.count - c.args.m) (GoesBack c.args.why)
+          (GoesBack c.args.why) c.args.runner.now c.back.new.self c.program_of.result.now c.requires
+          (same_more c.args.runner.now.store.names c.back.new.self.store.names c.back.ensures.names) c.back.ensures.entries
           (ap (λ (t : Procedures). kept_in t) c.back.ensures.procedures) c.program_of.ensures stands),
     )
 
@@ -37,7 +43,9 @@ settle_back-requires-clause-whole g c =
     (subst (λ (n : ℕ). Stands c.back.new.self p (place_in tree work p n) true) e stands)
 
 pub returns-then-left-eq0-clause-kept : goal.returns-then-left-eq0-clause-kept
-returns-then-left-eq0-clause-kept g c = kept_idle c.args.tree.now _ c.args.runner.now c.settle_back.new.runner c.requires c.settle_back.ensures.ready c.settle_back.ensures.no_other c.settle_back.ensures.is.1 c.settle_back.ensures.is.0
+returns-then-left-eq0-clause-kept g c =
+    kept_idle c.args.tree.now _ c.args.runner.now c.settle_back.new.runner c.requires c.settle_back.ensures.ready c.settle_back.ensures.no_other
+    c.settle_back.ensures.is.1 c.settle_back.ensures.is.0
 
 pub returns-else-left-eq0-clause-kept : goal.returns-else-left-eq0-clause-kept
 returns-else-left-eq0-clause-kept g c =
@@ -45,16 +53,22 @@ returns-else-left-eq0-clause-kept g c =
     let tree = c.args.tree.now in
     let p = c.program_of.result.now in
     let stands = c.back.ensures.goes _ (stands_with tree work c.args.entered.now.count true c.args.runner.now p c.program_of.ensures c.requires.stands) in
-    kept_at tree work c.args.entered.now.count c.saturating_sub-left.result (GoesBack c.args.why) (GoesBack c.args.why) c.args.runner.now c.back.new.self p c.requires (same_more c.args.runner.now.store.names c.back.new.self.store.names c.back.ensures.names) c.back.ensures.entries
+    kept_at tree work c.args.entered.now.count c.saturating_sub-left.result (GoesBack c.args.why) (GoesBack c.args.why)
+    c.args.runner.now c.back.new.self p c.requires (same_more c.args.runner.now.store.names c.back.new.self.store.names c.back.ensures.names)
+    c.back.ensures.entries
     (ap (λ (t : Procedures). kept_in t) c.back.ensures.procedures) c.program_of.ensures
     (subst (λ (n : ℕ). Stands c.back.new.self p (place_in tree work p n) true) (sym c.saturating_sub-left.ensures) stands)
 
 pub returns-then-left-eq0-clause-written : goal.returns-then-left-eq0-clause-written
 returns-then-left-eq0-clause-written g c =
-    let counted = (stands_with c.args.tree.now c.args.entered.now.work c.args.entered.now.count true c.args.runner.now c.program_of.result.now c.program_of.ensures c.requires.stands).counted in
+    let counted =
+    (stands_with c.args.tree.now c.args.entered.now.work c.args.entered.now.count true c.args.runner.now c.program_of.result.now c.program_of.ensures
+    c.requires.stands).counted in
     subst (λ (n : ℕ). IsWritten (steps_back n c.args.m) c.args.writes.now c.back.new.writes) counted c.back.ensures.written
 
 pub returns-else-left-eq0-clause-written : goal.returns-else-left-eq0-clause-written
 returns-else-left-eq0-clause-written g c =
-    let counted = (stands_with c.args.tree.now c.args.entered.now.work c.args.entered.now.count true c.args.runner.now c.program_of.result.now c.program_of.ensures c.requires.stands).counted in
+    let counted =
+    (stands_with c.args.tree.now c.args.entered.now.work c.args.entered.now.count true c.args.runner.now c.program_of.result.now c.program_of.ensures
+    c.requires.stands).counted in
     subst (λ (n : ℕ). IsWritten (steps_back n c.args.m) c.args.writes.now c.back.new.writes) counted c.back.ensures.written

@@ -6,12 +6,14 @@ use Rattle.kernel_history.proofs.settle.program_of.Goals as goal
 pub returns-in-Up : goal.returns-in-Up
 returns-in-Up c =
     program_up c.args.tree.now c.args.work.now c.in-Move.travel c.content.result.now c.in-Move.is (sym c.way.ensures ∙ c.in-Up.is)
-    (cell_of_up c.args.tree.now c.args.work.now c.in-Move.travel c.content.result.now c.requires.legal c.requires.possible c.in-Move.is (sym c.way.ensures ∙ c.in-Up.is) c.content.ensures)
+    (cell_of_up c.args.tree.now c.args.work.now c.in-Move.travel c.content.result.now c.requires.legal c.requires.possible c.in-Move.is
+    (sym c.way.ensures ∙ c.in-Up.is) c.content.ensures)
 
 pub returns-in-Down : goal.returns-in-Down
 returns-in-Down c =
     program_down c.args.tree.now c.args.work.now c.in-Move.travel c.content-in-Down.result.now c.in-Move.is (sym c.way.ensures ∙ c.in-Down.is)
-    (cell_of_down c.args.tree.now c.args.work.now c.in-Move.travel c.content-in-Down.result.now c.below.result c.requires.legal c.requires.possible c.in-Move.is (sym c.way.ensures ∙ c.in-Down.is) c.below.ensures c.content-in-Down.ensures)
+    (cell_of_down c.args.tree.now c.args.work.now c.in-Move.travel c.content-in-Down.result.now c.below.result c.requires.legal c.requires.possible c.in-Move.is
+    (sym c.way.ensures ∙ c.in-Down.is) c.below.ensures c.content-in-Down.ensures)
 
 pub content-requires-in-Down-clause-below_root : goal.content-requires-in-Down-clause-below_root
 content-requires-in-Down-clause-below_root c =

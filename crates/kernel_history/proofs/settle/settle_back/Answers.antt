@@ -3,7 +3,8 @@ use Rattle.kernel_history.specs.Fields.{past_of, work_of}
 use Rattle.kernel_history.specs.Bodies.{bodies_at}
 use Rattle.kernel_history.specs.Standing.{shown_here}
 use Rattle.kernel_runner.proofs.Growing.{no_more, same_more}
-use Rattle.kernel_history.proofs.Standing.{work_possible, below_there, cell_of_down, can_leave_cell, can_leave_down, shows_up, below_posted, nodes_forgotten, no_other_forgotten, no_other_back, nodes_ready, shows_forgotten}
+use Rattle.kernel_history.proofs.Standing.{work_possible, below_there, cell_of_down, can_leave_cell, can_leave_down, shows_up, below_posted, nodes_forgotten}
+use Rattle.kernel_history.proofs.Standing.{no_other_forgotten, no_other_back, nodes_ready, shows_forgotten}
 use Rattle.kernel_history.proofs.settle.settle_back.Goals as goal
 
 pub leave-requires : goal.leave-requires
@@ -17,25 +18,33 @@ returns-in-Cell-clause-is g c =
     let tree = c.args.tree.now in
     let can = can_leave_cell tree c.args.runner.now c.args.work.now k.0 k.1 c.in-Cell.program c.in-Cell.is c.requires.whole in
     let left = c.leave.ensures.leaves (shown_here tree) can in
-    let low = below_posted tree c.args.runner.now c.args.work.now k.0 k.1 c.in-Cell.program c.in-Cell.is in
-    (shows_forgotten c.leave.new.self _ c.in-Cell.program.first (shown_here tree) refl refl left.0 low c.forget.ensures.kept (c.forget.ensures.defined (bodies_at tree tree.position) left.0.defined.defined low), left.1)
+    let low = below_posted tree c.args.runner.now c.args.work.now k.0 k.1 c.in-Cell.program c.in-Cell.is in (
+      shows_forgotten c.leave.new.self _ c.in-Cell.program.first (shown_here tree) refl refl left.0 low c.forget.ensures.kept
+          (c.forget.ensures.defined (bodies_at tree tree.position) left.0.defined.defined low),
+      left.1,
+    )
 
 pub returns-in-Cell-clause-ready : goal.returns-in-Cell-clause-ready
 returns-in-Cell-clause-ready g c =
     let k = c.requires.kept in
-    nodes_forgotten c.args.tree.now c.args.runner.now c.args.work.now k.0 k.1 c.leave.new.self (record { store = c.leave.new.self.store; cursor = c.leave.new.self.cursor; procedures = c.forget.new.self; entries = c.leave.new.self.entries }) c.in-Cell.program c.in-Cell.is refl refl c.forget.ensures.kept
-    (nodes_ready c.args.tree.now c.args.runner.now c.leave.new.self c.leave.ensures.names (same_more c.args.runner.now.entries c.leave.new.self.entries c.leave.ensures.entries) c.leave.ensures.kept k.1.ready)
+    nodes_forgotten c.args.tree.now c.args.runner.now c.args.work.now k.0 k.1 c.leave.new.self
+    (record { store = c.leave.new.self.store; cursor = c.leave.new.self.cursor; procedures = c.forget.new.self; entries = c.leave.new.self.entries })
+    c.in-Cell.program c.in-Cell.is refl refl c.forget.ensures.kept
+    (nodes_ready c.args.tree.now c.args.runner.now c.leave.new.self c.leave.ensures.names
+    (same_more c.args.runner.now.entries c.leave.new.self.entries c.leave.ensures.entries) c.leave.ensures.kept k.1.ready)
 
 -- the bodies of the posted cell are dropped
 pub returns-in-Cell-clause-no_other : goal.returns-in-Cell-clause-no_other
 returns-in-Cell-clause-no_other g c =
     let k = c.requires.kept in
-    no_other_forgotten c.args.tree.now c.args.runner.now c.args.work.now k.0 k.1 c.leave.new.self.procedures c.forget.new.self c.in-Cell.program c.in-Cell.is c.leave.ensures.kept c.forget.ensures.kept
+    no_other_forgotten c.args.tree.now c.args.runner.now c.args.work.now k.0 k.1 c.leave.new.self.procedures c.forget.new.self c.in-Cell.program c.in-Cell.is
+    c.leave.ensures.kept c.forget.ensures.kept
 
 pub returns-in-Down-clause-no_other : goal.returns-in-Down-clause-no_other
 returns-in-Down-clause-no_other g c =
     let k = c.requires.kept in
-    no_other_back c.args.tree.now c.args.runner.now c.args.work.now k.0 k.1 c.in-Move.travel c.leave-in-Down.new.self.procedures c.in-Move.is c.leave-in-Down.ensures.kept
+    no_other_back c.args.tree.now c.args.runner.now c.args.work.now k.0 k.1 c.in-Move.travel c.leave-in-Down.new.self.procedures c.in-Move.is
+    c.leave-in-Down.ensures.kept
 
 pub returns-in-Up-clause-no_other : goal.returns-in-Up-clause-no_other
 returns-in-Up-clause-no_other g c =
@@ -46,18 +55,25 @@ pub leave-requires-in-Down : goal.leave-requires-in-Down
 leave-requires-in-Down g c =
     let k = c.requires.kept in
     let way = sym c.way.ensures ∙ c.in-Down.is in
-    let at = cell_of_down c.args.tree.now c.args.work.now c.in-Move.travel c.content.result.now c.below.result k.1.legal k.1.possible c.in-Move.is way c.below.ensures c.content.ensures in
-    (shown_here c.args.tree.now, can_leave_down c.args.tree.now c.args.runner.now c.args.work.now k.0 k.1 c.in-Move.travel c.content.result.now c.in-Move.is way at c.requires.whole)
+    let at = cell_of_down c.args.tree.now c.args.work.now c.in-Move.travel c.content.result.now c.below.result k.1.legal k.1.possible c.in-Move.is way
+    c.below.ensures c.content.ensures in (
+      shown_here c.args.tree.now,
+      can_leave_down c.args.tree.now c.args.runner.now c.args.work.now k.0 k.1 c.in-Move.travel c.content.result.now c.in-Move.is way
+          at c.requires.whole,
+    )
 
 pub returns-in-Down-clause-is : goal.returns-in-Down-clause-is
 returns-in-Down-clause-is g c =
     let k = c.requires.kept in
     let way = sym c.way.ensures ∙ c.in-Down.is in
-    let at = cell_of_down c.args.tree.now c.args.work.now c.in-Move.travel c.content.result.now c.below.result k.1.legal k.1.possible c.in-Move.is way c.below.ensures c.content.ensures in
-    c.leave-in-Down.ensures.leaves _ (can_leave_down c.args.tree.now c.args.runner.now c.args.work.now k.0 k.1 c.in-Move.travel c.content.result.now c.in-Move.is way at c.requires.whole)
+    let at = cell_of_down c.args.tree.now c.args.work.now c.in-Move.travel c.content.result.now c.below.result k.1.legal k.1.possible c.in-Move.is way
+    c.below.ensures c.content.ensures in
+    c.leave-in-Down.ensures.leaves
+    _ (can_leave_down c.args.tree.now c.args.runner.now c.args.work.now k.0 k.1 c.in-Move.travel c.content.result.now c.in-Move.is way at c.requires.whole)
 
 pub returns-in-Down-clause-ready : goal.returns-in-Down-clause-ready
-returns-in-Down-clause-ready g c = nodes_ready c.args.tree.now c.args.runner.now c.leave-in-Down.new.self c.leave-in-Down.ensures.names (same_more c.args.runner.now.entries c.leave-in-Down.new.self.entries c.leave-in-Down.ensures.entries) c.leave-in-Down.ensures.kept c.requires.kept.1.ready
+returns-in-Down-clause-ready g c = nodes_ready c.args.tree.now c.args.runner.now c.leave-in-Down.new.self c.leave-in-Down.ensures.names
+    (same_more c.args.runner.now.entries c.leave-in-Down.new.self.entries c.leave-in-Down.ensures.entries) c.leave-in-Down.ensures.kept c.requires.kept.1.ready
 
 pub returns-in-Up-clause-is : goal.returns-in-Up-clause-is
 returns-in-Up-clause-is g c =

@@ -25,13 +25,20 @@ set_favourite-requires g c =
 
 pub returns-clause-step : goal.returns-clause-step
 returns-clause-step g c =
-    settled_down c.args.tree.now (there g c) c.below-child.result c.args.travel c.args.n (world_of (start_of (code_of (past_of c.args.tree.now) (state.Move c.args.travel)) (here (past_of c.args.tree.now))).procedures c.args.runner.now) c.arrive.result.1 _ c.requires.way c.below-child.ensures
+    settled_down c.args.tree.now (there g c) c.below-child.result c.args.travel c.args.n
+    (world_of (start_of (code_of (past_of c.args.tree.now) (state.Move c.args.travel)) (here (past_of c.args.tree.now))).procedures c.args.runner.now)
+    c.arrive.result.1 _ c.requires.way c.below-child.ensures
     (ap (λ (t : cells.Tree EndedCell). t.nodes) c.set_favourite.ensures) (ap (λ (t : cells.Tree EndedCell). t.favourites) c.set_favourite.ensures) refl
-    (subst (λ (t : Travel). Arrives (cells_left t) (past_of (there g c)) t c.arrive.result.1 (state_of (there g c) c.arrive.result.0)) c.stepped.ensures (c.arrive.ensures _))
+    (subst (λ (t : Travel). Arrives (cells_left t) (past_of (there g c)) t c.arrive.result.1 (state_of (there g c) c.arrive.result.0)) c.stepped.ensures
+    (c.arrive.ensures _))
 
 pub returns-clause-kept : goal.returns-clause-kept
 returns-clause-kept g c =
-    kept_down c.args.tree.now (there g c) c.below-child.result c.args.travel c.args.runner.now c.arrive.result.1 c.arrive.result.0 c.requires.way c.requires.come.kept.legal c.requires.come.kept.possible c.requires.come.kept.counted c.requires.come.kept.path c.requires.come.kept.ready c.requires.come.kept.order c.requires.come.kept.no_other c.requires.come.whole
-    c.below-child.ensures (ap (λ (t : cells.Tree EndedCell). t.nodes) c.set_favourite.ensures) (ap (λ (t : cells.Tree EndedCell). t.favourites) c.set_favourite.ensures) refl (ap (λ (t : cells.Tree EndedCell). t.way) c.set_favourite.ensures)
+    kept_down c.args.tree.now (there g c) c.below-child.result c.args.travel c.args.runner.now c.arrive.result.1 c.arrive.result.0 c.requires.way
+    c.requires.come.kept.legal c.requires.come.kept.possible c.requires.come.kept.counted c.requires.come.kept.path c.requires.come.kept.ready
+    c.requires.come.kept.order c.requires.come.kept.no_other c.requires.come.whole
+    c.below-child.ensures (ap (λ (t : cells.Tree EndedCell). t.nodes) c.set_favourite.ensures)
+    (ap (λ (t : cells.Tree EndedCell). t.favourites) c.set_favourite.ensures) refl (ap (λ (t : cells.Tree EndedCell). t.way) c.set_favourite.ensures)
     (shows_down c.args.tree.now c.args.runner.now c.args.travel c.args.n c.requires.come.kept c.requires.way c.requires.come.ended)
-    (subst (λ (t : Travel). Arrives (cells_left t) (past_of (there g c)) t c.arrive.result.1 (state_of (there g c) c.arrive.result.0)) c.stepped.ensures (c.arrive.ensures _))
+    (subst (λ (t : Travel). Arrives (cells_left t) (past_of (there g c)) t c.arrive.result.1 (state_of (there g c) c.arrive.result.0)) c.stepped.ensures
+    (c.arrive.ensures _))

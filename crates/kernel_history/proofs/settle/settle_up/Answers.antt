@@ -21,8 +21,11 @@ leave-requires g c =
     let some = (up_possible (past_of tree) c.args.travel c.requires.way k.possible).0 in
     let at : IsCellAt tree tree.position c.content.result.now = (some, c.content.ensures) in
     let w : World = world_of (start_of (code_of (past_of tree) (state.Move c.args.travel)) (here (past_of tree))).procedures c.args.runner.now in
-    let names = up_names tree c.args.travel c.args.n w c.content.result.now c.requires.way k.legal k.possible c.requires.come.ended at in
-    (_, can_leave_up tree c.args.runner.now c.content.result.now c.args.n at k.legal c.args.travel false c.requires.way k.stands c.requires.come.whole k.ready names)
+    let names = up_names tree c.args.travel c.args.n w c.content.result.now c.requires.way k.legal k.possible c.requires.come.ended at in (
+      _,
+      can_leave_up tree c.args.runner.now c.content.result.now c.args.n at k.legal c.args.travel false c.requires.way k.stands c.requires.come.whole k.ready
+          names,
+    )
 
 pub returns-clause-step : goal.returns-clause-step
 returns-clause-step g c =
@@ -30,7 +33,8 @@ returns-clause-step g c =
     let w : World = world_of (start_of (code_of (past_of tree) (state.Move c.args.travel)) (here (past_of tree))).procedures c.args.runner.now in
     settled_up tree c.parent-tree.result c.args.travel c.args.n w c.arrive.result.1 _ c.requires.way
     (c.parent-tree.ensures.parent ∙ sym (parent_there tree tree.position))
-    (subst (λ (t : Travel). Arrives (cells t) (past_of (record tree { position = c.parent-tree.result })) t c.arrive.result.1 (state_of (record tree { position = c.parent-tree.result }) c.arrive.result.0)) c.stepped.ensures (c.arrive.ensures _))
+    (subst (λ (t : Travel). Arrives (cells t) (past_of (record tree { position = c.parent-tree.result })) t c.arrive.result.1
+    (state_of (record tree { position = c.parent-tree.result }) c.arrive.result.0)) c.stepped.ensures (c.arrive.ensures _))
 
 pub returns-clause-kept : goal.returns-clause-kept
 returns-clause-kept g c =
@@ -40,8 +44,12 @@ returns-clause-kept g c =
     let at : IsCellAt tree tree.position c.content.result.now = (some, c.content.ensures) in
     let w : World = world_of (start_of (code_of (past_of tree) (state.Move c.args.travel)) (here (past_of tree))).procedures c.args.runner.now in
     let names = up_names tree c.args.travel c.args.n w c.content.result.now c.requires.way k.legal k.possible c.requires.come.ended at in
-    let can = can_leave_up tree c.args.runner.now c.content.result.now c.args.n at k.legal c.args.travel false c.requires.way k.stands c.requires.come.whole k.ready names in
+    let can = can_leave_up tree c.args.runner.now c.content.result.now c.args.n at k.legal c.args.travel false c.requires.way k.stands c.requires.come.whole
+    k.ready names in
     kept_up tree c.parent-tree.result c.args.travel c.leave.new.self c.arrive.result.1 c.arrive.result.0 c.requires.way k.legal k.possible k.counted k.path
-    (nodes_ready tree c.args.runner.now c.leave.new.self c.leave.ensures.names (same_more c.args.runner.now.entries c.leave.new.self.entries c.leave.ensures.entries) c.leave.ensures.kept k.ready) k.order (no_other_same tree c.args.runner.now.procedures c.leave.new.self.procedures c.leave.ensures.kept k.no_other) (c.leave.ensures.leaves _ can).1
+    (nodes_ready tree c.args.runner.now c.leave.new.self c.leave.ensures.names
+    (same_more c.args.runner.now.entries c.leave.new.self.entries c.leave.ensures.entries) c.leave.ensures.kept k.ready) k.order
+    (no_other_same tree c.args.runner.now.procedures c.leave.new.self.procedures c.leave.ensures.kept k.no_other) (c.leave.ensures.leaves _ can).1
     (c.parent-tree.ensures.parent ∙ sym (parent_there tree tree.position)) (c.leave.ensures.leaves _ can).0
-    (subst (λ (t : Travel). Arrives (cells t) (past_of (record tree { position = c.parent-tree.result })) t c.arrive.result.1 (state_of (record tree { position = c.parent-tree.result }) c.arrive.result.0)) c.stepped.ensures (c.arrive.ensures _))
+    (subst (λ (t : Travel). Arrives (cells t) (past_of (record tree { position = c.parent-tree.result })) t c.arrive.result.1
+    (state_of (record tree { position = c.parent-tree.result }) c.arrive.result.0)) c.stepped.ensures (c.arrive.ensures _))

@@ -6,9 +6,11 @@ use Rattle.kernel_iopub.proofs.half.go_on.Goals as goal
 
 pub returns-in-Ok-clause-ok : goal.returns-in-Ok-clause-ok
 returns-in-Ok-clause-ok g c taken first so_far =
-    sent_on taken c.args.share.now.amount c.write_from.new.share.amount first (g.W.Write.contents c.args.writer.now) (g.W.Write.contents c.write_from.new.writer)
+    sent_on taken c.args.share.now.amount c.write_from.new.share.amount first (g.W.Write.contents c.args.writer.now)
+    (g.W.Write.contents c.write_from.new.writer)
     c.in-Some.place c.in-Ok.next
-    (subst (λ (at : Option Place). AreSentTo taken first (g.W.Write.contents c.args.writer.now) at c.args.share.now.amount) c.in-Some.is so_far) c.in-Ok.ensures.ok
+    (subst (λ (at : Option Place). AreSentTo taken first (g.W.Write.contents c.args.writer.now) at c.args.share.now.amount) c.in-Some.is so_far)
+    c.in-Ok.ensures.ok
 
 pub returns-in-Err-clause-err : goal.returns-in-Err-clause-err
 returns-in-Err-clause-err g c taken first so_far =

@@ -3,7 +3,8 @@ use Rattle.kernel_iopub.proofs.half.send_next.Goals as goal
 
 pub returns-in-Err-clause-err : goal.returns-in-Err-clause-err
 returns-in-Err-clause-err g c =
-    next_unbegun c.args.share.now.amount (g.W.Write.contents c.args.writer.now) (g.W.Write.contents c.answer.new.writer) c.args.broadcast.now c.in-Err.ensures.err
+    next_unbegun c.args.share.now.amount (g.W.Write.contents c.args.writer.now) (g.W.Write.contents c.answer.new.writer)
+    c.args.broadcast.now c.in-Err.ensures.err
 
 pub returns-in-Ok-send_broadcast-clause-ok : goal.returns-in-Ok-send_broadcast-clause-ok
 returns-in-Ok-send_broadcast-clause-ok g c =

@@ -10,7 +10,8 @@ use Rattle.kernel_iopub.proofs.subscriber.feed.Goals as goal
 -- what it was fed goes on
 pub returns-in-Err-Wire-Memory-clause-fed : goal.returns-in-Err-Wire-Memory-clause-fed
 returns-in-Err-Wire-Memory-clause-fed c =
-    still_fed c.args.peer.now c.feed.new.self c.args.piece.now c.in-Err-Wire-Memory.field-0 c.in-Err-Wire-Memory.ensures.fault c.in-Err-Wire-Memory.ensures.memory
+    still_fed c.args.peer.now c.feed.new.self c.args.piece.now c.in-Err-Wire-Memory.field-0 c.in-Err-Wire-Memory.ensures.fault
+    c.in-Err-Wire-Memory.ensures.memory
 
 pub returns-in-Err-clause-fed : goal.returns-in-Err-clause-fed
 returns-in-Err-clause-fed c = still_fed c.args.peer.now c.feed.new.self c.args.piece.now c.in-Err.fault c.in-Err.ensures.fault c.in-Err.ensures.memory
@@ -27,7 +28,8 @@ returns-clause-fed c = fed_on c.args.peer.now c.feed.new.self c.args.piece.now (
 -- a fault of the peer loses no ping that waits
 pub returns-in-Err-clause-still : goal.returns-in-Err-clause-still
 returns-in-Err-clause-still c other taken asked =
-    still_asked c.args.peer.now c.feed.new.self c.args.piece.now taken (bodies_of c.args.pings.now.items) c.in-Err.fault c.in-Err.ensures.fault c.in-Err.ensures.memory
+    still_asked c.args.peer.now c.feed.new.self c.args.piece.now taken (bodies_of c.args.pings.now.items) c.in-Err.fault c.in-Err.ensures.fault
+    c.in-Err.ensures.memory
     asked
 
 pub returns-in-Ok-append-clause-asked : goal.returns-in-Ok-append-clause-asked

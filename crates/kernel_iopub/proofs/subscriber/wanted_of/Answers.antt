@@ -23,14 +23,16 @@ loop-broadcast-preserved c =
           let is_copy : w.in-Ok.copy ≡ b = w.in-Ok.ensures.cases in
           let same : c.if-wants.kept.items ≡ old ++ b ∷ [] = search rules in
           λ fed given st.
-          subst (λ (x : List Frames). AreWanted given x c.if-wants.kept.items) (sym e) (subst (λ (x : List Frames). AreWanted given (take i all ++ b ∷ []) x) (sym same)
+          subst (λ (x : List Frames). AreWanted given x c.if-wants.kept.items) (sym e)
+          (subst (λ (x : List Frames). AreWanted given (take i all ++ b ∷ []) x) (sym same)
           (wanted_more given (take i all) b old (c.loop-broadcast.invariant fed given st)
           (subst (λ (x : List ℕ). IsWanted given x) is_topic ((c.wants.ensures fed given st).0 t))))
       | else-wants w ↦
           let f : c.wants.result ≡ false = w.if-wants.false in
           let same : c.if-wants.kept.items ≡ old = ap (λ v. v.items) w.kept-is in
           λ fed given st.
-          subst (λ (x : List Frames). AreWanted given x c.if-wants.kept.items) (sym e) (subst (λ (x : List Frames). AreWanted given (take i all ++ b ∷ []) x) (sym same)
+          subst (λ (x : List Frames). AreWanted given x c.if-wants.kept.items) (sym e)
+          (subst (λ (x : List Frames). AreWanted given (take i all ++ b ∷ []) x) (sym same)
           (unwanted_more given (take i all) b old (c.loop-broadcast.invariant fed given st)
           (λ v. let t : c.wants.result ≡ true = (c.wants.ensures fed given st).1 (subst (λ (x : List ℕ). IsWanted given x) (sym is_topic) v) in
           let bad : true ≡ false = sym t ∙ f in cc)))

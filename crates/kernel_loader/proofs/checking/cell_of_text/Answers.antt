@@ -30,7 +30,8 @@ returns-in-Ok-check-clause-own c =
 pub returns-in-Err-check-clause-refuses : goal.returns-in-Err-check-clause-refuses
 returns-in-Err-check-clause-refuses c = λ w known.
     subst (λ (r : Refusal). Refuses w c.args.text.now r) (sym c.of_check.ensures)
-    (refuses_check w c.args.text.now c.in-Err-check.fault (cell_view c.in-Ok.cell) (shape_in c.args.env.now.names) (heads_in c.args.env.now.procedures) c.in-Ok.ensures.read known.names known.heads c.in-Err-check.ensures.first)
+    (refuses_check w c.args.text.now c.in-Err-check.fault (cell_view c.in-Ok.cell) (shape_in c.args.env.now.names) (heads_in c.args.env.now.procedures)
+    c.in-Ok.ensures.read known.names known.heads c.in-Err-check.ensures.first)
 
 pub returns-in-Err-clause-refuses : goal.returns-in-Err-clause-refuses
 returns-in-Err-clause-refuses c = λ w known.

@@ -13,9 +13,11 @@ pub returns-clause-ok : goal.returns-clause-ok
 returns-clause-ok c =
     let p = plain_procedure (procedure_view c.args.procedure.now) in
     let es = c.args.entries.now in
-    let body : (xs : List Name) → AreSlots xs → c.in-Ok.flat.width ≤ length xs → IsNumbered xs c.in_ok-body.body.name (procedure_in es p).name × IsBody xs c.in_ok-body.body (procedure_in es p) = λ xs slots w.
+    let body : (xs : List Name) → AreSlots xs → c.in-Ok.flat.width ≤ length xs → IsNumbered xs c.in_ok-body.body.name (procedure_in es p).name ×
+    IsBody xs c.in_ok-body.body (procedure_in es p) = λ xs slots w.
     let numbered = c.in-Ok.ensures.wide xs w in
-    body_of_flat xs c.in-Ok.flat.procedure c.in_ok-body.body (procedure_in es p) (c.in-Ok.ensures.procedure xs slots numbered) numbered (few_slots es p c.requires.formed.few)
+    body_of_flat xs c.in-Ok.flat.procedure c.in_ok-body.body (procedure_in es p) (c.in-Ok.ensures.procedure xs slots numbered) numbered
+    (few_slots es p c.requires.formed.few)
     c.in_ok-body.ensures.name c.in_ok-body.ensures.parameters c.in_ok-body.ensures.body c.in_ok-body.ensures.numbered in
     record {
       body = c.in_ok-body.body;

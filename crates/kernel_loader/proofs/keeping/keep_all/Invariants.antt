@@ -11,7 +11,8 @@ use Rattle.kernel_loader.proofs.keeping.keep_all.Given as goal
 
 abbrev pub invariant-loop-i : goal.invariant-loop-i
 invariant-loop-i l =
-    ((xs : List Name) → AreSlots xs → l.width ≤ length xs → AreBodiesFrom xs (kept_in l.kept) (length (kept_in l.fn.kept)) (procedures_in l.entries (map plain_procedure (procedures_view (take l.i l.procedures)))))
+    ((xs : List Name) → AreSlots xs → l.width ≤ length xs → AreBodiesFrom xs (kept_in l.kept) (length (kept_in l.fn.kept))
+    (procedures_in l.entries (map plain_procedure (procedures_view (take l.i l.procedures)))))
     × (length (kept_in l.kept) ≡ length (kept_in l.fn.kept) + l.i)
     × (take (length (kept_in l.fn.kept)) (kept_in l.kept) ≡ kept_in l.fn.kept)
     × (l.width ≡ width_of_procedures l.entries (map plain_procedure (procedures_view (take l.i l.procedures))))

@@ -24,4 +24,5 @@ loop-i-preserved c = (
 pub returns-clause-heads : goal.returns-clause-heads
 returns-clause-heads c =
     let ended = c.loop-i-test.false in
-    subst (λ (ps : List (Bor Procedure)). FindTheSame (heads_in c.loop-i.env.procedures) (heads_of (in_a_row ps))) (take_all c.loop-i.i c.args.procedures.now (omega (arith, ended))) c.loop-i.invariant.1
+    subst (λ (ps : List (Bor Procedure)). FindTheSame (heads_in c.loop-i.env.procedures) (heads_of (in_a_row ps)))
+    (take_all c.loop-i.i c.args.procedures.now (omega (arith, ended))) c.loop-i.invariant.1

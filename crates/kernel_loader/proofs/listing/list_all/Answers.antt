@@ -26,7 +26,8 @@ loop-i-preserved c =
     (subst (λ (z : Defined.Procedure). Contains (map (λ (p : Proc). p.name) ps) (plain_procedure (procedure_view z)).name) c.index-procedures-i.is
     (named_here c.args.procedures.now c.loop-i.i c.index-procedures-i.result c.loop-i-test.true (sym c.index-procedures-i.is))) in (
       subst (λ (n : ℕ). AreListed c.add.new.self (map plain_procedure (procedures_view (take n c.args.procedures.now)))) (sym (add-one c.loop-i.i))
-          (listed_more c.loop-i.entries c.add.new.self c.args.procedures.now c.loop-i.i c.index-procedures-i.result c.loop-i-test.true (sym c.index-procedures-i.is) onward c.loop-i.invariant.0 named),
+          (listed_more c.loop-i.entries c.add.new.self c.args.procedures.now c.loop-i.i c.index-procedures-i.result c.loop-i-test.true
+          (sym c.index-procedures-i.is) onward c.loop-i.invariant.0 named),
       more_yet c.args.entries.now c.loop-i.entries c.add.new.self c.loop-i.invariant.1 onward,
       one_added c.args.entries.now c.loop-i.entries c.add.new.self c.in_ok-_number._number c.as_str.result.now ps
           c.loop-i.invariant.2 here c.in_ok-_number.ensures.added,

@@ -29,7 +29,8 @@ pub keep_and_link-kept-requires-clause-entries : goal.keep_and_link-kept-require
 keep_and_link-kept-requires-clause-entries g c =
     let same : map plain_procedure (procedures_view c.deref.result.now) ≡ (plain_cell (cell_in c.args.checked.now)).procedures =
     ap (λ l. map plain_procedure (procedures_view l)) c.deref.ensures.value ∙ ap (λ (t : tree.Cell). (plain_cell t).procedures) c.cell.ensures in
-    entries_here c.args.runner.now c.args.env.now c.args.own.now (cell_in c.args.checked.now) c.requires.checked.0 c.list_all-listed.new.entries c.requires.checked.1 c.requires.own c.list_all-listed.ensures.onward
+    entries_here c.args.runner.now c.args.env.now c.args.own.now (cell_in c.args.checked.now) c.requires.checked.0 c.list_all-listed.new.entries
+    c.requires.checked.1 c.requires.own c.list_all-listed.ensures.onward
     (subst (λ (ps : List Proc). AreListed c.list_all-listed.new.entries ps) same c.in_ok-listed.ensures.listed)
 
 pub returns-in-Ok-clause-named : goal.returns-in-Ok-clause-named
@@ -49,7 +50,8 @@ returns-in-Ok-clause-ready g c =
     ready_made c.keep_and_link-kept.new.store.names es _ _ _ _ c.args.runner.now.procedures c.keep_and_link-kept.new.kept program c.in-Ok.ensures.block
     (names_here c.args.runner.now c.args.env.now c.args.own.now cell c.requires.checked.0 c.requires.checked.1 c.requires.own)
     c.in-Ok.ensures.numbered c.len-first.ensures c.in-Ok.ensures.bodies c.in-Ok.ensures.count
-    (entries_here c.args.runner.now c.args.env.now c.args.own.now cell c.requires.checked.0 es c.requires.checked.1 c.requires.own c.list_all-listed.ensures.onward listed)
+    (entries_here c.args.runner.now c.args.env.now c.args.own.now cell c.requires.checked.0 es c.requires.checked.1 c.requires.own
+    c.list_all-listed.ensures.onward listed)
     listed c.requires.own.block c.requires.own.procedures
 
 pub returns-in-Ok-clause-last : goal.returns-in-Ok-clause-last
@@ -58,13 +60,18 @@ returns-in-Ok-clause-last g c =
 
 pub returns-in-Ok-clause-shown : goal.returns-in-Ok-clause-shown
 returns-in-Ok-clause-shown g c = λ shown h.
-    shows_more c.args.runner.now _ shown c.keep_and_link-kept.ensures.sight c.slots_law-2.ensures.slots c.list_all-listed.ensures.onward c.keep_and_link-kept.ensures.older (λ d. c.keep_and_link-kept.ensures.defined shown.bodies d) h
+    shows_more c.args.runner.now _ shown c.keep_and_link-kept.ensures.sight c.slots_law-2.ensures.slots c.list_all-listed.ensures.onward
+    c.keep_and_link-kept.ensures.older (λ d. c.keep_and_link-kept.ensures.defined shown.bodies d) h
 
 pub returns-clause-shown : goal.returns-clause-shown
 returns-clause-shown g c = λ shown h.
-    let same : kept_in c.forget.new.self ≡ kept_in c.args.runner.now.procedures = c.forget.ensures.kept ∙ ap (λ (n : ℕ). take n (kept_in c.keep_and_link-kept.new.kept)) c.len-first.ensures ∙ c.keep_and_link-kept.ensures.older in
-    let below : AreBelow c.len-first.result shown.bodies = subst (λ (n : ℕ). AreBelow n shown.bodies) (sym c.len-first.ensures) (bodies_within c.args.runner.now.store.names (kept_in c.args.runner.now.procedures) shown.bodies _ h.0.defined.bodies) in
-    shows_more c.args.runner.now _ shown c.keep_and_link-kept.ensures.sight c.slots_law-2.ensures.slots c.list_all-listed.ensures.onward (all_kept (kept_in c.args.runner.now.procedures) (kept_in c.forget.new.self) same)
+    let same : kept_in c.forget.new.self ≡ kept_in c.args.runner.now.procedures =
+    c.forget.ensures.kept ∙ ap (λ (n : ℕ). take n (kept_in c.keep_and_link-kept.new.kept)) c.len-first.ensures ∙ c.keep_and_link-kept.ensures.older in
+    let below : AreBelow c.len-first.result shown.bodies =
+    subst (λ (n : ℕ). AreBelow n shown.bodies) (sym c.len-first.ensures)
+    (bodies_within c.args.runner.now.store.names (kept_in c.args.runner.now.procedures) shown.bodies _ h.0.defined.bodies) in
+    shows_more c.args.runner.now _ shown c.keep_and_link-kept.ensures.sight c.slots_law-2.ensures.slots c.list_all-listed.ensures.onward
+    (all_kept (kept_in c.args.runner.now.procedures) (kept_in c.forget.new.self) same)
     (λ d. c.forget.ensures.defined shown.bodies (c.keep_and_link-kept.ensures.defined shown.bodies d) below) h
 
 pub returns-in_err-listed-clause-only : goal.returns-in_err-listed-clause-only
@@ -90,6 +97,8 @@ returns-in-Ok-clause-slots g c =
     let cell = cell_in c.args.checked.now in
     let shape : Shape = over (shape_in c.args.env.now.names) c.args.own.now.names in
     let seen : length shape ≡ length (names_in (declare (plain_cell cell).declarations (shown_store c.args.runner.now.store))) =
-    sym (length_names shape) ∙ ap (λ (xs : List Name). length xs) (names_here c.args.runner.now c.args.env.now c.args.own.now cell c.requires.checked.0 c.requires.checked.1 c.requires.own) in
+    sym (length_names shape)
+    ∙ ap (λ (xs : List Name). length xs)
+    (names_here c.args.runner.now c.args.env.now c.args.own.now cell c.requires.checked.0 c.requires.checked.1 c.requires.own) in
     c.in-Ok.ensures.slots
     ∙ ap (λ (n : ℕ). max (width_of_cell c.list_all-listed.new.entries n (plain_cell cell)) (length c.args.runner.now.store.names)) seen

@@ -16,17 +16,23 @@ pub declare-requires : goal.declare-requires
 declare-requires g c =
     let d : Name × Kind = ([], Number) in
     let within : c.loop-i.i < size_of (shown_store c.args.store.now) = omega (arith, c.len-i-end.ensures.shown, c.loop-i-test.true) in
-    let read : get_or (entries (shown_store c.args.store.now)) c.loop-i.i d ≡ (c.entry.result.0.now, kind_in (shown c.entry.result.1)) = entry_read (shown_store c.args.store.now) c.loop-i.i _ d c.entry.ensures in
+    let read : get_or (entries (shown_store c.args.store.now)) c.loop-i.i d ≡ (c.entry.result.0.now, kind_in (shown c.entry.result.1)) =
+    entry_read (shown_store c.args.store.now) c.loop-i.i _ d c.entry.ensures in
     subst (λ (x : Name). kind_at x (names.shape_in c.loop-i.env.names) ≡ None) (ap (λ (e : Name × Kind). e.0) read)
-    (subst (λ (es : List (Name × Kind)). kind_at (get_or (entries (shown_store c.args.store.now)) c.loop-i.i d).0 (names.shape_in es) ≡ None) (sym c.loop-i.invariant.0) (entry_new (shown_store c.args.store.now) c.loop-i.i d (values_lend_nothing (shown_store c.args.store.now) c.requires.values) c.requires.distinct within))
+    (subst (λ (es : List (Name × Kind)). kind_at (get_or (entries (shown_store c.args.store.now)) c.loop-i.i d).0 (names.shape_in es) ≡ None)
+    (sym c.loop-i.invariant.0)
+    (entry_new (shown_store c.args.store.now) c.loop-i.i d (values_lend_nothing (shown_store c.args.store.now) c.requires.values)
+    c.requires.distinct within))
 
 pub loop-i-preserved : goal.loop-i-preserved
 loop-i-preserved g c =
     let d : Name × Kind = ([], Number) in
     let count = entries_count (shown_store c.args.store.now) in
     let within : c.loop-i.i < length (entries (shown_store c.args.store.now)) = omega (arith, c.len-i-end.ensures.shown, c.loop-i-test.true) in
-    let read : get_or (entries (shown_store c.args.store.now)) c.loop-i.i d ≡ (c.entry.result.0.now, kind_in (shown c.entry.result.1)) = entry_read (shown_store c.args.store.now) c.loop-i.i _ d c.entry.ensures in
-    let entry : (c.entry.result.0.now, c.kind_of.result) ≡ get_or (entries (shown_store c.args.store.now)) c.loop-i.i d = ap (λ (k : Kind). (c.entry.result.0.now, k)) c.kind_of.ensures ∙ sym read in (
+    let read : get_or (entries (shown_store c.args.store.now)) c.loop-i.i d ≡ (c.entry.result.0.now, kind_in (shown c.entry.result.1)) =
+    entry_read (shown_store c.args.store.now) c.loop-i.i _ d c.entry.ensures in
+    let entry : (c.entry.result.0.now, c.kind_of.result) ≡ get_or (entries (shown_store c.args.store.now)) c.loop-i.i d =
+    ap (λ (k : Kind). (c.entry.result.0.now, k)) c.kind_of.ensures ∙ sym read in (
       c.in_ok-declare.ensures.names ∙ ap (λ (es : List (Name × Kind)). es ++ (c.entry.result.0.now, c.kind_of.result) ∷ []) c.loop-i.invariant.0
           ∙ ap (λ (e : Name × Kind). take c.loop-i.i (entries (shown_store c.args.store.now)) ++ e ∷ []) entry
           ∙ sym (taken_more (entries (shown_store c.args.store.now)) c.loop-i.i d within)
@@ -38,4 +44,5 @@ pub returns-clause-names : goal.returns-clause-names
 returns-clause-names g c =
     let count = entries_count (shown_store c.args.store.now) in
     let all : length (entries (shown_store c.args.store.now)) ≤ c.loop-i.i = omega (arith, c.len-i-end.ensures.shown, c.loop-i-test.false) in
-    ap names.shape_in (c.loop-i.invariant.0 ∙ taken_all (entries (shown_store c.args.store.now)) c.loop-i.i all) ∙ entries_shape (shown_store c.args.store.now) (values_lend_nothing (shown_store c.args.store.now) c.requires.values)
+    ap names.shape_in (c.loop-i.invariant.0 ∙ taken_all (entries (shown_store c.args.store.now)) c.loop-i.i all)
+    ∙ entries_shape (shown_store c.args.store.now) (values_lend_nothing (shown_store c.args.store.now) c.requires.values)

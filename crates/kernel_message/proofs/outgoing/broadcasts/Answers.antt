@@ -15,7 +15,8 @@ loop-draft-preserved c =
     let parent = c.args.parent.now in
     let stamp = c.args.stamp.now in
     let old = c.loop-draft.messages.items in
-    let step : take (i + 1) drafts ≡ take i drafts ++ item ∷ [] = take_more drafts i item c.loop-draft-test.true ∙ ap (λ x. take i drafts ++ x ∷ []) (sym c.draft-item.is) in
+    let step : take (i + 1) drafts ≡ take i drafts ++ item ∷ [] = take_more drafts i item c.loop-draft-test.true
+    ∙ ap (λ x. take i drafts ++ x ∷ []) (sym c.draft-item.is) in
     let before = map said_of (take i drafts) in
     let taken : length (take i drafts) ≡ i = grind (arith, common_steps) in
     let count = length-map (take i drafts) said_of in

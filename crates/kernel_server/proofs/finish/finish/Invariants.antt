@@ -11,7 +11,8 @@ use Rattle.kernel_server.proofs.finish.finish.Given as goal
 abbrev pub invariant-loop-outcome : goal.invariant-loop-outcome
 invariant-loop-outcome g l =
     IsInside l.kernel.machine.state.job
-    × ((o : Outcome) (new : Machine) (rest : List Slice) → Finishes l.kernel.machine l.slices.items o new rest → Finishes l.fn.kernel.machine l.fn.slices.items o new rest)
+    × ((o : Outcome) (new : Machine) (rest : List Slice) → Finishes l.kernel.machine l.slices.items o new rest →
+    Finishes l.fn.kernel.machine l.fn.slices.items o new rest)
     × (l.kernel.machine.queue ≡ l.fn.kernel.machine.queue)
 
 abbrev pub decreases-loop-outcome : goal.decreases-loop-outcome

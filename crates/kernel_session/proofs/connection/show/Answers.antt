@@ -14,7 +14,8 @@ returns-then-wants-clause-err g c =
     let old = g.W.Write.contents c.args.writer.now in
     let new = g.W.Write.contents c.send_broadcast.new.writer in
     on_err c.send_broadcast.result (SentSome old new (message_octets c.args.broadcast.now))
-    ((fed : List ℕ) (given : List Event) → Stands fed given c.args.peer.now → (octets : List ℕ) × IsShown given c.args.broadcast.now octets × SentSome old new octets)
+    ((fed : List ℕ) (given : List Event) → Stands fed given c.args.peer.now → (octets : List ℕ) × IsShown given c.args.broadcast.now octets ×
+    SentSome old new octets)
     (λ p fed given st. (
       message_octets c.args.broadcast.now,
       inl (subst (λ (x : List ℕ). IsWanted given x) c.topic.ensures ((c.wants.ensures fed given st).0 c.if-wants.true), refl),

@@ -42,6 +42,7 @@ returns-in-Err-clause-err g c fed given st =
         p.0 ++ q.2.0,
         q.2.1,
         ap (λ (x : List ℕ). p.0 ++ x) q.2.2 ∙ sym (append_assoc p.0 q.2.0 q.2.1),
-        appends_join (g.W.Write.contents c.args.writer.now) (g.W.Write.contents c.loop-broadcast.writer) (g.W.Write.contents c.show.new.writer) p.0 q.2.0 p.2 q.2.3,
+        appends_join (g.W.Write.contents c.args.writer.now) (g.W.Write.contents c.loop-broadcast.writer) (g.W.Write.contents c.show.new.writer)
+            p.0 q.2.0 p.2 q.2.3,
       ),
     )

@@ -44,5 +44,6 @@ returns-clause-err g c =
     (λ p fed given st.
     let q = p fed given st in
     farewell_part g.W.Write.contents g.D.Desk.leads c.args.writer.now c.show_all.new.writer c.args.desk.now c.broadcasts.new.self given q.0 q.1
-    (subst (λ (x : List Frames). g.D.Desk.leads c.args.desk.now (Kept x) c.broadcasts.new.self) (sym c.deref.ensures.value ∙ q.2) c.in-Ok.ensures.ok) q.3 q.4 q.5)
+    (subst (λ (x : List Frames). g.D.Desk.leads c.args.desk.now (Kept x) c.broadcasts.new.self) (sym c.deref.ensures.value ∙ q.2) c.in-Ok.ensures.ok)
+    q.3 q.4 q.5)
     c.show_all.ensures.err

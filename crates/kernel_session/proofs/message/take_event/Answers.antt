@@ -24,13 +24,15 @@ returns-in-Shell-clause-err g c =
 
 pub returns-in-Control-clause-ok : goal.returns-in-Control-clause-ok
 returns-in-Control-clause-ok g c =
-    turn_takes g.W.Write.contents g.D.Desk.leads c.args.key.now c.args.writer.now c.take_turn-in-Control.new.writer c.args.desk.now c.take_turn-in-Control.new.desk
+    turn_takes g.W.Write.contents g.D.Desk.leads c.args.key.now c.args.writer.now c.take_turn-in-Control.new.writer c.args.desk.now
+    c.take_turn-in-Control.new.desk
     c.args.stamp.now c.take_turn-in-Control.new.stamp Control (octets c.in-Message.frames.items) c.args.socket c.in-Control.is c.args.event
     (Message c.in-Message.frames) c.in-Message.is (λ actions new p. p) c.take_turn-in-Control.result c.take_turn-in-Control.ensures.ok
 
 pub returns-in-Control-clause-err : goal.returns-in-Control-clause-err
 returns-in-Control-clause-err g c =
-    turn_breaks g.W.Write.contents g.D.Desk.leads c.args.key.now c.args.writer.now c.take_turn-in-Control.new.writer c.args.desk.now c.take_turn-in-Control.new.desk
+    turn_breaks g.W.Write.contents g.D.Desk.leads c.args.key.now c.args.writer.now c.take_turn-in-Control.new.writer c.args.desk.now
+    c.take_turn-in-Control.new.desk
     c.args.stamp.now c.take_turn-in-Control.new.stamp Control (octets c.in-Message.frames.items) c.args.socket c.in-Control.is c.args.event
     (Message c.in-Message.frames) c.in-Message.is (λ actions new p. p) c.take_turn-in-Control.result c.take_turn-in-Control.ensures.err
 
@@ -40,7 +42,8 @@ returns-in-Heartbeat-clause-ok g c =
     Heartbeat c.in-Heartbeat.is c.args.event (Message c.in-Message.frames) c.in-Message.is (message_octets (octets c.in-Message.frames.items)) (refl, refl)
     c.echo.result
     (subst (λ x. IfOk c.echo.result (λ flow. (flow ≡ Going)
-    × Appends (g.W.Write.contents c.args.writer.now) (g.W.Write.contents c.echo.new.writer) (message_octets (octets x)))) c.deref-in-Heartbeat.ensures.value c.echo.ensures.ok)
+    × Appends (g.W.Write.contents c.args.writer.now) (g.W.Write.contents c.echo.new.writer) (message_octets (octets x))))
+    c.deref-in-Heartbeat.ensures.value c.echo.ensures.ok)
 
 pub returns-in-Heartbeat-clause-err : goal.returns-in-Heartbeat-clause-err
 returns-in-Heartbeat-clause-err g c =

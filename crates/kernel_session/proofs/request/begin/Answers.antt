@@ -29,7 +29,8 @@ returns-clause-ok g c =
 
 pub returns-clause-err : goal.returns-clause-err
 returns-clause-err g c =
-    on_err c.publish_awake.result (c.publish_awake.new.desk ≡ c.date.new.self) (IsDatedAlone g.D.Desk.leads c.args.desk.now c.publish_awake.new.desk c.args.stamp.now)
+    on_err c.publish_awake.result (c.publish_awake.new.desk ≡ c.date.new.self)
+    (IsDatedAlone g.D.Desk.leads c.args.desk.now c.publish_awake.new.desk c.args.stamp.now)
     (λ p. record {
       dated = c.date.new.stamp;
       is_dated = c.date.ensures.dated;

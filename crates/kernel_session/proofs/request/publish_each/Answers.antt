@@ -17,7 +17,8 @@ loop-broadcast-preserved g c =
     let f = λ (o : Octets). Published (frames_of c.args.key.now o) in
     let rest : c.args.broadcasts.items ≡ (done ++ b ∷ []) ++ into_iter_items c.next.new.self = grind (arith, common_steps) in (
       subst (λ (calls : List Call). Leads g.D.Desk.leads c.args.desk.now calls c.publish.new.desk) (sym (map-append f done (b ∷ [])))
-          (leads_join g.D.Desk.leads c.args.desk.now c.loop-broadcast.desk c.publish.new.desk (map f done) (f b ∷ []) c.loop-broadcast.invariant.0 c.in_ok-publish.ensures.ok),
+          (leads_join g.D.Desk.leads c.args.desk.now c.loop-broadcast.desk c.publish.new.desk (map f done)
+          (f b ∷ []) c.loop-broadcast.invariant.0 c.in_ok-publish.ensures.ok),
       rest,
     )
 

@@ -10,4 +10,5 @@ pub returns-clause-err : goal.returns-clause-err
 returns-clause-err g c =
     let sent = ap (λ fs. message_octets (bodies_of fs)) c.deref.ensures.value ∙ ap message_octets c.in-Ok.ensures.frames in
     let reply = ap (λ (r : Option Message). reply_octets c.args.key.now (option_map octets_of r)) c.in-Some.is in
-    subst (λ (octets : List ℕ). OnErr c.send_message.result (SentSome (g.W.Write.contents c.args.writer.now) (g.W.Write.contents c.send_message.new.writer) octets)) (sent ∙ sym reply) c.send_message.ensures.err
+    subst (λ (octets : List ℕ). OnErr c.send_message.result
+    (SentSome (g.W.Write.contents c.args.writer.now) (g.W.Write.contents c.send_message.new.writer) octets)) (sent ∙ sym reply) c.send_message.ensures.err

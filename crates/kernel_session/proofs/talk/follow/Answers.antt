@@ -20,7 +20,8 @@ pub returns-in-Redo : goal.returns-in-Redo
 returns-in-Redo g c = let p = c.post-in-Redo.ensures in (
   heard_job p.0 p.1,
   subst (λ (a : CommAsk). IsHeld g.D.Desk.leads c.args.desk.now (follow a (heard_job p.0 p.1)) c.post-in-Redo.result c.post-in-Redo.new.desk) (sym c.in-Redo.is)
-      (subst (λ (w : List WishOf). IsHeld g.D.Desk.leads c.args.desk.now (post (Redo c.in-Redo.k) (wishes_of w) p.0 p.1) c.post-in-Redo.result c.post-in-Redo.new.desk)
+      (subst (λ (w : List WishOf). IsHeld g.D.Desk.leads c.args.desk.now (post (Redo c.in-Redo.k) (wishes_of w) p.0 p.1)
+      c.post-in-Redo.result c.post-in-Redo.new.desk)
       c.new-in-Redo.ensures.items p.2),
 )
 
@@ -28,7 +29,8 @@ pub returns-in-Goto : goal.returns-in-Goto
 returns-in-Goto g c = let p = c.post-in-Goto.ensures in (
   heard_job p.0 p.1,
   subst (λ (a : CommAsk). IsHeld g.D.Desk.leads c.args.desk.now (follow a (heard_job p.0 p.1)) c.post-in-Goto.result c.post-in-Goto.new.desk) (sym c.in-Goto.is)
-      (subst (λ (w : List WishOf). IsHeld g.D.Desk.leads c.args.desk.now (post (Goto c.in-Goto.n) (wishes_of w) p.0 p.1) c.post-in-Goto.result c.post-in-Goto.new.desk)
+      (subst (λ (w : List WishOf). IsHeld g.D.Desk.leads c.args.desk.now (post (Goto c.in-Goto.n) (wishes_of w) p.0 p.1)
+      c.post-in-Goto.result c.post-in-Goto.new.desk)
       c.new-in-Goto.ensures.items p.2),
 )
 

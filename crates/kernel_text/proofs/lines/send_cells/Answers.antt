@@ -5,9 +5,12 @@ use Rattle.kernel_text.proofs.lines.send_cells.Goals as goal
 
 pub returns-in_err-send_counted-clause-err : goal.returns-in_err-send_counted-clause-err
 returns-in_err-send_counted-clause-err g c =
-    some_first (g.W.Write.contents c.args.writer.now) (g.W.Write.contents c.send_counted.new.writer) (counted_text c.args.words.now c.args.cells) (end_text c.args.end) (counted_text c.args.words.now c.args.cells ++ end_text c.args.end) c.from_residual.result refl c.in_err-send_counted.ensures.err
+    some_first (g.W.Write.contents c.args.writer.now) (g.W.Write.contents c.send_counted.new.writer) (counted_text c.args.words.now c.args.cells)
+    (end_text c.args.end) (counted_text c.args.words.now c.args.cells ++ end_text c.args.end) c.from_residual.result refl c.in_err-send_counted.ensures.err
 
 pub returns-clause-err : goal.returns-clause-err
 returns-clause-err g c =
-    some_then (g.W.Write.contents c.args.writer.now) (g.W.Write.contents c.send_counted.new.writer) (g.W.Write.contents c.send_end.new.writer) (counted_text c.args.words.now c.args.cells) (end_text c.args.end) (counted_text c.args.words.now c.args.cells ++ end_text c.args.end) c.send_end.result refl
+    some_then (g.W.Write.contents c.args.writer.now) (g.W.Write.contents c.send_counted.new.writer) (g.W.Write.contents c.send_end.new.writer)
+    (counted_text c.args.words.now c.args.cells) (end_text c.args.end) (counted_text c.args.words.now c.args.cells ++ end_text c.args.end)
+    c.send_end.result refl
     c.in_ok-send_counted.ensures.ok c.send_end.ensures.err

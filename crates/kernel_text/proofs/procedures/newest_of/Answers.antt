@@ -10,7 +10,8 @@ returns-then-eq c =
     let f = c.args.name.now in
     let all = c.args.procedures.now in
     let b = c.index-procedures-i.result in
-    let same : same_name f (plain b).name ≡ true = same_as_bytes f (plain b).name ∙ ap (λ (text : List ℕ). bytes_eq f text) (sym c.as_str.ensures.value) ∙ sym c.eq.ensures ∙ c.if-eq.true in
+    let same : same_name f (plain b).name ≡ true = same_as_bytes f (plain b).name ∙ ap (λ (text : List ℕ). bytes_eq f text) (sym c.as_str.ensures.value)
+    ∙ sym c.eq.ensures ∙ c.if-eq.true in
     c.loop-i.invariant ∙ find_next f all c.loop-i.i b c.loop-i-test.true (sym c.index-procedures-i.is)
     ∙ ap (λ (t : Bool). pick t (plain b) (find f (in_a_row (drop (suc c.loop-i.i) all)))) same
 
@@ -19,7 +20,8 @@ loop-i-preserved c =
     let f = c.args.name.now in
     let all = c.args.procedures.now in
     let b = c.index-procedures-i.result in
-    let other : same_name f (plain b).name ≡ false = same_as_bytes f (plain b).name ∙ ap (λ (text : List ℕ). bytes_eq f text) (sym c.as_str.ensures.value) ∙ sym c.eq.ensures ∙ c.if-eq.false in
+    let other : same_name f (plain b).name ≡ false = same_as_bytes f (plain b).name ∙ ap (λ (text : List ℕ). bytes_eq f text) (sym c.as_str.ensures.value)
+    ∙ sym c.eq.ensures ∙ c.if-eq.false in
     c.loop-i.invariant ∙ find_next f all c.loop-i.i b c.loop-i-test.true (sym c.index-procedures-i.is)
     ∙ ap (λ (t : Bool). pick t (plain b) (find f (in_a_row (drop (suc c.loop-i.i) all)))) other
     ∙ ap (λ (n : ℕ). find f (in_a_row (drop n all))) (sym (add-one c.loop-i.i))

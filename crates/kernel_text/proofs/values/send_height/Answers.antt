@@ -6,9 +6,11 @@ use Rattle.kernel_text.proofs.values.send_height.Goals as goal
 
 pub returns-in_err-send_counted-clause-err : goal.returns-in_err-send_counted-clause-err
 returns-in_err-send_counted-clause-err g c =
-    some_first (g.W.Write.contents c.args.writer.now) (g.W.Write.contents c.send_counted.new.writer) (counted_text (codes "(") c.args.height) (codes ") =") (height_text c.args.height) c.from_residual.result refl c.in_err-send_counted.ensures.err
+    some_first (g.W.Write.contents c.args.writer.now) (g.W.Write.contents c.send_counted.new.writer) (counted_text (codes "(") c.args.height) (codes ") =")
+    (height_text c.args.height) c.from_residual.result refl c.in_err-send_counted.ensures.err
 
 pub returns-clause-err : goal.returns-clause-err
 returns-clause-err g c =
-    some_then (g.W.Write.contents c.args.writer.now) (g.W.Write.contents c.send_counted.new.writer) (g.W.Write.contents c.send.new.writer) (counted_text (codes "(") c.args.height) (codes ") =") (height_text c.args.height) c.send.result refl
+    some_then (g.W.Write.contents c.args.writer.now) (g.W.Write.contents c.send_counted.new.writer) (g.W.Write.contents c.send.new.writer)
+    (counted_text (codes "(") c.args.height) (codes ") =") (height_text c.args.height) c.send.result refl
     c.in_ok-send_counted.ensures.ok c.send.ensures.err

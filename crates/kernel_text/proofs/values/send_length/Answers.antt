@@ -6,9 +6,11 @@ use Rattle.kernel_text.proofs.values.send_length.Goals as goal
 
 pub returns-in_err-send_counted-clause-err : goal.returns-in_err-send_counted-clause-err
 returns-in_err-send_counted-clause-err g c =
-    some_first (g.W.Write.contents c.args.writer.now) (g.W.Write.contents c.send_counted.new.writer) (counted_text (codes "[") c.args.length) (codes "] =") (length_text c.args.length) c.from_residual.result refl c.in_err-send_counted.ensures.err
+    some_first (g.W.Write.contents c.args.writer.now) (g.W.Write.contents c.send_counted.new.writer) (counted_text (codes "[") c.args.length) (codes "] =")
+    (length_text c.args.length) c.from_residual.result refl c.in_err-send_counted.ensures.err
 
 pub returns-clause-err : goal.returns-clause-err
 returns-clause-err g c =
-    some_then (g.W.Write.contents c.args.writer.now) (g.W.Write.contents c.send_counted.new.writer) (g.W.Write.contents c.send.new.writer) (counted_text (codes "[") c.args.length) (codes "] =") (length_text c.args.length) c.send.result refl
+    some_then (g.W.Write.contents c.args.writer.now) (g.W.Write.contents c.send_counted.new.writer) (g.W.Write.contents c.send.new.writer)
+    (counted_text (codes "[") c.args.length) (codes "] =") (length_text c.args.length) c.send.result refl
     c.in_ok-send_counted.ensures.ok c.send.ensures.err

@@ -12,11 +12,13 @@ pub returns-in_err-send_all-clause-err : goal.returns-in_err-send_all-clause-err
 returns-in_err-send_all-clause-err g c =
     let l = c.args.numbers.now in
     let more : 32 < length l = omega (arith, c.if-numbers-le-SHOWN_VALUES.false) in
-    some_first (g.W.Write.contents c.args.writer.now) (g.W.Write.contents c.send_all-2.new.writer) (spaced_text (take 32 l)) (codes " ...") (numbers_text l) c.from_residual.result (more_text l more) c.in_err-send_all.ensures.err
+    some_first (g.W.Write.contents c.args.writer.now) (g.W.Write.contents c.send_all-2.new.writer) (spaced_text (take 32 l)) (codes " ...") (numbers_text l)
+    c.from_residual.result (more_text l more) c.in_err-send_all.ensures.err
 
 pub returns-clause-err : goal.returns-clause-err
 returns-clause-err g c =
     let l = c.args.numbers.now in
     let more : 32 < length l = omega (arith, c.if-numbers-le-SHOWN_VALUES.false) in
-    some_then (g.W.Write.contents c.args.writer.now) (g.W.Write.contents c.send_all-2.new.writer) (g.W.Write.contents c.send.new.writer) (spaced_text (take 32 l)) (codes " ...") (numbers_text l) c.send.result (more_text l more)
+    some_then (g.W.Write.contents c.args.writer.now) (g.W.Write.contents c.send_all-2.new.writer) (g.W.Write.contents c.send.new.writer)
+    (spaced_text (take 32 l)) (codes " ...") (numbers_text l) c.send.result (more_text l more)
     c.in_ok-send_all.ensures.ok c.send.ensures.err

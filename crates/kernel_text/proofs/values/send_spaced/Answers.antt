@@ -6,10 +6,13 @@ use Rattle.kernel_text.proofs.values.send_spaced.Goals as goal
 
 pub returns-in_err-send-clause-err : goal.returns-in_err-send-clause-err
 returns-in_err-send-clause-err g c =
-    some_first (g.W.Write.contents c.args.writer.now) (g.W.Write.contents c.send.new.writer) (codes " ") (signed_decimal c.args.value) (codes " " ++ signed_decimal c.args.value) c.from_residual.result refl c.in_err-send.ensures.err
+    some_first (g.W.Write.contents c.args.writer.now) (g.W.Write.contents c.send.new.writer) (codes " ") (signed_decimal c.args.value)
+    (codes " " ++ signed_decimal c.args.value) c.from_residual.result refl c.in_err-send.ensures.err
 
 pub returns-clause-err : goal.returns-clause-err
 returns-clause-err g c =
     let z : to_z w32 (of_z w32 c.args.value) ≡ c.args.value = grind (arith, to_z-of_z) in
-    some_then (g.W.Write.contents c.args.writer.now) (g.W.Write.contents c.send.new.writer) (g.W.Write.contents c.send_signed.new.writer) (codes " ") (signed_decimal (to_z w32 (of_z w32 c.args.value))) (codes " " ++ signed_decimal c.args.value) c.send_signed.result (ap (λ v. codes " " ++ signed_decimal v) (sym z))
+    some_then (g.W.Write.contents c.args.writer.now) (g.W.Write.contents c.send.new.writer) (g.W.Write.contents c.send_signed.new.writer) (codes " ")
+    (signed_decimal (to_z w32 (of_z w32 c.args.value))) (codes " " ++ signed_decimal c.args.value) c.send_signed.result
+    (ap (λ v. codes " " ++ signed_decimal v) (sym z))
     c.in_ok-send.ensures.ok c.send_signed.ensures.err

@@ -11,7 +11,8 @@ returns-in_err-send_height-clause-err g c =
     let first = height_text c.len.result in
     let second = numbers_text l in
     let all : told_text (Stk l) ≡ first ++ second = ap (λ n. height_text n ++ second) (sym c.len.ensures) in
-    some_first (g.W.Write.contents c.args.writer.now) (g.W.Write.contents c.send_height.new.writer) first second (told_text (Stk l)) c.from_residual.result all c.in_err-send_height.ensures.err
+    some_first (g.W.Write.contents c.args.writer.now) (g.W.Write.contents c.send_height.new.writer) first second (told_text (Stk l))
+    c.from_residual.result all c.in_err-send_height.ensures.err
 
 pub returns-clause-ok : goal.returns-clause-ok
 returns-clause-ok g c =
@@ -19,7 +20,8 @@ returns-clause-ok g c =
     let first = height_text c.len.result in
     let second = numbers_text l in
     let all : told_text (Stk l) ≡ first ++ second = ap (λ n. height_text n ++ second) (sym c.len.ensures) in
-    all_then (g.W.Write.contents c.args.writer.now) (g.W.Write.contents c.send_height.new.writer) (g.W.Write.contents c.send_values.new.writer) first second (told_text (Stk l)) c.send_values.result all
+    all_then (g.W.Write.contents c.args.writer.now) (g.W.Write.contents c.send_height.new.writer) (g.W.Write.contents c.send_values.new.writer) first second
+    (told_text (Stk l)) c.send_values.result all
     c.in_ok-send_height.ensures.ok c.send_values.ensures.ok
 
 pub returns-clause-err : goal.returns-clause-err
@@ -28,5 +30,6 @@ returns-clause-err g c =
     let first = height_text c.len.result in
     let second = numbers_text l in
     let all : told_text (Stk l) ≡ first ++ second = ap (λ n. height_text n ++ second) (sym c.len.ensures) in
-    some_then (g.W.Write.contents c.args.writer.now) (g.W.Write.contents c.send_height.new.writer) (g.W.Write.contents c.send_values.new.writer) first second (told_text (Stk l)) c.send_values.result all
+    some_then (g.W.Write.contents c.args.writer.now) (g.W.Write.contents c.send_height.new.writer) (g.W.Write.contents c.send_values.new.writer) first second
+    (told_text (Stk l)) c.send_values.result all
     c.in_ok-send_height.ensures.ok c.send_values.ensures.err

@@ -18,8 +18,10 @@ pub loop-value-preserved : goal.loop-value-preserved
 loop-value-preserved g c =
     let n = c.in-Some.value in
     let z : to_z w32 (of_z w32 n) ≡ n = grind (arith, to_z-of_z) in
-    let sent = subst (λ n. Appends (g.W.Write.contents c.loop-value.writer) (g.W.Write.contents c.send_spaced.new.writer) (one_text n)) z c.in_ok-send_spaced.ensures.ok in
-    number_added (g.W.Write.contents c.args.writer.now) (g.W.Write.contents c.loop-value.writer) (g.W.Write.contents c.send_spaced.new.writer) c.loop-value.yielded n c.loop-value.invariant sent
+    let sent = subst (λ n. Appends (g.W.Write.contents c.loop-value.writer) (g.W.Write.contents c.send_spaced.new.writer) (one_text n))
+    z c.in_ok-send_spaced.ensures.ok in
+    number_added (g.W.Write.contents c.args.writer.now) (g.W.Write.contents c.loop-value.writer) (g.W.Write.contents c.send_spaced.new.writer)
+    c.loop-value.yielded n c.loop-value.invariant sent
 
 pub returns-in_err-send_spaced-clause-err : goal.returns-in_err-send_spaced-clause-err
 returns-in_err-send_spaced-clause-err g c =
@@ -32,11 +34,14 @@ returns-in_err-send_spaced-clause-err g c =
     let turn = YieldsList-turn come numbers _ c.loop-value.yielded_by _ _ n c.in-Some.is c.next.ensures.steps in
     let at = slice_get-get_or all (length numbers) n turn.0 ∙ ap Some (sym turn.1) in
     let first = sym (map-id numbers) ∙ YieldsList-so_far come numbers _ c.loop-value.yielded_by in
-    let before = subst (λ l. Appends (g.W.Write.contents c.args.writer.now) (g.W.Write.contents c.loop-value.writer) (spaced_text l)) first c.loop-value.invariant in
+    let before = subst (λ l. Appends (g.W.Write.contents c.args.writer.now) (g.W.Write.contents c.loop-value.writer) (spaced_text l))
+    first c.loop-value.invariant in
     let z : to_z w32 (of_z w32 n) ≡ n = grind (arith, to_z-of_z) in
-    let sent = subst (λ n. SentSome (g.W.Write.contents c.loop-value.writer) (g.W.Write.contents c.send_spaced.new.writer) (one_text n)) z c.in_err-send_spaced.ensures.err in
+    let sent = subst (λ n. SentSome (g.W.Write.contents c.loop-value.writer) (g.W.Write.contents c.send_spaced.new.writer) (one_text n))
+    z c.in_err-send_spaced.ensures.err in
     some_now (g.W.Write.contents c.args.writer.now) (g.W.Write.contents c.send_spaced.new.writer) (spaced_text all) c.from_residual.result
-    (number_failed (g.W.Write.contents c.args.writer.now) (g.W.Write.contents c.loop-value.writer) (g.W.Write.contents c.send_spaced.new.writer) all (length numbers) n at before sent)
+    (number_failed (g.W.Write.contents c.args.writer.now) (g.W.Write.contents c.loop-value.writer) (g.W.Write.contents c.send_spaced.new.writer) all
+    (length numbers) n at before sent)
 
 pub returns-clause-ok : goal.returns-clause-ok
 returns-clause-ok g c =
@@ -44,4 +49,5 @@ returns-clause-ok g c =
     let begun = c.into_iter-value-iterator in
     let come = newest_come c.args.values.now c.args.count begun.result taken.result begun.ensures.into_iter_gives taken.ensures.source taken.ensures.count in
     let all = YieldsList-end come c.loop-value.yielded _ c.loop-value.yielded_by _ _ c.in-None.is c.next.ensures.steps in
-    subst (λ l. Appends (g.W.Write.contents c.args.writer.now) (g.W.Write.contents c.loop-value.writer) (spaced_text l)) (sym (map-id c.loop-value.yielded) ∙ all.0) c.loop-value.invariant
+    subst (λ l. Appends (g.W.Write.contents c.args.writer.now) (g.W.Write.contents c.loop-value.writer) (spaced_text l))
+    (sym (map-id c.loop-value.yielded) ∙ all.0) c.loop-value.invariant

@@ -9,11 +9,13 @@ pub returns-in_err-send_tops-clause-err : goal.returns-in_err-send_tops-clause-e
 returns-in_err-send_tops-clause-err g c =
     let l = held c.args.values.now in
     let more : 32 < length l = omega (arith, c.if-len-le-SHOWN_VALUES.false, c.len.ensures) in
-    some_first (g.W.Write.contents c.args.writer.now) (g.W.Write.contents c.send_tops-2.new.writer) (spaced_text (take 32 l)) (codes " ...") (numbers_text l) c.from_residual.result (more_text l more) c.in_err-send_tops.ensures.err
+    some_first (g.W.Write.contents c.args.writer.now) (g.W.Write.contents c.send_tops-2.new.writer) (spaced_text (take 32 l)) (codes " ...") (numbers_text l)
+    c.from_residual.result (more_text l more) c.in_err-send_tops.ensures.err
 
 pub returns-clause-err : goal.returns-clause-err
 returns-clause-err g c =
     let l = held c.args.values.now in
     let more : 32 < length l = omega (arith, c.if-len-le-SHOWN_VALUES.false, c.len.ensures) in
-    some_then (g.W.Write.contents c.args.writer.now) (g.W.Write.contents c.send_tops-2.new.writer) (g.W.Write.contents c.send.new.writer) (spaced_text (take 32 l)) (codes " ...") (numbers_text l) c.send.result (more_text l more)
+    some_then (g.W.Write.contents c.args.writer.now) (g.W.Write.contents c.send_tops-2.new.writer) (g.W.Write.contents c.send.new.writer)
+    (spaced_text (take 32 l)) (codes " ...") (numbers_text l) c.send.result (more_text l more)
     c.in_ok-send_tops.ensures.ok c.send.ensures.err

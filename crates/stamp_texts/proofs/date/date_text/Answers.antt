@@ -16,5 +16,30 @@ returns c =
     let day = size_of w8 _ _ _ (record { sfits = c.day.type_inv }) c.day.ensures c.unsigned_abs-day.ensures.value in
     let hour = size_of w8 _ _ _ (record { sfits = c.hour.type_inv }) c.hour.ensures c.unsigned_abs-hour.ensures.value in
     let minute = size_of w8 _ _ _ (record { sfits = c.minute.type_inv }) c.minute.ensures c.unsigned_abs-minute.ensures.value in
-    let second = size_of w8 _ _ _ (record { sfits = c.second.type_inv }) c.second.ensures c.unsigned_abs-second.ensures.value in
-    (c.to_datetime-shown.result, shows, rw (c.tens.ensures, c.ones.ensures, c.tens-2.ensures, c.ones-2.ensures, c.tens-3.ensures, c.ones-3.ensures, c.tens-4.ensures, c.ones-4.ensures, c.tens-5.ensures, c.ones-5.ensures, c.tens-6.ensures, c.ones-6.ensures, c.tens-7.ensures, c.ones-7.ensures, year, month, day, hour, minute, second) refl)
+    let second = size_of w8 _ _ _ (record { sfits = c.second.type_inv }) c.second.ensures c.unsigned_abs-second.ensures.value in (
+      c.to_datetime-shown.result,
+      shows,
+      rw (
+        c.tens.ensures,
+        c.ones.ensures,
+        c.tens-2.ensures,
+        c.ones-2.ensures,
+        c.tens-3.ensures,
+        c.ones-3.ensures,
+        c.tens-4.ensures,
+        c.ones-4.ensures,
+        c.tens-5.ensures,
+        c.ones-5.ensures,
+        c.tens-6.ensures,
+        c.ones-6.ensures,
+        c.tens-7.ensures,
+        c.ones-7.ensures,
+        year,
+        month,
+        day,
+        hour,
+        minute,
+        second,
+      )
+          refl,
+    )

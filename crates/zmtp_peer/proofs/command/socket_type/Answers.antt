@@ -16,7 +16,8 @@ loop-rest-preserved c =
     let p : Property = record { name = c.in-Some.name.now; value = c.in-Some.value.now } in
     let more : List ℕ = c.in-Some.more.now in
     ap (λ (o : Option (List ℕ)). option_map (λ ps. option_or o (value_of (codes "Socket-Type") ps)) (metadata_of more)) c.first_of-found.ensures
-    ∙ announced-more (codes "Socket-Type") c.loop-rest.rest.now (p, more) (option_copied c.loop-rest.found) (grind (arith, nat_tests)) (sym c.in-Some.ensures.read)
+    ∙ announced-more (codes "Socket-Type") c.loop-rest.rest.now (p, more) (option_copied c.loop-rest.found) (grind (arith, nat_tests))
+    (sym c.in-Some.ensures.read)
     ∙ c.loop-rest.invariant
 
 pub returns : goal.returns

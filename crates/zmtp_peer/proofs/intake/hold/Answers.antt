@@ -12,7 +12,8 @@ use Rattle.zmtp_peer.proofs.intake.hold.Goals as goal
 pub returns-in_err-add_frame-clause-kept : goal.returns-in_err-add_frame-clause-kept
 returns-in_err-add_frame-clause-kept c =
     let intake = c.args.intake.now in
-    subst (λ (held : List (Vec ℕ Global)). Keeps (front_of intake) (first_of (brought_in intake) (bodies held))) (sym c.in_err-add_frame.ensures.err) (keeps-same (front_of intake))
+    subst (λ (held : List (Vec ℕ Global)). Keeps (front_of intake) (first_of (brought_in intake) (bodies held))) (sym c.in_err-add_frame.ensures.err)
+    (keeps-same (front_of intake))
 
 pub returns-clause-kept : goal.returns-clause-kept
 returns-clause-kept c =
@@ -20,7 +21,8 @@ returns-clause-kept c =
     let held = c.add_frame.new.held.items in
     let more : Keeps (front_of intake) (first_of (brought_in intake) (bodies held)) =
     subst (λ (frames : List (Vec ℕ Global)). Keeps (front_of intake) (first_of (brought_in intake) (bodies frames))) (sym c.in_ok-add_frame.ensures.ok)
-    (subst (λ (frames : List (List ℕ)). Keeps (front_of intake) (first_of (brought_in intake) frames)) (sym (map-append (λ (frame : Vec ℕ Global). frame.items) intake.held.items (c.args.body ∷ [])))
+    (subst (λ (frames : List (List ℕ)). Keeps (front_of intake) (first_of (brought_in intake) frames))
+    (sym (map-append (λ (frame : Vec ℕ Global). frame.items) intake.held.items (c.args.body ∷ [])))
     (keeps-held (brought_in intake) (bodies intake.held.items) (c.args.body.items ∷ []))) in
     keeps-then (front_of intake) (first_of (brought_in intake) (bodies held)) (front_of c.complete.new.intake) more c.complete.ensures.kept
 
@@ -35,5 +37,6 @@ pub returns-then-more-clause-kept : goal.returns-then-more-clause-kept
 returns-then-more-clause-kept c =
     let intake = c.args.intake.now in
     subst (λ (frames : List (Vec ℕ Global)). Keeps (front_of intake) (first_of (brought_in intake) (bodies frames))) (sym c.in_ok-add_frame.ensures.ok)
-    (subst (λ (frames : List (List ℕ)). Keeps (front_of intake) (first_of (brought_in intake) frames)) (sym (map-append (λ (frame : Vec ℕ Global). frame.items) intake.held.items (c.args.body ∷ [])))
+    (subst (λ (frames : List (List ℕ)). Keeps (front_of intake) (first_of (brought_in intake) frames))
+    (sym (map-append (λ (frame : Vec ℕ Global). frame.items) intake.held.items (c.args.body ∷ [])))
     (keeps-held (brought_in intake) (bodies intake.held.items) (c.args.body.items ∷ [])))

@@ -14,16 +14,20 @@ loop-intake-preserved c =
     let first = length c.args.decoder.now.rest.octets in
     let before = length c.loop-intake.decoder.rest.octets in
     let now = length c.next.new.self.rest.octets in
-    let shorter : now < before = takes-shorter c.loop-intake.decoder.rest (frame_of c.in-Ok-Some.frame) c.next.new.self.rest (rw c.in-Ok-Some.field-0-is at c.in-Ok-Some.ensures.frame) in
+    let shorter : now < before =
+    takes-shorter c.loop-intake.decoder.rest (frame_of c.in-Ok-Some.frame) c.next.new.self.rest
+    (rw c.in-Ok-Some.field-0-is at c.in-Ok-Some.ensures.frame) in
     record {
-      taken = taken-more c.args.terms c.args.decoder.now.rest c.args.intake.now c.loop-intake.decoder.rest c.next.new.self.rest c.loop-intake.intake c.take_frame.new.intake (frame_of c.in-Ok-Some.frame) so_far.taken
+      taken = taken-more c.args.terms c.args.decoder.now.rest c.args.intake.now c.loop-intake.decoder.rest c.next.new.self.rest c.loop-intake.intake
+          c.take_frame.new.intake (frame_of c.in-Ok-Some.frame) so_far.taken
           (rw c.in-Ok-Some.field-0-is at c.in-Ok-Some.ensures.frame) c.in_ok-take_frame-in-Ok-Some.ensures.state c.in_ok-take_frame-in-Ok-Some.ensures.told;
       before = c.next.ensures.before ∙ so_far.before;
       kept = keeps-then (front_of c.args.intake.now) (front_of c.loop-intake.intake) (front_of c.take_frame.new.intake) so_far.kept c.take_frame.ensures.kept;
       fresh = c.take_frame.ensures.fresh;
       room = c.next.ensures.room ∙ so_far.room;
       less = omega (arith, so_far.less, shorter);
-      grows = grows-more (first - before) (first - now) c.args.intake.now c.loop-intake.intake c.take_frame.new.intake so_far.grows c.in_ok-take_frame-in-Ok-Some.ensures.grows
+      grows = grows-more (first - before) (first - now) c.args.intake.now c.loop-intake.intake c.take_frame.new.intake so_far.grows
+          c.in_ok-take_frame-in-Ok-Some.ensures.grows
           (omega (arith, so_far.less, shorter));
     }
 
@@ -49,7 +53,8 @@ returns-in-Ok-None c =
     let first = length c.args.decoder.now.rest.octets in
     let same : c.next.new.self ≡ c.loop-intake.decoder = rw c.in-Ok-None.field-0-is at c.in-Ok-None.ensures.none in
     let going = going-on intake.stage (bodies intake.held.items) c.in_default.not-Refused in
-    let taken = taken-partial c.args.terms c.args.decoder.now.rest c.args.intake.now c.loop-intake.decoder.rest intake so_far.taken (rw c.in-Ok-None.field-0-is at c.in-Ok-None.ensures.partial) going in
+    let taken = taken-partial c.args.terms c.args.decoder.now.rest c.args.intake.now c.loop-intake.decoder.rest intake so_far.taken
+    (rw c.in-Ok-None.field-0-is at c.in-Ok-None.ensures.partial) going in
     record {
       taken = subst (λ (d : Decoding). TakesFrames c.args.terms c.args.decoder.now.rest c.args.intake.now d.rest intake) (sym same) taken;
       before = c.next.ensures.before ∙ so_far.before;

@@ -12,4 +12,5 @@ pub returns-then-eq : goal.returns-then-eq
 returns-then-eq c =
     let socket_type = c.args.socket_type.now in
     sym (list_any-map (bytes_eq socket_type) (λ (one : Bor (List ℕ)). one.now) c.args.types.now
-    ∙ list_any_at (λ (one : Bor (List ℕ)). bytes_eq socket_type one.now) c.args.types.now c.loop-one.one-index _ c.loop-one-test.true (sym c.eq.ensures ∙ c.if-eq.true))
+    ∙ list_any_at (λ (one : Bor (List ℕ)). bytes_eq socket_type one.now) c.args.types.now c.loop-one.one-index _ c.loop-one-test.true
+    (sym c.eq.ensures ∙ c.if-eq.true))

@@ -10,11 +10,13 @@ loop-event-preserved c =
     let u = c.drop_named.new.counts in
     record {
       same = λ q. c.drop_named.ensures.same q ∙ c.loop-event.invariant.same q;
-      idle = drops-step (λ e q. names q (event_of e)) c.args.events.now c.loop-event.event-index c.event-item.result c.args.counts.now t u c.loop-event-test.true c.event-item.is
+      idle = drops-step (λ e q. names q (event_of e)) c.args.events.now c.loop-event.event-index c.event-item.result c.args.counts.now t u
+          c.loop-event-test.true c.event-item.is
           c.loop-event.invariant.idle c.drop_named.ensures.idle;
     }
 
 pub returns-clause-idle : goal.returns-clause-idle
 returns-clause-idle c =
-    drops-all (λ e q. names q (event_of e)) c.args.events.now c.loop-event.event-index c.args.counts.now c.loop-event.counts (omega (arith, c.loop-event-test.false))
+    drops-all (λ e q. names q (event_of e)) c.args.events.now c.loop-event.event-index c.args.counts.now c.loop-event.counts
+    (omega (arith, c.loop-event-test.false))
     c.loop-event.invariant.idle

@@ -24,7 +24,8 @@ returns-clause-steps c =
     let s = c.args.self.now in
     let n = (cell_at s.cells.now s.rest.front).value in
     let z : to_z w32 (of_z w32 n) ≡ n = grind (arith, to_z-of_z) in
-    values_open s.cells.now s.rest.front s.rest.count (omega arith) ∙ ap (λ n. n ∷ values_from s.cells.now (next_of s.cells.now s.rest.front) (s.rest.count - 1)) (sym z)
+    values_open s.cells.now s.rest.front s.rest.count (omega arith)
+    ∙ ap (λ n. n ∷ values_from s.cells.now (next_of s.cells.now s.rest.front) (s.rest.count - 1)) (sym z)
 
 pub returns-clause-goes : goal.returns-clause-goes
 unfolding values_of

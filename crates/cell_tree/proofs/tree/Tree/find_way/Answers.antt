@@ -26,5 +26,6 @@ pub returns-clause-kept : goal.returns-clause-kept
 returns-clause-kept g c =
     let inside = c.self.inside in
     let same : room_of inside.nodes inside.favourites c.find_way.new.way ≡ room_of inside.nodes inside.favourites inside.way =
-    ap (λ (n : ℕ). min (node_limit - vec_len inside.nodes) (min (spare inside.nodes) (min (spare inside.favourites) (n - vec_len inside.nodes)))) c.find_way.ensures.room in
+    ap (λ (n : ℕ). min (node_limit - vec_len inside.nodes) (min (spare inside.nodes) (min (spare inside.favourites) (n - vec_len inside.nodes))))
+    c.find_way.ensures.room in
     rw (← c.self.view_is) (rw (c.find_way.ensures.kept, same, c.deref.ensures.value) refl)

@@ -11,6 +11,7 @@ invariant_of-self g c =
     let t : Tree g.row.C.Denot = tree_of inside.nodes inside.favourites inside.way in
     let child : IsChild t c.args.node c.args.child = subst (λ (u : Tree g.row.C.Denot). IsChild u c.args.node c.args.child) (sym c.self.view_is) c.requires in
     record {
-      tree = tree_with_favourite t (room_of inside.nodes (with_item inside.favourites c.args.node c.args.child) inside.way) c.args.node c.args.child c.self.invariant.tree child;
+      tree = tree_with_favourite t (room_of inside.nodes (with_item inside.favourites c.args.node c.args.child) inside.way)
+          c.args.node c.args.child c.self.invariant.tree child;
       longest = c.self.invariant.longest;
     }

@@ -18,7 +18,8 @@ invariant_of-self-2 g c =
 pub returns-clause-pending_result : goal.returns-clause-pending_result
 returns-clause-pending_result g c =
     let e = c.in-Ok.pending_result in
-    let place : length c.minutes.result.now ≡ length c.args.self.now.kernel.machine.minutes = sym (length-map c.minutes.result.now entry_of) ∙ ap length c.minutes.ensures.entries in (
+    let place : length c.minutes.result.now ≡ length c.args.self.now.kernel.machine.minutes = sym (length-map c.minutes.result.now entry_of)
+    ∙ ap length c.minutes.ensures.entries in (
       e,
       subst (λ (n : ℕ). IsNewPending n c.args.wishes.items e) place c.in-Ok.ensures,
       c.push_reserved.ensures.items ∙ ap (λ es. es ++ e ∷ []) c.reserve.ensures.items,

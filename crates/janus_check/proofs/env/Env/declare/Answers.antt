@@ -14,9 +14,13 @@ returns-clause-ok c =
 pub invariant_of-self-2 : goal.invariant_of-self-2
 invariant_of-self-2 c =
     let absent = ap (λ s. kind_at (string_bytes c.args.name) (shape_in s.names)) c.self.view_is ∙ c.requires in
-    let more = seen_last (λ k. k) meant_kind c.self.inside.names c.insert.new.self.entries c.args.name c.args.kind c.self.invariant.0 absent c.in_ok-insert.ensures.entries in (
-      subst (AreNewNames []) (sym more) (added_more meant_kind [] (map (λ e. (string_bytes e.0, e.1)) c.self.inside.names.entries) (string_bytes c.args.name) c.args.kind c.self.invariant.0 absent),
+    let more = seen_last (λ k. k) meant_kind c.self.inside.names c.insert.new.self.entries c.args.name c.args.kind c.self.invariant.0 absent
+    c.in_ok-insert.ensures.entries in (
+      subst (AreNewNames []) (sym more)
+          (added_more meant_kind [] (map (λ e. (string_bytes e.0, e.1)) c.self.inside.names.entries) (string_bytes c.args.name)
+          c.args.kind c.self.invariant.0 absent),
       c.stacks_with-stacks.ensures ∙ ap (λ s. count_stack (meant_kind c.args.kind) (stack_count (shape_in s.names))) (sym c.self.view_is)
-          ∙ sym (ap (λ s. stack_count (shape_in s)) more ∙ stacks-append (map (λ e. (string_bytes e.0, e.1)) c.self.inside.names.entries) (string_bytes c.args.name) c.args.kind),
+          ∙ sym (ap (λ s. stack_count (shape_in s)) more ∙ stacks-append (map (λ e. (string_bytes e.0, e.1)) c.self.inside.names.entries)
+          (string_bytes c.args.name) c.args.kind),
       c.self.invariant.2,
     )

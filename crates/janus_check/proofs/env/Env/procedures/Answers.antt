@@ -7,5 +7,6 @@ use Rattle.janus_check.proofs.env.Env.procedures.Goals as goal
 
 pub returns-clause-distinct : goal.returns-clause-distinct
 returns-clause-distinct c =
-    c.len.ensures.len ∙ sym (length-map c.self.inside.procedures.entries (λ e. (string_bytes e.0, e.1.items))) ∙ sym (different_alone meant_kinds _ c.self.invariant.2)
+    c.len.ensures.len ∙ sym (length-map c.self.inside.procedures.entries (λ e. (string_bytes e.0, e.1.items)))
+    ∙ sym (different_alone meant_kinds _ c.self.invariant.2)
     ∙ ap (λ s. different (heads_in s.procedures)) c.self.view_is

@@ -8,5 +8,11 @@ pub returns-in-Declared : goal.returns-in-Declared
 returns-in-Declared t c =
     let env = c.in-Declared.env.now.names in
     let own = c.in-Declared.own.now.names in
-    omega
-    (arith, ap (λ s. length (in_sight s)) c.in-Declared.is, length-over (shape_in env) own, length-shape env, c.len.ensures.count, c.len-in-Declared.ensures.count)
+    omega (
+      arith,
+      ap (λ s. length (in_sight s)) c.in-Declared.is,
+      length-over (shape_in env) own,
+      length-shape env,
+      c.len.ensures.count,
+      c.len-in-Declared.ensures.count,
+    )

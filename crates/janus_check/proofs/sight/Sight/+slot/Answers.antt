@@ -14,7 +14,11 @@ slot-requires t c =
     let other = same_by x y false c.if-eq.ensures in
     let long = ap (λ s. length (in_sight s)) c.in-Local.is in (
       omega (arith, c.decreases, ap depth_of c.in-Local.is),
-      (seen_behind x (y, meant_kind c.in-Local.field-1) (in_sight c.in-Local.outer.now) other (subst (λ s. IsSeen (in_sight s) x) c.in-Local.is c.requires.seen), omega (arith, long, c.requires.small)),
+      (
+        seen_behind x (y, meant_kind c.in-Local.field-1) (in_sight c.in-Local.outer.now) other
+            (subst (λ s. IsSeen (in_sight s) x) c.in-Local.is c.requires.seen),
+        omega (arith, long, c.requires.small),
+      ),
     )
 
 pub returns-then-eq : goal.returns-then-eq

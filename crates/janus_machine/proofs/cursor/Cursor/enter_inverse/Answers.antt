@@ -13,6 +13,8 @@ pub returns-clause-place : goal.returns-clause-place
 returns-clause-place c = λ xs t hs.
     let b = c.args.book.now in
     let z : block_size (block_in xs b Inverse) - suc c.last-self.result ≡ 0 = omega (arith, c.last-self.ensures xs) in
-    ap (λ cs. within (frames_outside xs t b Inverse (reverse cs) hs) (row_place xs (book_in t b (reverse cs)) Inverse (block_size (block_in xs (book_in t b (reverse cs)) Inverse) - suc c.last-self.result))) c.clear.ensures.items
+    ap (λ cs. within (frames_outside xs t b Inverse (reverse cs) hs)
+    (row_place xs (book_in t b (reverse cs)) Inverse (block_size (block_in xs (book_in t b (reverse cs)) Inverse) - suc c.last-self.result)))
+    c.clear.ensures.items
     ∙ ap (λ n. within [] (row_place xs b Inverse n)) z
     ∙ ap (within []) (first_place Turned (block_in xs b Inverse))

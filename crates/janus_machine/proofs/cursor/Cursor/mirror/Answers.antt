@@ -26,9 +26,12 @@ returns-clause-place c = λ h stands.
     let cs = calls_of u in
     let to = c.saturating_sub-self.result in
     let end : c.last.result ≡ block_size (block_in h.names (book_in t b cs) d) - 1 =
-    c.last.ensures h.names ∙ ap (λ (l : Linear). block_size (code_block h.names l.code) - 1) (c.linear-linear.ensures ∙ ap (λ (k : Book). linear_in k d) (c.running.ensures ∙ ap (λ is. book_in t b (reverse is)) c.deref.ensures.value)) in
+    c.last.ensures h.names
+    ∙ ap (λ (l : Linear). block_size (code_block h.names l.code) - 1)
+    (c.linear-linear.ensures ∙ ap (λ (k : Book). linear_in k d) (c.running.ensures ∙ ap (λ is. book_in t b (reverse is)) c.deref.ensures.value)) in
     let left : to ≡ block_size (block_in h.names (book_in t b cs) d) - 1 - u.to_go = omega (arith, c.saturating_sub-self.ensures, end) in
-    ap (λ (w : Direction). within (frames_outside h.names t b w cs h.callers) (row_place h.names (book_in t b cs) w (block_size (block_in h.names (book_in t b cs) w) - suc to))) c.opposite-self.ensures
+    ap (λ (w : Direction). within (frames_outside h.names t b w cs h.callers)
+    (row_place h.names (book_in t b cs) w (block_size (block_in h.names (book_in t b cs) w) - suc to))) c.opposite-self.ensures
     ∙ turned_place h.names t b d cs h.callers u.to_go to stands.calls left
 
 pub returns-clause-stands : goal.returns-clause-stands
@@ -42,7 +45,9 @@ returns-clause-stands c = λ h stands.
     record {
       few = stands.few;
       calls = subst (λ (w : Direction). AreOpenCalls h.names t b w cs h.callers) (sym e) (open_turned h.names t b d cs h.callers stands.calls);
-      used = stands.used ∙ sym (frames_turned (frames_outside h.names t b d cs h.callers)) ∙ ap frames_in (sym (outside_turned h.names t b d cs h.callers stands.calls)) ∙ ap (λ (w : Direction). frames_in (frames_outside h.names t b w cs h.callers)) (sym e);
+      used = stands.used ∙ sym (frames_turned (frames_outside h.names t b d cs h.callers))
+          ∙ ap frames_in (sym (outside_turned h.names t b d cs h.callers stands.calls))
+          ∙ ap (λ (w : Direction). frames_in (frames_outside h.names t b w cs h.callers)) (sym e);
     }
 
 pub returns-clause-agrees : goal.returns-clause-agrees
@@ -55,12 +60,19 @@ returns-clause-agrees c = λ k h stands agrees.
     let to = c.saturating_sub-self.result in
     let way = c.opposite-self.ensures in
     let end : c.last.result ≡ block_size (block_in h.names (book_in t b cs) d) - 1 =
-    c.last.ensures h.names ∙ ap (λ (l : Linear). block_size (code_block h.names l.code) - 1) (c.linear-linear.ensures ∙ ap (λ (k : Book). linear_in k d) (c.running.ensures ∙ ap (λ is. book_in t b (reverse is)) c.deref.ensures.value)) in
+    c.last.ensures h.names
+    ∙ ap (λ (l : Linear). block_size (code_block h.names l.code) - 1)
+    (c.linear-linear.ensures ∙ ap (λ (k : Book). linear_in k d) (c.running.ensures ∙ ap (λ is. book_in t b (reverse is)) c.deref.ensures.value)) in
     let left : to ≡ block_size (block_in h.names (book_in t b cs) d) - 1 - u.to_go = omega (arith, c.saturating_sub-self.ensures, end) in
-    let row = ap (λ (w : Direction). row_place h.names (book_in t b cs) w (block_size (block_in h.names (book_in t b cs) w) - suc to)) way ∙ place_mirrored h.names (book_in t b cs) d u.to_go to left in
-    let whole = ap (λ (w : Direction). within (frames_outside h.names t b w cs h.callers) (row_place h.names (book_in t b cs) w (block_size (block_in h.names (book_in t b cs) w) - suc to))) way ∙ turned_place h.names t b d cs h.callers u.to_go to stands.calls left in
+    let row = ap (λ (w : Direction). row_place h.names (book_in t b cs) w (block_size (block_in h.names (book_in t b cs) w) - suc to)) way
+    ∙ place_mirrored h.names (book_in t b cs) d u.to_go to left in
+    let whole = ap
+    (λ (w : Direction). within (frames_outside h.names t b w cs h.callers)
+    (row_place h.names (book_in t b cs) w (block_size (block_in h.names (book_in t b cs) w) - suc to))) way
+    ∙ turned_place h.names t b d cs h.callers u.to_go to stands.calls left in
     record {
       stacks = agrees.stacks ∙ sym (stacks_turned k _ _ whole);
       size = agrees.size ∙ ap (λ (m : ℕ). own_names h.declared h.callers + m) (sym (locals_turned _ _ row));
-      callers = subst (λ (w : Direction). HaveLocals h.names t b h.declared w cs h.callers) (sym way) (callers_turned h.names t b h.declared d cs h.callers stands.calls agrees.callers);
+      callers = subst (λ (w : Direction). HaveLocals h.names t b h.declared w cs h.callers) (sym way)
+          (callers_turned h.names t b h.declared d cs h.callers stands.calls agrees.callers);
     }

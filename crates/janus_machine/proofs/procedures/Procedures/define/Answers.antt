@@ -17,17 +17,27 @@ wide : (c : goal.After-self-3-1) → c.index.result.now.procedure.name < length 
 wide c = c.args.self.now.wide c.args.index c.index.result.now (is_at c)
 
 same : (c : goal.After-self-3-1) → c.index_mut.result.now ≡ c.index.result.now
-same c = same_Some c.index_mut.result.now c.index.result.now (sym (slice_get_read c.args.self.now.bodies.items (length c.args.self.now.bodies.items) c.args.index c.index_mut.result.now refl (low c) c.index_mut.ensures.value) ∙ is_at c)
+same c = same_Some c.index_mut.result.now c.index.result.now
+    (sym (slice_get_read c.args.self.now.bodies.items (length c.args.self.now.bodies.items) c.args.index c.index_mut.result.now refl
+    (low c) c.index_mut.ensures.value) ∙ is_at c)
 
 hidden : (c : goal.After-self-3-1) → c.index-2.result.now ≡ get_or c.args.self.now.newest.items c.index.result.now.procedure.name 0
-hidden c = sym (get_or_from_slice_get c.args.self.now.newest.items c.index.result.now.procedure.name c.index-2.result.now 0 (slice_get_read c.args.self.now.newest.items (length c.args.self.now.newest.items) c.index.result.now.procedure.name c.index-2.result.now refl (wide c) c.index-2.ensures))
+hidden c = sym
+    (get_or_from_slice_get c.args.self.now.newest.items c.index.result.now.procedure.name c.index-2.result.now 0
+    (slice_get_read c.args.self.now.newest.items (length c.args.self.now.newest.items) c.index.result.now.procedure.name c.index-2.result.now refl
+    (wide c) c.index-2.ensures))
 
-bodies : (c : goal.After-self-3-1) → slice_set c.args.self.now.bodies.items c.args.index (record { procedure = c.index_mut.result.now.procedure; hidden = c.index-2.result.now }) ≡ slice_set c.args.self.now.bodies.items c.args.index (record { procedure = c.index.result.now.procedure; hidden = get_or c.args.self.now.newest.items c.index.result.now.procedure.name 0 })
+bodies : (c : goal.After-self-3-1) →
+    slice_set c.args.self.now.bodies.items c.args.index (record { procedure = c.index_mut.result.now.procedure; hidden = c.index-2.result.now }) ≡ slice_set
+    c.args.self.now.bodies.items c.args.index
+    (record { procedure = c.index.result.now.procedure; hidden = get_or c.args.self.now.newest.items c.index.result.now.procedure.name 0 })
 bodies c =
-    ap (λ (p : LinkedProcedure). slice_set c.args.self.now.bodies.items c.args.index (record { procedure = p; hidden = c.index-2.result.now })) (ap (λ (b : Body). b.procedure) (same c))
+    ap (λ (p : LinkedProcedure). slice_set c.args.self.now.bodies.items c.args.index (record { procedure = p; hidden = c.index-2.result.now }))
+    (ap (λ (b : Body). b.procedure) (same c))
     ∙ ap (λ (h : ℕ). slice_set c.args.self.now.bodies.items c.args.index (record { procedure = c.index.result.now.procedure; hidden = h })) (hidden c)
 
-newest : (c : goal.After-self-3-1) → slice_set c.args.self.now.newest.items c.index.result.now.procedure.name (c.args.index + 1) ≡ slice_set c.args.self.now.newest.items c.index.result.now.procedure.name (suc c.args.index)
+newest : (c : goal.After-self-3-1) → slice_set c.args.self.now.newest.items c.index.result.now.procedure.name
+    (c.args.index + 1) ≡ slice_set c.args.self.now.newest.items c.index.result.now.procedure.name (suc c.args.index)
 newest c = ap (slice_set c.args.self.now.newest.items c.index.result.now.procedure.name) (add-one c.args.index)
 
 pub returns-clause-kept : goal.returns-clause-kept

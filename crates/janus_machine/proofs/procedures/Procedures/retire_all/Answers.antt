@@ -12,5 +12,6 @@ loop-left-preserved c =
       c.retire.ensures.kept ∙ c.loop-left.invariant.1,
       λ stack h.
           c.retire.ensures.defined (onto c.args.first (c.loop-left.left - 1) stack)
-          (subst (λ (all : List ℕ). AreDefined c.loop-left.self all) (ap (λ (n : ℕ). onto c.args.first n stack) e ∙ onto_last c.args.first (c.loop-left.left - 1) stack) (c.loop-left.invariant.2 stack h)),
+          (subst (λ (all : List ℕ). AreDefined c.loop-left.self all)
+          (ap (λ (n : ℕ). onto c.args.first n stack) e ∙ onto_last c.args.first (c.loop-left.left - 1) stack) (c.loop-left.invariant.2 stack h)),
     )

@@ -5,7 +5,10 @@ use Rattle.janus_names.proofs.names.Names.number.Goals as goal
 
 pub returns-clause-met : goal.returns-clause-met
 returns-clause-met c =
-    subst (λ xs. IfSome c.get_index_of.result (λ i. IsNumbered xs i c.args.name.now)) c.self.view_is (if_numbered c.args.name.now c.self.inside.names.keys c.get_index_of.result c.get_index_of.ensures.index)
+    subst (λ xs. IfSome c.get_index_of.result (λ i. IsNumbered xs i c.args.name.now)) c.self.view_is
+    (if_numbered c.args.name.now c.self.inside.names.keys c.get_index_of.result c.get_index_of.ensures.index)
 
 pub returns-clause-unmet : goal.returns-clause-unmet
-returns-clause-unmet c = λ none. subst (λ xs. IsUnmet xs c.args.name.now) c.self.view_is (unmet_there c.args.name.now c.self.inside.names.keys (sym c.get_index_of.ensures.index ∙ none))
+returns-clause-unmet c =
+    λ none. subst (λ xs. IsUnmet xs c.args.name.now) c.self.view_is
+    (unmet_there c.args.name.now c.self.inside.names.keys (sym c.get_index_of.ensures.index ∙ none))

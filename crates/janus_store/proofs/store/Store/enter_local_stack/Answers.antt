@@ -44,7 +44,16 @@ put_own-requires-clause-room g c =
     let cs = reverse a.calls.items in
     let h = c.self.invariant.held in
     let H = c.args.self.now in
-    omega (arith, c.requires.room, names_are_held (holdings a) xs ns vs a.declared cs h H c.self.view_is, params_are_held (holdings a) xs ns vs a.declared cs h H c.self.view_is, bound_low (holdings a) xs ns vs a.declared cs h, ap (λ (h : StoreState). h.declared) c.self.view_is, c.self.invariant.room, a.variables.ok.0)
+    omega (
+      arith,
+      c.requires.room,
+      names_are_held (holdings a) xs ns vs a.declared cs h H c.self.view_is,
+      params_are_held (holdings a) xs ns vs a.declared cs h H c.self.view_is,
+      bound_low (holdings a) xs ns vs a.declared cs h,
+      ap (λ (h : StoreState). h.declared) c.self.view_is,
+      c.self.invariant.room,
+      a.variables.ok.0,
+    )
 
 pub put_own-requires-clause-places_room : goal.put_own-requires-clause-places_room
 put_own-requires-clause-places_room g c =
@@ -55,7 +64,16 @@ put_own-requires-clause-places_room g c =
     let cs = reverse a.calls.items in
     let h = c.self.invariant.held in
     let H = c.args.self.now in
-    omega (arith, c.requires.room, names_are_held (holdings a) xs ns vs a.declared cs h H c.self.view_is, params_are_held (holdings a) xs ns vs a.declared cs h H c.self.view_is, bound_low (holdings a) xs ns vs a.declared cs h, ap (λ (h : StoreState). h.declared) c.self.view_is, c.self.invariant.places_room, a.variables.ok.0)
+    omega (
+      arith,
+      c.requires.room,
+      names_are_held (holdings a) xs ns vs a.declared cs h H c.self.view_is,
+      params_are_held (holdings a) xs ns vs a.declared cs h H c.self.view_is,
+      bound_low (holdings a) xs ns vs a.declared cs h,
+      ap (λ (h : StoreState). h.declared) c.self.view_is,
+      c.self.invariant.places_room,
+      a.variables.ok.0,
+    )
 
 pub push_reserved-requires : goal.push_reserved-requires
 push_reserved-requires g c =
@@ -66,7 +84,17 @@ push_reserved-requires g c =
     let cs = reverse a.calls.items in
     let h = c.self.invariant.held in
     let H = c.args.self.now in
-    omega (arith, c.requires.room, names_are_held (holdings a) xs ns vs a.declared cs h H c.self.view_is, params_are_held (holdings a) xs ns vs a.declared cs h H c.self.view_is, bound_low (holdings a) xs ns vs a.declared cs h, ap (λ (h : StoreState). h.declared) c.self.view_is, c.self.invariant.numbers_room, c.self.invariant.beside, a.numbers.ok.0)
+    omega (
+      arith,
+      c.requires.room,
+      names_are_held (holdings a) xs ns vs a.declared cs h H c.self.view_is,
+      params_are_held (holdings a) xs ns vs a.declared cs h H c.self.view_is,
+      bound_low (holdings a) xs ns vs a.declared cs h,
+      ap (λ (h : StoreState). h.declared) c.self.view_is,
+      c.self.invariant.numbers_room,
+      c.self.invariant.beside,
+      a.numbers.ok.0,
+    )
 
 pub invariant_of-self : goal.invariant_of-self
 invariant_of-self g c =
@@ -85,7 +113,8 @@ invariant_of-self g c =
     let fits : length vs ≤ length a.numbers.items = omega (arith, c.self.invariant.beside) in
     let on : List (List ℤ) → Holdings = λ ls. record { lists = ls; numbers = all; texts = a.texts } in
     let wide = on a.stacks.lists in
-    let wider : held_in (holdings a) xs a.declared vs cs ≡ held_in wide xs a.declared vs cs = same_beside a.texts a.stacks.lists a.numbers.items more all is xs a.declared vs cs h.nested fits in
+    let wider : held_in (holdings a) xs a.declared vs cs ≡ held_in wide xs a.declared vs cs =
+    same_beside a.texts a.stacks.lists a.numbers.items more all is xs a.declared vs cs h.nested fits in
     let k : IsHeld wide xs ns vs a.declared cs = held_longer a.texts a.stacks.lists a.numbers.items more all is xs ns vs a.declared cs fits h in
     let view : held_in wide xs a.declared vs cs ≡ H = sym wider ∙ c.self.view_is in
     let last : slice_index_or all (length vs) (pos 0) ≡ pos 0 = last_number a.numbers.items all (pos 0) (length vs) is c.self.invariant.beside in
@@ -121,9 +150,12 @@ invariant_of-self g c =
         c.self.invariant.values,
         ap values_held c.self.view_is,
       );
-      apart = λ i. let z = times_put i vs y in let w = ap (λ (l : List Variable). times i (stacks_of l)) c.put_own.ensures.variables in let b = ap (times i) spare in let t = times_append i left (number_in y.value) in let o = c.self.invariant.apart i in omega (arith, z, w, b, t, o);
-      known = λ i le. let z = times_put i vs y in let w = ap (λ (l : List Variable). times i (stacks_of l)) c.put_own.ensures.variables in let b = ap (times i) spare in let t = times_append i left (number_in y.value) in let o = c.self.invariant.known i le in omega (arith, z, w, b, t, o);
-      beside = omega (arith, ap length is, length-append a.numbers.items more, ap length c.put_own.ensures.variables, length-append vs (y ∷ []), c.self.invariant.beside);
+      apart = λ i. let z = times_put i vs y in let w = ap (λ (l : List Variable). times i (stacks_of l)) c.put_own.ensures.variables in let b =
+          ap (times i) spare in let t = times_append i left (number_in y.value) in let o = c.self.invariant.apart i in omega (arith, z, w, b, t, o);
+      known = λ i le. let z = times_put i vs y in let w = ap (λ (l : List Variable). times i (stacks_of l)) c.put_own.ensures.variables in let b =
+          ap (times i) spare in let t = times_append i left (number_in y.value) in let o = c.self.invariant.known i le in omega (arith, z, w, b, t, o);
+      beside = omega
+          (arith, ap length is, length-append a.numbers.items more, ap length c.put_own.ensures.variables, length-append vs (y ∷ []), c.self.invariant.beside);
       room = omega (arith, c.self.invariant.room, c.put_own.ensures.room);
       numbers_room = omega (arith, c.self.invariant.numbers_room, c.push_reserved.ensures.capacity);
       call_room = c.self.invariant.call_room;
@@ -131,7 +163,8 @@ invariant_of-self g c =
       counted = counted_over vs ws y cs (start_low (holdings a) xs ns vs a.declared cs h) c.put_own.ensures.variables c.self.invariant.counted;
       places_room = omega (arith, c.self.invariant.places_room, c.put_own.ensures.places_room);
       in_front = c.self.invariant.in_front;
-      told = told_more a.texts a.declared vs ws (y ∷ []) (enough (holdings a) xs ns a.declared vs cs h c.self.invariant.told) c.put_own.ensures.variables c.self.invariant.told;
+      told = told_more a.texts a.declared vs ws (y ∷ []) (enough (holdings a) xs ns a.declared vs cs h c.self.invariant.told)
+          c.put_own.ensures.variables c.self.invariant.told;
     })
 
 pub returns : goal.returns
@@ -150,7 +183,8 @@ returns g c = λ x known.
     let fits : length vs ≤ length a.numbers.items = omega (arith, c.self.invariant.beside) in
     let on : List (List ℤ) → Holdings = λ ls. record { lists = ls; numbers = all; texts = a.texts } in
     let wide = on a.stacks.lists in
-    let wider : held_in (holdings a) xs a.declared vs cs ≡ held_in wide xs a.declared vs cs = same_beside a.texts a.stacks.lists a.numbers.items more all is xs a.declared vs cs h.nested fits in
+    let wider : held_in (holdings a) xs a.declared vs cs ≡ held_in wide xs a.declared vs cs =
+    same_beside a.texts a.stacks.lists a.numbers.items more all is xs a.declared vs cs h.nested fits in
     let k : IsHeld wide xs ns vs a.declared cs = held_longer a.texts a.stacks.lists a.numbers.items more all is xs ns vs a.declared cs fits h in
     let view : held_in wide xs a.declared vs cs ≡ H = sym wider ∙ c.self.view_is in
     let last : slice_index_or all (length vs) (pos 0) ≡ pos 0 = last_number a.numbers.items all (pos 0) (length vs) is c.self.invariant.beside in

@@ -19,7 +19,8 @@ index-variable-requires g c =
     let cs = reverse a.calls.items in
     let h = c.self.invariant.held in
     let H = c.args.self.now in
-    let size = ap (λ (h : StoreState). size_of (shown_store h)) (sym c.self.view_is) ∙ declared_size (holdings a) xs ns a.declared vs cs h c.self.invariant.told in
+    let size = ap (λ (h : StoreState). size_of (shown_store h)) (sym c.self.view_is)
+    ∙ declared_size (holdings a) xs ns a.declared vs cs h c.self.invariant.told in
     omega (arith, c.requires, size, enough (holdings a) xs ns a.declared vs cs h c.self.invariant.told, a.variables.ok.0)
 
 pub beside-requires : goal.beside-requires
@@ -31,8 +32,16 @@ beside-requires g c =
     let cs = reverse a.calls.items in
     let h = c.self.invariant.held in
     let H = c.args.self.now in
-    let size = ap (λ (h : StoreState). size_of (shown_store h)) (sym c.self.view_is) ∙ declared_size (holdings a) xs ns a.declared vs cs h c.self.invariant.told in
-    omega (arith, c.requires, size, enough (holdings a) xs ns a.declared vs cs h c.self.invariant.told, c.self.invariant.beside, ap length c.deref.ensures.value)
+    let size = ap (λ (h : StoreState). size_of (shown_store h)) (sym c.self.view_is)
+    ∙ declared_size (holdings a) xs ns a.declared vs cs h c.self.invariant.told in
+    omega (
+      arith,
+      c.requires,
+      size,
+      enough (holdings a) xs ns a.declared vs cs h c.self.invariant.told,
+      c.self.invariant.beside,
+      ap length c.deref.ensures.value,
+    )
 
 pub returns : goal.returns
 returns g c =
@@ -43,10 +52,13 @@ returns g c =
     let cs = reverse a.calls.items in
     let h = c.self.invariant.held in
     let H = c.args.self.now in
-    let size = ap (λ (h : StoreState). size_of (shown_store h)) (sym c.self.view_is) ∙ declared_size (holdings a) xs ns a.declared vs cs h c.self.invariant.told in
+    let size = ap (λ (h : StoreState). size_of (shown_store h)) (sym c.self.view_is)
+    ∙ declared_size (holdings a) xs ns a.declared vs cs h c.self.invariant.told in
     let v = c.index-variable.result.now in
-    let at = listed_at (holdings a) xs ns a.declared vs cs h c.self.invariant.told c.args.i c.name.result.now v (omega (arith, c.requires, size)) c.name.ensures c.index-variable.ensures in
-    let beside : slice_index_or a.numbers.items c.args.i (pos 0) ≡ c.beside.result = ap (λ l. slice_index_or l c.args.i (pos 0)) (sym c.deref.ensures.value) ∙ c.beside.ensures in
+    let at = listed_at (holdings a) xs ns a.declared vs cs h c.self.invariant.told c.args.i c.name.result.now v (omega (arith, c.requires, size))
+    c.name.ensures c.index-variable.ensures in
+    let beside : slice_index_or a.numbers.items c.args.i (pos 0) ≡ c.beside.result = ap (λ l. slice_index_or l c.args.i (pos 0)) (sym c.deref.ensures.value)
+    ∙ c.beside.ensures in
     ap (λ (h : StoreState). slice_get (listed (shown_store h)) c.args.i) (sym c.self.view_is) ∙ at
     ∙ ap (λ n. Some (c.name.result.now, val_in a.stacks.lists n v.value)) (beside ∙ sym (to_z-of_z w32 c.beside.result (record { sfits = c.beside.type_inv })))
     ∙ ap (λ u. Some (c.name.result.now, u)) (sym c.view.ensures)
@@ -59,7 +71,8 @@ name-requires g c =
     let vs = a.variables.items in
     let cs = reverse a.calls.items in
     let h = c.self.invariant.held in
-    let size = ap (λ (h : StoreState). size_of (shown_store h)) (sym c.self.view_is) ∙ declared_size (holdings a) xs ns a.declared vs cs h c.self.invariant.told in
+    let size = ap (λ (h : StoreState). size_of (shown_store h)) (sym c.self.view_is)
+    ∙ declared_size (holdings a) xs ns a.declared vs cs h c.self.invariant.told in
     omega (arith, c.requires, size, c.self.invariant.told.many)
 
 pub view-requires : goal.view-requires
@@ -70,7 +83,10 @@ view-requires g c =
     let vs = a.variables.items in
     let cs = reverse a.calls.items in
     let h = c.self.invariant.held in
-    let size = ap (λ (h : StoreState). size_of (shown_store h)) (sym c.self.view_is) ∙ declared_size (holdings a) xs ns a.declared vs cs h c.self.invariant.told in
+    let size = ap (λ (h : StoreState). size_of (shown_store h)) (sym c.self.view_is)
+    ∙ declared_size (holdings a) xs ns a.declared vs cs h c.self.invariant.told in
     let v = c.index-variable.result.now in
-    let at : slice_get vs c.args.i ≡ Some v = slice_get_read vs (length vs) c.args.i v refl (omega (arith, c.requires, size, enough (holdings a) xs ns a.declared vs cs h c.self.invariant.told)) c.index-variable.ensures in
+    let at : slice_get vs c.args.i ≡ Some v =
+    slice_get_read vs (length vs) c.args.i v refl (omega (arith, c.requires, size, enough (holdings a) xs ns a.declared vs cs h c.self.invariant.told))
+    c.index-variable.ensures in
     is_known vs (λ i le. let o = c.self.invariant.known i le in omega (arith, o)) c.args.i v at

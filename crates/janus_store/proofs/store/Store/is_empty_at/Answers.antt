@@ -27,8 +27,12 @@ nth-place-requires g c =
     let h = c.self.invariant.held in
     let H = c.args.self.now in
     let told = c.self.invariant.in_front in
-    let t = nth_there (holdings a) xs ns vs a.declared cs h a.places c.self.invariant.sorted c.self.invariant.counted H c.self.view_is kinds.Stack c.args.k c.requires.0 c.requires.1 in
-    (t.0, ap (λ l. slice_get l (a.in_front.stacks + c.args.k)) c.stacks.ensures ∙ ap (λ (ls : Lengths). slice_get a.places.stacks (ls.stacks + c.args.k)) told ∙ t.1)
+    let t = nth_there (holdings a) xs ns vs a.declared cs h a.places c.self.invariant.sorted c.self.invariant.counted H c.self.view_is kinds.Stack c.args.k
+    c.requires.0 c.requires.1 in (
+      t.0,
+      ap (λ l. slice_get l (a.in_front.stacks + c.args.k)) c.stacks.ensures ∙ ap (λ (ls : Lengths). slice_get a.places.stacks (ls.stacks + c.args.k)) told
+          ∙ t.1,
+    )
 
 pub index-requires : goal.index-requires
 index-requires g c =
@@ -41,8 +45,11 @@ index-requires g c =
     let H = c.args.self.now in
     let told = c.self.invariant.in_front in
     let p = c.nth-place.result in
-    let e : slice_get a.places.stacks ((lengths_before cs).stacks + c.args.k) ≡ Some p = ap (λ (ls : Lengths). slice_get a.places.stacks (ls.stacks + c.args.k)) (sym told) ∙ ap (λ l. slice_get l (a.in_front.stacks + c.args.k)) (sym c.stacks.ensures) ∙ c.nth-place.ensures in
-    let r = nth_found (holdings a) xs ns vs a.declared cs h a.places c.self.invariant.sorted c.self.invariant.counted H c.self.view_is kinds.Stack c.args.k c.requires.0 c.requires.1 p e in
+    let e : slice_get a.places.stacks ((lengths_before cs).stacks + c.args.k) ≡ Some p =
+    ap (λ (ls : Lengths). slice_get a.places.stacks (ls.stacks + c.args.k)) (sym told)
+    ∙ ap (λ l. slice_get l (a.in_front.stacks + c.args.k)) (sym c.stacks.ensures) ∙ c.nth-place.ensures in
+    let r = nth_found (holdings a) xs ns vs a.declared cs h a.places c.self.invariant.sorted c.self.invariant.counted H c.self.view_is kinds.Stack c.args.k
+    c.requires.0 c.requires.1 p e in
     omega (arith, place_fits (holdings a) xs ns vs a.declared cs h H c.self.view_is r.number c.requires.0 r.value p r.named r.seen r.place, a.variables.ok.0)
 
 pub stack-requires : goal.stack-requires
@@ -56,8 +63,11 @@ stack-requires g c =
     let H = c.args.self.now in
     let told = c.self.invariant.in_front in
     let p = c.nth-place.result in
-    let e : slice_get a.places.stacks ((lengths_before cs).stacks + c.args.k) ≡ Some p = ap (λ (ls : Lengths). slice_get a.places.stacks (ls.stacks + c.args.k)) (sym told) ∙ ap (λ l. slice_get l (a.in_front.stacks + c.args.k)) (sym c.stacks.ensures) ∙ c.nth-place.ensures in
-    let r = nth_found (holdings a) xs ns vs a.declared cs h a.places c.self.invariant.sorted c.self.invariant.counted H c.self.view_is kinds.Stack c.args.k c.requires.0 c.requires.1 p e in
+    let e : slice_get a.places.stacks ((lengths_before cs).stacks + c.args.k) ≡ Some p =
+    ap (λ (ls : Lengths). slice_get a.places.stacks (ls.stacks + c.args.k)) (sym told)
+    ∙ ap (λ l. slice_get l (a.in_front.stacks + c.args.k)) (sym c.stacks.ensures) ∙ c.nth-place.ensures in
+    let r = nth_found (holdings a) xs ns vs a.declared cs h a.places c.self.invariant.sorted c.self.invariant.counted H c.self.view_is kinds.Stack c.args.k
+    c.requires.0 c.requires.1 p e in
     let v = c.index.result.now in
     let same = value_is (holdings a) xs ns vs a.declared cs h H c.self.view_is r.number c.requires.0 r.value p v r.named r.seen r.place c.index.ensures in
     let l = stack_value r.value r.kind in
@@ -74,15 +84,21 @@ length-requires g c =
     let H = c.args.self.now in
     let told = c.self.invariant.in_front in
     let p = c.nth-place.result in
-    let e : slice_get a.places.stacks ((lengths_before cs).stacks + c.args.k) ≡ Some p = ap (λ (ls : Lengths). slice_get a.places.stacks (ls.stacks + c.args.k)) (sym told) ∙ ap (λ l. slice_get l (a.in_front.stacks + c.args.k)) (sym c.stacks.ensures) ∙ c.nth-place.ensures in
-    let r = nth_found (holdings a) xs ns vs a.declared cs h a.places c.self.invariant.sorted c.self.invariant.counted H c.self.view_is kinds.Stack c.args.k c.requires.0 c.requires.1 p e in
+    let e : slice_get a.places.stacks ((lengths_before cs).stacks + c.args.k) ≡ Some p =
+    ap (λ (ls : Lengths). slice_get a.places.stacks (ls.stacks + c.args.k)) (sym told)
+    ∙ ap (λ l. slice_get l (a.in_front.stacks + c.args.k)) (sym c.stacks.ensures) ∙ c.nth-place.ensures in
+    let r = nth_found (holdings a) xs ns vs a.declared cs h a.places c.self.invariant.sorted c.self.invariant.counted H c.self.view_is kinds.Stack c.args.k
+    c.requires.0 c.requires.1 p e in
     let w = c.index.result.now in
-    let there : slice_get vs p ≡ Some w = slice_get_read vs (length vs) p w refl (place_fits (holdings a) xs ns vs a.declared cs h H c.self.view_is r.number c.requires.0 r.value p r.named r.seen r.place) c.index.ensures in
+    let there : slice_get vs p ≡ Some w =
+    slice_get_read vs (length vs) p w refl
+    (place_fits (holdings a) xs ns vs a.declared cs h H c.self.view_is r.number c.requires.0 r.value p r.named r.seen r.place) c.index.ensures in
     let i = c.stack.result in
     let s : IsStackOf ns vs r.number i = (p, w, r.place, there, c.stack.ensures) in
     let l = stack_value r.value r.kind in
     let seen = r.seen ∙ ap Fine l.1 in
-    stack_low (holdings a) xs ns vs a.declared cs h H c.self.view_is r.number c.requires.0 l.0 r.named seen i s (λ j le. let o = c.self.invariant.known j le in omega (arith, o))
+    stack_low (holdings a) xs ns vs a.declared cs h H c.self.view_is r.number c.requires.0 l.0 r.named seen i s
+    (λ j le. let o = c.self.invariant.known j le in omega (arith, o))
 
 pub returns : goal.returns
 returns g c = λ x l nth f.
@@ -95,10 +111,15 @@ returns g c = λ x l nth f.
     let H = c.args.self.now in
     let told = c.self.invariant.in_front in
     let p = c.nth-place.result in
-    let e : slice_get a.places.stacks ((lengths_before cs).stacks + c.args.k) ≡ Some p = ap (λ (ls : Lengths). slice_get a.places.stacks (ls.stacks + c.args.k)) (sym told) ∙ ap (λ l. slice_get l (a.in_front.stacks + c.args.k)) (sym c.stacks.ensures) ∙ c.nth-place.ensures in
-    let r = nth_found (holdings a) xs ns vs a.declared cs h a.places c.self.invariant.sorted c.self.invariant.counted H c.self.view_is kinds.Stack c.args.k x nth p e in
+    let e : slice_get a.places.stacks ((lengths_before cs).stacks + c.args.k) ≡ Some p =
+    ap (λ (ls : Lengths). slice_get a.places.stacks (ls.stacks + c.args.k)) (sym told)
+    ∙ ap (λ l. slice_get l (a.in_front.stacks + c.args.k)) (sym c.stacks.ensures) ∙ c.nth-place.ensures in
+    let r = nth_found (holdings a) xs ns vs a.declared cs h a.places c.self.invariant.sorted c.self.invariant.counted H c.self.view_is kinds.Stack c.args.k x
+    nth p e in
     let w = c.index.result.now in
-    let there : slice_get vs p ≡ Some w = slice_get_read vs (length vs) p w refl (place_fits (holdings a) xs ns vs a.declared cs h H c.self.view_is r.number x r.value p r.named r.seen r.place) c.index.ensures in
+    let there : slice_get vs p ≡ Some w =
+    slice_get_read vs (length vs) p w refl (place_fits (holdings a) xs ns vs a.declared cs h H c.self.view_is r.number x r.value p r.named r.seen r.place)
+    c.index.ensures in
     let i = c.stack.result in
     let s : IsStackOf ns vs r.number i = (p, w, r.place, there, c.stack.ensures) in
     let at = list_is (holdings a) xs ns vs a.declared cs h H c.self.view_is r.number x l r.named f i s in

@@ -102,8 +102,15 @@ take_back-requires-clause-room g c =
     let was = left_over (holdings a) xs ns vs a.declared cs h y ms ws gone newest above over H c.self.view_is in
     let left = held_in (holdings a) xs a.declared ws cs in
     let top : H.slots ≡ Slot (name_among xs y) (val_at (holdings a) (length ws) y.value) left.slots = ap (λ (h : StoreState). h.slots) was in
-    let slots : live_stacks H ≡ stacks_with (val_at (holdings a) (length ws) y.value) (live_stacks left) = ap live_stacks was ∙ more_stacks (val_at (holdings a) (length ws) y.value) (stacks_in left.slots) (stacks_lent left.callers) in
-    omega (arith, with_number a.stacks.lists (slice_index_or a.numbers.items (length ws) (pos 0)) y.value (live_stacks left), slots, c.self.invariant.stacks, ap live_stacks c.self.view_is)
+    let slots : live_stacks H ≡ stacks_with (val_at (holdings a) (length ws) y.value) (live_stacks left) =
+    ap live_stacks was ∙ more_stacks (val_at (holdings a) (length ws) y.value) (stacks_in left.slots) (stacks_lent left.callers) in
+    omega (
+      arith,
+      with_number a.stacks.lists (slice_index_or a.numbers.items (length ws) (pos 0)) y.value (live_stacks left),
+      slots,
+      c.self.invariant.stacks,
+      ap live_stacks c.self.view_is,
+    )
 
 pub invariant_of-self : goal.invariant_of-self
 invariant_of-self g c =
@@ -130,14 +137,17 @@ invariant_of-self g c =
     let tail : a.numbers.items ≡ few ++ more = sym (ap (λ l. l ++ drop n a.numbers.items) cut ∙ take-append-drop n a.numbers.items) in
     let is_long : n ≡ length ws = omega (arith, c.len.ensures, c.remove_own-value.new.variables.ok.0) in
     let was_long : length vs ≡ suc (length ws) = omega (arith, ap length gone, length-append ws (y ∷ [])) in
-    let few_long : length few ≡ length ws = omega (arith, ap length cut, length-take-le n a.numbers.items (omega (arith, is_long, was_long, c.self.invariant.beside)), is_long) in
+    let few_long : length few ≡ length ws =
+    omega (arith, ap length cut, length-take-le n a.numbers.items (omega (arith, is_long, was_long, c.self.invariant.beside)), is_long) in
     let fits : length ws ≤ length few = omega (arith, few_long) in
     let on : List (List ℤ) → Holdings = λ ls. record { lists = ls; numbers = few; texts = a.texts } in
     let nested = left_nested (holdings a) xs ns vs a.declared cs h y ms ws gone newest above over in
-    let shorter : held_in (on a.stacks.lists) xs a.declared ws cs ≡ held_in (holdings a) xs a.declared ws cs = same_beside a.texts a.stacks.lists few more a.numbers.items tail xs a.declared ws cs nested fits in
+    let shorter : held_in (on a.stacks.lists) xs a.declared ws cs ≡ held_in (holdings a) xs a.declared ws cs =
+    same_beside a.texts a.stacks.lists few more a.numbers.items tail xs a.declared ws cs nested fits in
     let left = held_in (holdings a) xs a.declared ws cs in
     let top : H.slots ≡ Slot (name_among xs y) (val_at (holdings a) (length ws) y.value) left.slots = ap (λ (h : StoreState). h.slots) was in
-    let slots : live_stacks H ≡ stacks_with (val_at (holdings a) (length ws) y.value) (live_stacks left) = ap live_stacks was ∙ more_stacks (val_at (holdings a) (length ws) y.value) (stacks_in left.slots) (stacks_lent left.callers) in
+    let slots : live_stacks H ≡ stacks_with (val_at (holdings a) (length ws) y.value) (live_stacks left) =
+    ap live_stacks was ∙ more_stacks (val_at (holdings a) (length ws) y.value) (stacks_in left.slots) (stacks_lent left.callers) in
     let lists = ap (λ (s : Pooled). s.lists) c.take_back.ensures in
     let spare = ap (λ (s : Pooled). s.spare) c.take_back.ensures in
     let e = c.requires.empty in
@@ -146,11 +156,34 @@ invariant_of-self g c =
     let none : held_by (val_at (holdings a) (length ws) y.value) ≡ 0 = ap held_by same in
     kept_over xs _ stay (record {
       held = subst (λ ls. IsHeld (on ls) xs ms ws a.declared cs) (sym lists)
-          (held_shorter a.texts a.stacks.lists few more a.numbers.items tail xs ms ws a.declared cs fits (left_held (holdings a) xs ns vs a.declared cs h y ms ws gone newest above over a.declared (omega arith) (still_declared (holdings a) xs ns vs a.declared cs h y ms ws gone newest H c.self.view_is c.requires.local) (omega arith)));
-      stacks = omega (arith, ap live_stacks shorter, ap (λ ls. live_stacks (held_in (on ls) xs a.declared ws cs)) lists, with_number a.stacks.lists (slice_index_or a.numbers.items (length ws) (pos 0)) y.value (live_stacks left), ap length spare, length-append a.stacks.spare (number_in y.value), slots, c.self.invariant.stacks, ap live_stacks c.self.view_is);
-      values = omega (arith, ap values_held shorter, ap (λ ls. values_held (held_in (on ls) xs a.declared ws cs)) lists, ap total lists, c.self.invariant.values, ap values_held c.self.view_is, ap values_held was, none);
-      apart = λ i. let z = times_left vs ws y gone i in let w = ap (times i) spare in let t = times_append i a.stacks.spare (number_in y.value) in let o = c.self.invariant.apart i in omega (arith, z, w, t, o);
-      known = λ i le. let z = times_left vs ws y gone i in let w = ap (times i) spare in let t = times_append i a.stacks.spare (number_in y.value) in let o = c.self.invariant.known i le in omega (arith, z, w, t, o);
+          (held_shorter a.texts a.stacks.lists few more a.numbers.items tail xs ms ws a.declared cs fits
+          (left_held (holdings a) xs ns vs a.declared cs h y ms ws gone newest above over a.declared (omega arith)
+          (still_declared (holdings a) xs ns vs a.declared cs h y ms ws gone newest H c.self.view_is c.requires.local) (omega arith)));
+      stacks = omega (
+        arith,
+        ap live_stacks shorter,
+        ap (λ ls. live_stacks (held_in (on ls) xs a.declared ws cs)) lists,
+        with_number a.stacks.lists (slice_index_or a.numbers.items (length ws) (pos 0)) y.value (live_stacks left),
+        ap length spare,
+        length-append a.stacks.spare (number_in y.value),
+        slots,
+        c.self.invariant.stacks,
+        ap live_stacks c.self.view_is,
+      );
+      values = omega (
+        arith,
+        ap values_held shorter,
+        ap (λ ls. values_held (held_in (on ls) xs a.declared ws cs)) lists,
+        ap total lists,
+        c.self.invariant.values,
+        ap values_held c.self.view_is,
+        ap values_held was,
+        none,
+      );
+      apart = λ i. let z = times_left vs ws y gone i in let w = ap (times i) spare in let t = times_append i a.stacks.spare (number_in y.value) in let o =
+          c.self.invariant.apart i in omega (arith, z, w, t, o);
+      known = λ i le. let z = times_left vs ws y gone i in let w = ap (times i) spare in let t = times_append i a.stacks.spare (number_in y.value) in let o =
+          c.self.invariant.known i le in omega (arith, z, w, t, o);
       beside = few_long;
       room = omega (arith, c.self.invariant.room, c.remove_own-value.ensures.room);
       numbers_room = omega (arith, c.self.invariant.numbers_room, c.truncate.ensures.capacity);
@@ -187,15 +220,19 @@ returns g c = λ x r e.
     let tail : a.numbers.items ≡ few ++ more = sym (ap (λ l. l ++ drop n a.numbers.items) cut ∙ take-append-drop n a.numbers.items) in
     let is_long : n ≡ length ws = omega (arith, c.len.ensures, c.remove_own-value.new.variables.ok.0) in
     let was_long : length vs ≡ suc (length ws) = omega (arith, ap length gone, length-append ws (y ∷ [])) in
-    let few_long : length few ≡ length ws = omega (arith, ap length cut, length-take-le n a.numbers.items (omega (arith, is_long, was_long, c.self.invariant.beside)), is_long) in
+    let few_long : length few ≡ length ws =
+    omega (arith, ap length cut, length-take-le n a.numbers.items (omega (arith, is_long, was_long, c.self.invariant.beside)), is_long) in
     let fits : length ws ≤ length few = omega (arith, few_long) in
     let on : List (List ℤ) → Holdings = λ ls. record { lists = ls; numbers = few; texts = a.texts } in
     let nested = left_nested (holdings a) xs ns vs a.declared cs h y ms ws gone newest above over in
-    let shorter : held_in (on a.stacks.lists) xs a.declared ws cs ≡ held_in (holdings a) xs a.declared ws cs = same_beside a.texts a.stacks.lists few more a.numbers.items tail xs a.declared ws cs nested fits in
+    let shorter : held_in (on a.stacks.lists) xs a.declared ws cs ≡ held_in (holdings a) xs a.declared ws cs =
+    same_beside a.texts a.stacks.lists few more a.numbers.items tail xs a.declared ws cs nested fits in
     let left = held_in (holdings a) xs a.declared ws cs in
     let top : H.slots ≡ Slot (name_among xs y) (val_at (holdings a) (length ws) y.value) left.slots = ap (λ (h : StoreState). h.slots) was in
     let both : Slot (name_among xs y) (val_at (holdings a) (length ws) y.value) left.slots ≡ Slot x (Stk []) r = sym top ∙ e in
     let rest : left.slots ≡ r = cc in
     let lists = ap (λ (s : Pooled). s.lists) c.take_back.ensures in
     ap (λ l. held_in (on c.take_back.new.stacks.lists) l a.declared ws cs) stay
-    ∙ ap (λ ls. held_in (on ls) xs a.declared ws cs) lists ∙ shorter ∙ same_state rest (ap (λ (h : StoreState). h.declared) c.self.view_is) (ap (λ (h : StoreState). h.texts) c.self.view_is) (ap (λ (h : StoreState). h.names) c.self.view_is) (sym (ap (λ (h : StoreState). h.callers) was))
+    ∙ ap (λ ls. held_in (on ls) xs a.declared ws cs) lists ∙ shorter
+    ∙ same_state rest (ap (λ (h : StoreState). h.declared) c.self.view_is) (ap (λ (h : StoreState). h.texts) c.self.view_is)
+    (ap (λ (h : StoreState). h.names) c.self.view_is) (sym (ap (λ (h : StoreState). h.callers) was))

@@ -27,7 +27,8 @@ length-requires g c =
     let H = c.args.self.now in
     let i = c.stack.result in
     let s = lent_stack c.deref.result.now ns c.deref-2.result.now vs c.args.name i (sym c.deref.ensures.value) (sym c.deref-2.ensures.value) c.stack.ensures in
-    stack_low (holdings a) xs ns vs a.declared cs h H c.self.view_is c.args.name c.requires.0 c.requires.2.0 c.requires.1 c.requires.2.1 i s (λ j le. let o = c.self.invariant.known j le in omega (arith, o))
+    stack_low (holdings a) xs ns vs a.declared cs h H c.self.view_is c.args.name c.requires.0 c.requires.2.0 c.requires.1 c.requires.2.1 i s
+    (λ j le. let o = c.self.invariant.known j le in omega (arith, o))
 
 pub returns : goal.returns
 returns g c = λ x l named f.

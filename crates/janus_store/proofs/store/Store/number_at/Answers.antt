@@ -22,8 +22,12 @@ nth-place-requires g c =
     let h = c.self.invariant.held in
     let H = c.args.self.now in
     let told = c.self.invariant.in_front in
-    let t = nth_there (holdings a) xs ns vs a.declared cs h a.places c.self.invariant.sorted c.self.invariant.counted H c.self.view_is kinds.Number c.args.k c.requires.0 c.requires.1 in
-    (t.0, ap (λ l. slice_get l (a.in_front.numbers + c.args.k)) c.numbers.ensures ∙ ap (λ (ls : Lengths). slice_get a.places.numbers (ls.numbers + c.args.k)) told ∙ t.1)
+    let t = nth_there (holdings a) xs ns vs a.declared cs h a.places c.self.invariant.sorted c.self.invariant.counted H c.self.view_is kinds.Number c.args.k
+    c.requires.0 c.requires.1 in (
+      t.0,
+      ap (λ l. slice_get l (a.in_front.numbers + c.args.k)) c.numbers.ensures
+          ∙ ap (λ (ls : Lengths). slice_get a.places.numbers (ls.numbers + c.args.k)) told ∙ t.1,
+    )
 
 pub beside-requires : goal.beside-requires
 beside-requires g c =
@@ -36,9 +40,17 @@ beside-requires g c =
     let H = c.args.self.now in
     let told = c.self.invariant.in_front in
     let p = c.nth-place.result in
-    let e : slice_get a.places.numbers ((lengths_before cs).numbers + c.args.k) ≡ Some p = ap (λ (ls : Lengths). slice_get a.places.numbers (ls.numbers + c.args.k)) (sym told) ∙ ap (λ l. slice_get l (a.in_front.numbers + c.args.k)) (sym c.numbers.ensures) ∙ c.nth-place.ensures in
-    let r = nth_found (holdings a) xs ns vs a.declared cs h a.places c.self.invariant.sorted c.self.invariant.counted H c.self.view_is kinds.Number c.args.k c.requires.0 c.requires.1 p e in
-    omega (arith, place_fits (holdings a) xs ns vs a.declared cs h H c.self.view_is r.number c.requires.0 r.value p r.named r.seen r.place, c.self.invariant.beside, ap length c.deref.ensures.value)
+    let e : slice_get a.places.numbers ((lengths_before cs).numbers + c.args.k) ≡ Some p =
+    ap (λ (ls : Lengths). slice_get a.places.numbers (ls.numbers + c.args.k)) (sym told)
+    ∙ ap (λ l. slice_get l (a.in_front.numbers + c.args.k)) (sym c.numbers.ensures) ∙ c.nth-place.ensures in
+    let r = nth_found (holdings a) xs ns vs a.declared cs h a.places c.self.invariant.sorted c.self.invariant.counted H c.self.view_is kinds.Number c.args.k
+    c.requires.0 c.requires.1 p e in
+    omega (
+      arith,
+      place_fits (holdings a) xs ns vs a.declared cs h H c.self.view_is r.number c.requires.0 r.value p r.named r.seen r.place,
+      c.self.invariant.beside,
+      ap length c.deref.ensures.value,
+    )
 
 pub returns : goal.returns
 returns g c = λ x nth.
@@ -51,10 +63,14 @@ returns g c = λ x nth.
     let H = c.args.self.now in
     let told = c.self.invariant.in_front in
     let p = c.nth-place.result in
-    let e : slice_get a.places.numbers ((lengths_before cs).numbers + c.args.k) ≡ Some p = ap (λ (ls : Lengths). slice_get a.places.numbers (ls.numbers + c.args.k)) (sym told) ∙ ap (λ l. slice_get l (a.in_front.numbers + c.args.k)) (sym c.numbers.ensures) ∙ c.nth-place.ensures in
-    let r = nth_found (holdings a) xs ns vs a.declared cs h a.places c.self.invariant.sorted c.self.invariant.counted H c.self.view_is kinds.Number c.args.k x nth p e in
+    let e : slice_get a.places.numbers ((lengths_before cs).numbers + c.args.k) ≡ Some p =
+    ap (λ (ls : Lengths). slice_get a.places.numbers (ls.numbers + c.args.k)) (sym told)
+    ∙ ap (λ l. slice_get l (a.in_front.numbers + c.args.k)) (sym c.numbers.ensures) ∙ c.nth-place.ensures in
+    let r = nth_found (holdings a) xs ns vs a.declared cs h a.places c.self.invariant.sorted c.self.invariant.counted H c.self.view_is kinds.Number c.args.k x
+    nth p e in
     let n = number_value r.value r.kind in
     let seen = r.seen ∙ ap Fine n.1 in
     let is = number_is (holdings a) xs ns vs a.declared cs h H c.self.view_is r.number x n.0 r.named seen p r.place in
-    let beside : slice_index_or a.numbers.items p (pos 0) ≡ c.beside.result = ap (λ l. slice_index_or l p (pos 0)) (sym c.deref.ensures.value) ∙ c.beside.ensures in
+    let beside : slice_index_or a.numbers.items p (pos 0) ≡ c.beside.result = ap (λ l. slice_index_or l p (pos 0)) (sym c.deref.ensures.value)
+    ∙ c.beside.ensures in
     seen ∙ ap (λ n. Fine (Num n)) (sym is ∙ beside ∙ sym (to_z-of_z w32 c.beside.result (record { sfits = c.beside.type_inv })))

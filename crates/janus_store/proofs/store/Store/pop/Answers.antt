@@ -7,7 +7,8 @@ use Rattle.janus_store.specs.StoreState.{live_stacks, values_held}
 use Rattle.janus_store.specs.Inside.{stacks_of, holdings, slots_of}
 use Rattle.janus_store.specs.Stacks.{Pooled, list_of}
 use Rattle.janus_store.specs.Stores.{write}
-use Rattle.janus_store.proofs.NameStack.{lent_stack, has_stack, list_is, stack_low, stack_there, stack_written, stack_held, stack_like, stack_live, stack_values}
+use Rattle.janus_store.proofs.NameStack.{lent_stack, has_stack, list_is, stack_low, stack_there, stack_written, stack_held, stack_like, stack_live}
+use Rattle.janus_store.proofs.NameStack.{stack_values}
 use Rattle.janus_store.proofs.store.Store.pop.Goals as goal
 
 pub stack-stack-requires : goal.stack-stack-requires
@@ -19,7 +20,8 @@ stack-stack-requires g c =
     let cs = reverse a.calls.items in
     let h = c.self.invariant.held in
     let H = c.args.self.now in
-    let s = has_stack (holdings a) xs ns vs a.declared cs h H c.self.view_is c.args.name c.requires.0 (c.requires.2.0 ∷ c.requires.2.1) c.requires.1 c.requires.2.2 in
+    let s = has_stack (holdings a) xs ns vs a.declared cs h H c.self.view_is c.args.name c.requires.0 (c.requires.2.0 ∷ c.requires.2.1)
+    c.requires.1 c.requires.2.2 in
     (s.0, lent_stack ns c.deref.result.now vs c.deref-2.result.now c.args.name s.0 c.deref.ensures.value c.deref-2.ensures.value s.1)
 
 pub pop-requires-clause-known : goal.pop-requires-clause-known
@@ -32,8 +34,10 @@ pop-requires-clause-known g c =
     let h = c.self.invariant.held in
     let H = c.args.self.now in
     let i = c.stack-stack.result in
-    let s = lent_stack c.deref.result.now ns c.deref-2.result.now vs c.args.name i (sym c.deref.ensures.value) (sym c.deref-2.ensures.value) c.stack-stack.ensures in
-    stack_low (holdings a) xs ns vs a.declared cs h H c.self.view_is c.args.name c.requires.0 (c.requires.2.0 ∷ c.requires.2.1) c.requires.1 c.requires.2.2 i s (λ j le. let o = c.self.invariant.known j le in omega (arith, o))
+    let s = lent_stack c.deref.result.now ns c.deref-2.result.now vs c.args.name i (sym c.deref.ensures.value) (sym c.deref-2.ensures.value)
+    c.stack-stack.ensures in
+    stack_low (holdings a) xs ns vs a.declared cs h H c.self.view_is c.args.name c.requires.0 (c.requires.2.0 ∷ c.requires.2.1) c.requires.1 c.requires.2.2 i s
+    (λ j le. let o = c.self.invariant.known j le in omega (arith, o))
 
 pub pop-requires-clause-some : goal.pop-requires-clause-some
 pop-requires-clause-some g c =
@@ -45,8 +49,13 @@ pop-requires-clause-some g c =
     let h = c.self.invariant.held in
     let H = c.args.self.now in
     let i = c.stack-stack.result in
-    let s = lent_stack c.deref.result.now ns c.deref-2.result.now vs c.args.name i (sym c.deref.ensures.value) (sym c.deref-2.ensures.value) c.stack-stack.ensures in
-    omega (arith, ap length (list_is (holdings a) xs ns vs a.declared cs h H c.self.view_is c.args.name c.requires.0 (c.requires.2.0 ∷ c.requires.2.1) c.requires.1 c.requires.2.2 i s))
+    let s = lent_stack c.deref.result.now ns c.deref-2.result.now vs c.args.name i (sym c.deref.ensures.value) (sym c.deref-2.ensures.value)
+    c.stack-stack.ensures in
+    omega (
+      arith,
+      ap length (list_is (holdings a) xs ns vs a.declared cs h H c.self.view_is c.args.name c.requires.0 (c.requires.2.0 ∷ c.requires.2.1)
+          c.requires.1 c.requires.2.2 i s),
+    )
 
 pub pop-requires-clause-named : goal.pop-requires-clause-named
 pop-requires-clause-named g c =
@@ -58,9 +67,11 @@ pop-requires-clause-named g c =
     let h = c.self.invariant.held in
     let H = c.args.self.now in
     let i = c.stack-stack.result in
-    let s = lent_stack c.deref.result.now ns c.deref-2.result.now vs c.args.name i (sym c.deref.ensures.value) (sym c.deref-2.ensures.value) c.stack-stack.ensures in
+    let s = lent_stack c.deref.result.now ns c.deref-2.result.now vs c.args.name i (sym c.deref.ensures.value) (sym c.deref-2.ensures.value)
+    c.stack-stack.ensures in
     let o = c.self.invariant.apart i in
-    let t = stack_there (holdings a) xs ns vs a.declared cs h H c.self.view_is c.args.name c.requires.0 (c.requires.2.0 ∷ c.requires.2.1) c.requires.1 c.requires.2.2 i s in
+    let t = stack_there (holdings a) xs ns vs a.declared cs h H c.self.view_is c.args.name c.requires.0 (c.requires.2.0 ∷ c.requires.2.1)
+    c.requires.1 c.requires.2.2 i s in
     omega (arith, o, t)
 
 pub invariant_of-self : goal.invariant_of-self
@@ -73,16 +84,35 @@ invariant_of-self g c =
     let h = c.self.invariant.held in
     let H = c.args.self.now in
     let i = c.stack-stack.result in
-    let s = lent_stack c.deref.result.now ns c.deref-2.result.now vs c.args.name i (sym c.deref.ensures.value) (sym c.deref-2.ensures.value) c.stack-stack.ensures in
+    let s = lent_stack c.deref.result.now ns c.deref-2.result.now vs c.args.name i (sym c.deref.ensures.value) (sym c.deref-2.ensures.value)
+    c.stack-stack.ensures in
     let o = c.self.invariant.apart i in
     let once : times i (stacks_of vs) ≤ 1 = omega (arith, o) in
     let after = c.pop.new.self.lists in
     let lists = ap (λ (s : Pooled). s.lists) c.pop.ensures.rest in
     let spare = ap (λ (s : Pooled). s.spare) c.pop.ensures.rest in
     record {
-      held = stack_held (holdings a) xs ns vs a.declared cs h H c.self.view_is c.args.name c.requires.0 (c.requires.2.0 ∷ c.requires.2.1) c.requires.1 c.requires.2.2 i s once after lists;
-      stacks = omega (arith, stack_live (holdings a) xs ns vs a.declared cs h H c.self.view_is c.args.name c.requires.0 (c.requires.2.0 ∷ c.requires.2.1) c.requires.1 c.requires.2.2 i s once after lists, ap length spare, c.self.invariant.stacks, ap live_stacks c.self.view_is);
-      values = omega (arith, stack_values (holdings a) xs ns vs a.declared cs h H c.self.view_is c.args.name c.requires.0 (c.requires.2.0 ∷ c.requires.2.1) c.requires.1 c.requires.2.2 i s once after lists, ap length c.pop.ensures.top, ap length (list_is (holdings a) xs ns vs a.declared cs h H c.self.view_is c.args.name c.requires.0 (c.requires.2.0 ∷ c.requires.2.1) c.requires.1 c.requires.2.2 i s), c.pop.ensures.fewer, c.self.invariant.values, ap values_held c.self.view_is);
+      held = stack_held (holdings a) xs ns vs a.declared cs h H c.self.view_is c.args.name c.requires.0 (c.requires.2.0 ∷ c.requires.2.1)
+          c.requires.1 c.requires.2.2 i s once after lists;
+      stacks = omega (
+        arith,
+        stack_live (holdings a) xs ns vs a.declared cs h H c.self.view_is c.args.name c.requires.0 (c.requires.2.0 ∷ c.requires.2.1)
+            c.requires.1 c.requires.2.2 i s once after lists,
+        ap length spare,
+        c.self.invariant.stacks,
+        ap live_stacks c.self.view_is,
+      );
+      values = omega (
+        arith,
+        stack_values (holdings a) xs ns vs a.declared cs h H c.self.view_is c.args.name c.requires.0 (c.requires.2.0 ∷ c.requires.2.1)
+            c.requires.1 c.requires.2.2 i s once after lists,
+        ap length c.pop.ensures.top,
+        ap length (list_is (holdings a) xs ns vs a.declared cs h H c.self.view_is c.args.name c.requires.0 (c.requires.2.0 ∷ c.requires.2.1)
+            c.requires.1 c.requires.2.2 i s),
+        c.pop.ensures.fewer,
+        c.self.invariant.values,
+        ap values_held c.self.view_is,
+      );
       apart = λ j. let z = ap (times j) spare in let o = c.self.invariant.apart j in omega (arith, z, o);
       known = λ j le. let z = ap (times j) spare in let o = c.self.invariant.known j le in omega (arith, z, o);
       beside = c.self.invariant.beside;
@@ -106,7 +136,8 @@ returns-clause-top g c = λ x n l named f.
     let h = c.self.invariant.held in
     let H = c.args.self.now in
     let i = c.stack-stack.result in
-    let s = lent_stack c.deref.result.now ns c.deref-2.result.now vs c.args.name i (sym c.deref.ensures.value) (sym c.deref-2.ensures.value) c.stack-stack.ensures in
+    let s = lent_stack c.deref.result.now ns c.deref-2.result.now vs c.args.name i (sym c.deref.ensures.value) (sym c.deref-2.ensures.value)
+    c.stack-stack.ensures in
     let at = list_is (holdings a) xs ns vs a.declared cs h H c.self.view_is c.args.name x (n ∷ l) named f i s in
     let both : c.pop.result ∷ list_of c.pop.new.self.lists i ≡ n ∷ l = sym c.pop.ensures.top ∙ at in
     let top : c.pop.result ≡ n = cc in
@@ -122,7 +153,8 @@ returns-clause-written g c = λ x n l named f.
     let h = c.self.invariant.held in
     let H = c.args.self.now in
     let i = c.stack-stack.result in
-    let s = lent_stack c.deref.result.now ns c.deref-2.result.now vs c.args.name i (sym c.deref.ensures.value) (sym c.deref-2.ensures.value) c.stack-stack.ensures in
+    let s = lent_stack c.deref.result.now ns c.deref-2.result.now vs c.args.name i (sym c.deref.ensures.value) (sym c.deref-2.ensures.value)
+    c.stack-stack.ensures in
     let o = c.self.invariant.apart i in
     let once : times i (stacks_of vs) ≤ 1 = omega (arith, o) in
     let after = c.pop.new.self.lists in
@@ -130,7 +162,8 @@ returns-clause-written g c = λ x n l named f.
     let at = list_is (holdings a) xs ns vs a.declared cs h H c.self.view_is c.args.name x (n ∷ l) named f i s in
     let both : c.pop.result ∷ list_of after i ≡ n ∷ l = sym c.pop.ensures.top ∙ at in
     let rest : list_of after i ≡ l = cc in
-    ap (λ m. write x (Stk m) H.slots) (sym rest) ∙ stack_written (holdings a) xs ns vs a.declared cs h H c.self.view_is c.args.name x (n ∷ l) named f i s once after lists
+    ap (λ m. write x (Stk m) H.slots) (sym rest) ∙ stack_written (holdings a) xs ns vs a.declared cs h H c.self.view_is c.args.name x
+    (n ∷ l) named f i s once after lists
 
 pub returns-clause-shape : goal.returns-clause-shape
 returns-clause-shape g c =
@@ -142,9 +175,11 @@ returns-clause-shape g c =
     let h = c.self.invariant.held in
     let H = c.args.self.now in
     let i = c.stack-stack.result in
-    let s = lent_stack c.deref.result.now ns c.deref-2.result.now vs c.args.name i (sym c.deref.ensures.value) (sym c.deref-2.ensures.value) c.stack-stack.ensures in
+    let s = lent_stack c.deref.result.now ns c.deref-2.result.now vs c.args.name i (sym c.deref.ensures.value) (sym c.deref-2.ensures.value)
+    c.stack-stack.ensures in
     let o = c.self.invariant.apart i in
     let once : times i (stacks_of vs) ≤ 1 = omega (arith, o) in
     let after = c.pop.new.self.lists in
     let lists = ap (λ (s : Pooled). s.lists) c.pop.ensures.rest in
-    stack_like (holdings a) xs ns vs a.declared cs h H c.self.view_is c.args.name c.requires.0 (c.requires.2.0 ∷ c.requires.2.1) c.requires.1 c.requires.2.2 i s once after lists
+    stack_like (holdings a) xs ns vs a.declared cs h H c.self.view_is c.args.name c.requires.0 (c.requires.2.0 ∷ c.requires.2.1)
+    c.requires.1 c.requires.2.2 i s once after lists

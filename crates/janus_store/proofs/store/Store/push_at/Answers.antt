@@ -26,8 +26,12 @@ nth-place-requires g c =
     let h = c.self.invariant.held in
     let H = c.args.self.now in
     let told = c.self.invariant.in_front in
-    let t = nth_there (holdings a) xs ns vs a.declared cs h a.places c.self.invariant.sorted c.self.invariant.counted H c.self.view_is kinds.Stack c.args.k c.requires.stack.0 c.requires.stack.1 in
-    (t.0, ap (λ l. slice_get l (a.in_front.stacks + c.args.k)) c.stacks.ensures ∙ ap (λ (ls : Lengths). slice_get a.places.stacks (ls.stacks + c.args.k)) told ∙ t.1)
+    let t = nth_there (holdings a) xs ns vs a.declared cs h a.places c.self.invariant.sorted c.self.invariant.counted H c.self.view_is kinds.Stack c.args.k
+    c.requires.stack.0 c.requires.stack.1 in (
+      t.0,
+      ap (λ l. slice_get l (a.in_front.stacks + c.args.k)) c.stacks.ensures ∙ ap (λ (ls : Lengths). slice_get a.places.stacks (ls.stacks + c.args.k)) told
+          ∙ t.1,
+    )
 
 pub index-requires : goal.index-requires
 index-requires g c =
@@ -40,9 +44,16 @@ index-requires g c =
     let H = c.args.self.now in
     let told = c.self.invariant.in_front in
     let p = c.nth-place.result in
-    let e : slice_get a.places.stacks ((lengths_before cs).stacks + c.args.k) ≡ Some p = ap (λ (ls : Lengths). slice_get a.places.stacks (ls.stacks + c.args.k)) (sym told) ∙ ap (λ l. slice_get l (a.in_front.stacks + c.args.k)) (sym c.stacks.ensures) ∙ c.nth-place.ensures in
-    let r = nth_found (holdings a) xs ns vs a.declared cs h a.places c.self.invariant.sorted c.self.invariant.counted H c.self.view_is kinds.Stack c.args.k c.requires.stack.0 c.requires.stack.1 p e in
-    omega (arith, place_fits (holdings a) xs ns vs a.declared cs h H c.self.view_is r.number c.requires.stack.0 r.value p r.named r.seen r.place, a.variables.ok.0)
+    let e : slice_get a.places.stacks ((lengths_before cs).stacks + c.args.k) ≡ Some p =
+    ap (λ (ls : Lengths). slice_get a.places.stacks (ls.stacks + c.args.k)) (sym told)
+    ∙ ap (λ l. slice_get l (a.in_front.stacks + c.args.k)) (sym c.stacks.ensures) ∙ c.nth-place.ensures in
+    let r = nth_found (holdings a) xs ns vs a.declared cs h a.places c.self.invariant.sorted c.self.invariant.counted H c.self.view_is kinds.Stack c.args.k
+    c.requires.stack.0 c.requires.stack.1 p e in
+    omega (
+      arith,
+      place_fits (holdings a) xs ns vs a.declared cs h H c.self.view_is r.number c.requires.stack.0 r.value p r.named r.seen r.place,
+      a.variables.ok.0,
+    )
 
 pub stack-stack-requires : goal.stack-stack-requires
 stack-stack-requires g c =
@@ -55,8 +66,11 @@ stack-stack-requires g c =
     let H = c.args.self.now in
     let told = c.self.invariant.in_front in
     let p = c.nth-place.result in
-    let e : slice_get a.places.stacks ((lengths_before cs).stacks + c.args.k) ≡ Some p = ap (λ (ls : Lengths). slice_get a.places.stacks (ls.stacks + c.args.k)) (sym told) ∙ ap (λ l. slice_get l (a.in_front.stacks + c.args.k)) (sym c.stacks.ensures) ∙ c.nth-place.ensures in
-    let r = nth_found (holdings a) xs ns vs a.declared cs h a.places c.self.invariant.sorted c.self.invariant.counted H c.self.view_is kinds.Stack c.args.k c.requires.stack.0 c.requires.stack.1 p e in
+    let e : slice_get a.places.stacks ((lengths_before cs).stacks + c.args.k) ≡ Some p =
+    ap (λ (ls : Lengths). slice_get a.places.stacks (ls.stacks + c.args.k)) (sym told)
+    ∙ ap (λ l. slice_get l (a.in_front.stacks + c.args.k)) (sym c.stacks.ensures) ∙ c.nth-place.ensures in
+    let r = nth_found (holdings a) xs ns vs a.declared cs h a.places c.self.invariant.sorted c.self.invariant.counted H c.self.view_is kinds.Stack c.args.k
+    c.requires.stack.0 c.requires.stack.1 p e in
     let v = c.index.result.now in
     let same = value_is (holdings a) xs ns vs a.declared cs h H c.self.view_is r.number c.requires.stack.0 r.value p v r.named r.seen r.place c.index.ensures in
     let l = stack_value r.value r.kind in
@@ -73,13 +87,19 @@ push-requires-clause-known g c =
     let H = c.args.self.now in
     let told = c.self.invariant.in_front in
     let p = c.nth-place.result in
-    let e : slice_get a.places.stacks ((lengths_before cs).stacks + c.args.k) ≡ Some p = ap (λ (ls : Lengths). slice_get a.places.stacks (ls.stacks + c.args.k)) (sym told) ∙ ap (λ l. slice_get l (a.in_front.stacks + c.args.k)) (sym c.stacks.ensures) ∙ c.nth-place.ensures in
-    let r = nth_found (holdings a) xs ns vs a.declared cs h a.places c.self.invariant.sorted c.self.invariant.counted H c.self.view_is kinds.Stack c.args.k c.requires.stack.0 c.requires.stack.1 p e in
+    let e : slice_get a.places.stacks ((lengths_before cs).stacks + c.args.k) ≡ Some p =
+    ap (λ (ls : Lengths). slice_get a.places.stacks (ls.stacks + c.args.k)) (sym told)
+    ∙ ap (λ l. slice_get l (a.in_front.stacks + c.args.k)) (sym c.stacks.ensures) ∙ c.nth-place.ensures in
+    let r = nth_found (holdings a) xs ns vs a.declared cs h a.places c.self.invariant.sorted c.self.invariant.counted H c.self.view_is kinds.Stack c.args.k
+    c.requires.stack.0 c.requires.stack.1 p e in
     let w = c.index.result.now in
-    let there : slice_get vs p ≡ Some w = slice_get_read vs (length vs) p w refl (place_fits (holdings a) xs ns vs a.declared cs h H c.self.view_is r.number c.requires.stack.0 r.value p r.named r.seen r.place) c.index.ensures in
+    let there : slice_get vs p ≡ Some w =
+    slice_get_read vs (length vs) p w refl
+    (place_fits (holdings a) xs ns vs a.declared cs h H c.self.view_is r.number c.requires.stack.0 r.value p r.named r.seen r.place) c.index.ensures in
     let i = c.stack-stack.result in
     let s : IsStackOf ns vs r.number i = (p, w, r.place, there, c.stack-stack.ensures) in
-    stack_low (holdings a) xs ns vs a.declared cs h H c.self.view_is r.number c.requires.stack.0 c.requires.stack.2.0 r.named c.requires.stack.2.1 i s (λ j le. let o = c.self.invariant.known j le in omega (arith, o))
+    stack_low (holdings a) xs ns vs a.declared cs h H c.self.view_is r.number c.requires.stack.0 c.requires.stack.2.0 r.named c.requires.stack.2.1 i s
+    (λ j le. let o = c.self.invariant.known j le in omega (arith, o))
 
 pub push-requires-clause-room : goal.push-requires-clause-room
 push-requires-clause-room g c = omega (arith, c.requires.room, c.self.invariant.values, ap values_held c.self.view_is)
@@ -95,14 +115,20 @@ push-requires-clause-named g c =
     let H = c.args.self.now in
     let told = c.self.invariant.in_front in
     let p = c.nth-place.result in
-    let e : slice_get a.places.stacks ((lengths_before cs).stacks + c.args.k) ≡ Some p = ap (λ (ls : Lengths). slice_get a.places.stacks (ls.stacks + c.args.k)) (sym told) ∙ ap (λ l. slice_get l (a.in_front.stacks + c.args.k)) (sym c.stacks.ensures) ∙ c.nth-place.ensures in
-    let r = nth_found (holdings a) xs ns vs a.declared cs h a.places c.self.invariant.sorted c.self.invariant.counted H c.self.view_is kinds.Stack c.args.k c.requires.stack.0 c.requires.stack.1 p e in
+    let e : slice_get a.places.stacks ((lengths_before cs).stacks + c.args.k) ≡ Some p =
+    ap (λ (ls : Lengths). slice_get a.places.stacks (ls.stacks + c.args.k)) (sym told)
+    ∙ ap (λ l. slice_get l (a.in_front.stacks + c.args.k)) (sym c.stacks.ensures) ∙ c.nth-place.ensures in
+    let r = nth_found (holdings a) xs ns vs a.declared cs h a.places c.self.invariant.sorted c.self.invariant.counted H c.self.view_is kinds.Stack c.args.k
+    c.requires.stack.0 c.requires.stack.1 p e in
     let w = c.index.result.now in
-    let there : slice_get vs p ≡ Some w = slice_get_read vs (length vs) p w refl (place_fits (holdings a) xs ns vs a.declared cs h H c.self.view_is r.number c.requires.stack.0 r.value p r.named r.seen r.place) c.index.ensures in
+    let there : slice_get vs p ≡ Some w =
+    slice_get_read vs (length vs) p w refl
+    (place_fits (holdings a) xs ns vs a.declared cs h H c.self.view_is r.number c.requires.stack.0 r.value p r.named r.seen r.place) c.index.ensures in
     let i = c.stack-stack.result in
     let s : IsStackOf ns vs r.number i = (p, w, r.place, there, c.stack-stack.ensures) in
     let o = c.self.invariant.apart i in
-    let t = stack_there (holdings a) xs ns vs a.declared cs h H c.self.view_is r.number c.requires.stack.0 c.requires.stack.2.0 r.named c.requires.stack.2.1 i s in
+    let t = stack_there (holdings a) xs ns vs a.declared cs h H c.self.view_is r.number c.requires.stack.0 c.requires.stack.2.0 r.named c.requires.stack.2.1 i
+    s in
     omega (arith, o, t)
 
 pub invariant_of-self : goal.invariant_of-self
@@ -116,10 +142,15 @@ invariant_of-self g c =
     let H = c.args.self.now in
     let told = c.self.invariant.in_front in
     let p = c.nth-place.result in
-    let e : slice_get a.places.stacks ((lengths_before cs).stacks + c.args.k) ≡ Some p = ap (λ (ls : Lengths). slice_get a.places.stacks (ls.stacks + c.args.k)) (sym told) ∙ ap (λ l. slice_get l (a.in_front.stacks + c.args.k)) (sym c.stacks.ensures) ∙ c.nth-place.ensures in
-    let r = nth_found (holdings a) xs ns vs a.declared cs h a.places c.self.invariant.sorted c.self.invariant.counted H c.self.view_is kinds.Stack c.args.k c.requires.stack.0 c.requires.stack.1 p e in
+    let e : slice_get a.places.stacks ((lengths_before cs).stacks + c.args.k) ≡ Some p =
+    ap (λ (ls : Lengths). slice_get a.places.stacks (ls.stacks + c.args.k)) (sym told)
+    ∙ ap (λ l. slice_get l (a.in_front.stacks + c.args.k)) (sym c.stacks.ensures) ∙ c.nth-place.ensures in
+    let r = nth_found (holdings a) xs ns vs a.declared cs h a.places c.self.invariant.sorted c.self.invariant.counted H c.self.view_is kinds.Stack c.args.k
+    c.requires.stack.0 c.requires.stack.1 p e in
     let w = c.index.result.now in
-    let there : slice_get vs p ≡ Some w = slice_get_read vs (length vs) p w refl (place_fits (holdings a) xs ns vs a.declared cs h H c.self.view_is r.number c.requires.stack.0 r.value p r.named r.seen r.place) c.index.ensures in
+    let there : slice_get vs p ≡ Some w =
+    slice_get_read vs (length vs) p w refl
+    (place_fits (holdings a) xs ns vs a.declared cs h H c.self.view_is r.number c.requires.stack.0 r.value p r.named r.seen r.place) c.index.ensures in
     let i = c.stack-stack.result in
     let s : IsStackOf ns vs r.number i = (p, w, r.place, there, c.stack-stack.ensures) in
     let o = c.self.invariant.apart i in
@@ -128,9 +159,27 @@ invariant_of-self g c =
     let lists = ap (λ (s : Pooled). s.lists) c.push.ensures.rest in
     let spare = ap (λ (s : Pooled). s.spare) c.push.ensures.rest in
     record {
-      held = stack_held (holdings a) xs ns vs a.declared cs h H c.self.view_is r.number c.requires.stack.0 c.requires.stack.2.0 r.named c.requires.stack.2.1 i s once after lists;
-      stacks = omega (arith, stack_live (holdings a) xs ns vs a.declared cs h H c.self.view_is r.number c.requires.stack.0 c.requires.stack.2.0 r.named c.requires.stack.2.1 i s once after lists, ap length spare, c.self.invariant.stacks, ap live_stacks c.self.view_is);
-      values = omega (arith, stack_values (holdings a) xs ns vs a.declared cs h H c.self.view_is r.number c.requires.stack.0 c.requires.stack.2.0 r.named c.requires.stack.2.1 i s once after lists, ap length c.push.ensures.top, ap length (list_is (holdings a) xs ns vs a.declared cs h H c.self.view_is r.number c.requires.stack.0 c.requires.stack.2.0 r.named c.requires.stack.2.1 i s), c.push.ensures.more, c.self.invariant.values, ap values_held c.self.view_is);
+      held = stack_held (holdings a) xs ns vs a.declared cs h H c.self.view_is r.number c.requires.stack.0 c.requires.stack.2.0 r.named c.requires.stack.2.1 i s
+          once after lists;
+      stacks = omega (
+        arith,
+        stack_live (holdings a) xs ns vs a.declared cs h H c.self.view_is r.number c.requires.stack.0 c.requires.stack.2.0 r.named
+            c.requires.stack.2.1 i s once after lists,
+        ap length spare,
+        c.self.invariant.stacks,
+        ap live_stacks c.self.view_is,
+      );
+      values = omega (
+        arith,
+        stack_values (holdings a) xs ns vs a.declared cs h H c.self.view_is r.number c.requires.stack.0 c.requires.stack.2.0 r.named
+            c.requires.stack.2.1 i s once after lists,
+        ap length c.push.ensures.top,
+        ap length (list_is (holdings a) xs ns vs a.declared cs h H c.self.view_is r.number c.requires.stack.0 c.requires.stack.2.0 r.named
+            c.requires.stack.2.1 i s),
+        c.push.ensures.more,
+        c.self.invariant.values,
+        ap values_held c.self.view_is,
+      );
       apart = λ j. let z = ap (times j) spare in let o = c.self.invariant.apart j in omega (arith, z, o);
       known = λ j le. let z = ap (times j) spare in let o = c.self.invariant.known j le in omega (arith, z, o);
       beside = c.self.invariant.beside;
@@ -155,10 +204,15 @@ returns-clause-written g c = λ x l nth f.
     let H = c.args.self.now in
     let told = c.self.invariant.in_front in
     let p = c.nth-place.result in
-    let e : slice_get a.places.stacks ((lengths_before cs).stacks + c.args.k) ≡ Some p = ap (λ (ls : Lengths). slice_get a.places.stacks (ls.stacks + c.args.k)) (sym told) ∙ ap (λ l. slice_get l (a.in_front.stacks + c.args.k)) (sym c.stacks.ensures) ∙ c.nth-place.ensures in
-    let r = nth_found (holdings a) xs ns vs a.declared cs h a.places c.self.invariant.sorted c.self.invariant.counted H c.self.view_is kinds.Stack c.args.k x nth p e in
+    let e : slice_get a.places.stacks ((lengths_before cs).stacks + c.args.k) ≡ Some p =
+    ap (λ (ls : Lengths). slice_get a.places.stacks (ls.stacks + c.args.k)) (sym told)
+    ∙ ap (λ l. slice_get l (a.in_front.stacks + c.args.k)) (sym c.stacks.ensures) ∙ c.nth-place.ensures in
+    let r = nth_found (holdings a) xs ns vs a.declared cs h a.places c.self.invariant.sorted c.self.invariant.counted H c.self.view_is kinds.Stack c.args.k x
+    nth p e in
     let w = c.index.result.now in
-    let there : slice_get vs p ≡ Some w = slice_get_read vs (length vs) p w refl (place_fits (holdings a) xs ns vs a.declared cs h H c.self.view_is r.number x r.value p r.named r.seen r.place) c.index.ensures in
+    let there : slice_get vs p ≡ Some w =
+    slice_get_read vs (length vs) p w refl (place_fits (holdings a) xs ns vs a.declared cs h H c.self.view_is r.number x r.value p r.named r.seen r.place)
+    c.index.ensures in
     let i = c.stack-stack.result in
     let s : IsStackOf ns vs r.number i = (p, w, r.place, there, c.stack-stack.ensures) in
     let o = c.self.invariant.apart i in
@@ -182,14 +236,20 @@ returns-clause-shape g c =
     let H = c.args.self.now in
     let told = c.self.invariant.in_front in
     let p = c.nth-place.result in
-    let e : slice_get a.places.stacks ((lengths_before cs).stacks + c.args.k) ≡ Some p = ap (λ (ls : Lengths). slice_get a.places.stacks (ls.stacks + c.args.k)) (sym told) ∙ ap (λ l. slice_get l (a.in_front.stacks + c.args.k)) (sym c.stacks.ensures) ∙ c.nth-place.ensures in
-    let r = nth_found (holdings a) xs ns vs a.declared cs h a.places c.self.invariant.sorted c.self.invariant.counted H c.self.view_is kinds.Stack c.args.k c.requires.stack.0 c.requires.stack.1 p e in
+    let e : slice_get a.places.stacks ((lengths_before cs).stacks + c.args.k) ≡ Some p =
+    ap (λ (ls : Lengths). slice_get a.places.stacks (ls.stacks + c.args.k)) (sym told)
+    ∙ ap (λ l. slice_get l (a.in_front.stacks + c.args.k)) (sym c.stacks.ensures) ∙ c.nth-place.ensures in
+    let r = nth_found (holdings a) xs ns vs a.declared cs h a.places c.self.invariant.sorted c.self.invariant.counted H c.self.view_is kinds.Stack c.args.k
+    c.requires.stack.0 c.requires.stack.1 p e in
     let w = c.index.result.now in
-    let there : slice_get vs p ≡ Some w = slice_get_read vs (length vs) p w refl (place_fits (holdings a) xs ns vs a.declared cs h H c.self.view_is r.number c.requires.stack.0 r.value p r.named r.seen r.place) c.index.ensures in
+    let there : slice_get vs p ≡ Some w =
+    slice_get_read vs (length vs) p w refl
+    (place_fits (holdings a) xs ns vs a.declared cs h H c.self.view_is r.number c.requires.stack.0 r.value p r.named r.seen r.place) c.index.ensures in
     let i = c.stack-stack.result in
     let s : IsStackOf ns vs r.number i = (p, w, r.place, there, c.stack-stack.ensures) in
     let o = c.self.invariant.apart i in
     let once : times i (stacks_of vs) ≤ 1 = omega (arith, o) in
     let after = c.push.new.self.lists in
     let lists = ap (λ (s : Pooled). s.lists) c.push.ensures.rest in
-    stack_like (holdings a) xs ns vs a.declared cs h H c.self.view_is r.number c.requires.stack.0 c.requires.stack.2.0 r.named c.requires.stack.2.1 i s once after lists
+    stack_like (holdings a) xs ns vs a.declared cs h H c.self.view_is r.number c.requires.stack.0 c.requires.stack.2.0 r.named c.requires.stack.2.1 i s once
+    after lists

@@ -25,8 +25,12 @@ nth-place-requires g c =
     let h = c.self.invariant.held in
     let H = c.args.self.now in
     let told = c.self.invariant.in_front in
-    let t = nth_there (holdings a) xs ns vs a.declared cs h a.places c.self.invariant.sorted c.self.invariant.counted H c.self.view_is kinds.Number c.args.k c.requires.0 c.requires.1 in
-    (t.0, ap (λ l. slice_get l (a.in_front.numbers + c.args.k)) c.numbers.ensures ∙ ap (λ (ls : Lengths). slice_get a.places.numbers (ls.numbers + c.args.k)) told ∙ t.1)
+    let t = nth_there (holdings a) xs ns vs a.declared cs h a.places c.self.invariant.sorted c.self.invariant.counted H c.self.view_is kinds.Number c.args.k
+    c.requires.0 c.requires.1 in (
+      t.0,
+      ap (λ l. slice_get l (a.in_front.numbers + c.args.k)) c.numbers.ensures
+          ∙ ap (λ (ls : Lengths). slice_get a.places.numbers (ls.numbers + c.args.k)) told ∙ t.1,
+    )
 
 pub beside-former-requires : goal.beside-former-requires
 beside-former-requires g c =
@@ -39,9 +43,17 @@ beside-former-requires g c =
     let H = c.args.self.now in
     let told = c.self.invariant.in_front in
     let p = c.nth-place.result in
-    let e : slice_get a.places.numbers ((lengths_before cs).numbers + c.args.k) ≡ Some p = ap (λ (ls : Lengths). slice_get a.places.numbers (ls.numbers + c.args.k)) (sym told) ∙ ap (λ l. slice_get l (a.in_front.numbers + c.args.k)) (sym c.numbers.ensures) ∙ c.nth-place.ensures in
-    let r = nth_found (holdings a) xs ns vs a.declared cs h a.places c.self.invariant.sorted c.self.invariant.counted H c.self.view_is kinds.Number c.args.k c.requires.0 c.requires.1 p e in
-    omega (arith, place_fits (holdings a) xs ns vs a.declared cs h H c.self.view_is r.number c.requires.0 r.value p r.named r.seen r.place, c.self.invariant.beside, ap length c.deref.ensures.value)
+    let e : slice_get a.places.numbers ((lengths_before cs).numbers + c.args.k) ≡ Some p =
+    ap (λ (ls : Lengths). slice_get a.places.numbers (ls.numbers + c.args.k)) (sym told)
+    ∙ ap (λ l. slice_get l (a.in_front.numbers + c.args.k)) (sym c.numbers.ensures) ∙ c.nth-place.ensures in
+    let r = nth_found (holdings a) xs ns vs a.declared cs h a.places c.self.invariant.sorted c.self.invariant.counted H c.self.view_is kinds.Number c.args.k
+    c.requires.0 c.requires.1 p e in
+    omega (
+      arith,
+      place_fits (holdings a) xs ns vs a.declared cs h H c.self.view_is r.number c.requires.0 r.value p r.named r.seen r.place,
+      c.self.invariant.beside,
+      ap length c.deref.ensures.value,
+    )
 
 pub index_mut-requires : goal.index_mut-requires
 index_mut-requires g c =
@@ -54,9 +66,17 @@ index_mut-requires g c =
     let H = c.args.self.now in
     let told = c.self.invariant.in_front in
     let p = c.nth-place.result in
-    let e : slice_get a.places.numbers ((lengths_before cs).numbers + c.args.k) ≡ Some p = ap (λ (ls : Lengths). slice_get a.places.numbers (ls.numbers + c.args.k)) (sym told) ∙ ap (λ l. slice_get l (a.in_front.numbers + c.args.k)) (sym c.numbers.ensures) ∙ c.nth-place.ensures in
-    let r = nth_found (holdings a) xs ns vs a.declared cs h a.places c.self.invariant.sorted c.self.invariant.counted H c.self.view_is kinds.Number c.args.k c.requires.0 c.requires.1 p e in
-    omega (arith, place_fits (holdings a) xs ns vs a.declared cs h H c.self.view_is r.number c.requires.0 r.value p r.named r.seen r.place, c.self.invariant.beside, a.numbers.ok.0)
+    let e : slice_get a.places.numbers ((lengths_before cs).numbers + c.args.k) ≡ Some p =
+    ap (λ (ls : Lengths). slice_get a.places.numbers (ls.numbers + c.args.k)) (sym told)
+    ∙ ap (λ l. slice_get l (a.in_front.numbers + c.args.k)) (sym c.numbers.ensures) ∙ c.nth-place.ensures in
+    let r = nth_found (holdings a) xs ns vs a.declared cs h a.places c.self.invariant.sorted c.self.invariant.counted H c.self.view_is kinds.Number c.args.k
+    c.requires.0 c.requires.1 p e in
+    omega (
+      arith,
+      place_fits (holdings a) xs ns vs a.declared cs h H c.self.view_is r.number c.requires.0 r.value p r.named r.seen r.place,
+      c.self.invariant.beside,
+      a.numbers.ok.0,
+    )
 
 pub invariant_of-self : goal.invariant_of-self
 invariant_of-self g c =
@@ -69,17 +89,36 @@ invariant_of-self g c =
     let H = c.args.self.now in
     let told = c.self.invariant.in_front in
     let p = c.nth-place.result in
-    let e : slice_get a.places.numbers ((lengths_before cs).numbers + c.args.k) ≡ Some p = ap (λ (ls : Lengths). slice_get a.places.numbers (ls.numbers + c.args.k)) (sym told) ∙ ap (λ l. slice_get l (a.in_front.numbers + c.args.k)) (sym c.numbers.ensures) ∙ c.nth-place.ensures in
-    let r = nth_found (holdings a) xs ns vs a.declared cs h a.places c.self.invariant.sorted c.self.invariant.counted H c.self.view_is kinds.Number c.args.k c.requires.0 c.requires.1 p e in
+    let e : slice_get a.places.numbers ((lengths_before cs).numbers + c.args.k) ≡ Some p =
+    ap (λ (ls : Lengths). slice_get a.places.numbers (ls.numbers + c.args.k)) (sym told)
+    ∙ ap (λ l. slice_get l (a.in_front.numbers + c.args.k)) (sym c.numbers.ensures) ∙ c.nth-place.ensures in
+    let r = nth_found (holdings a) xs ns vs a.declared cs h a.places c.self.invariant.sorted c.self.invariant.counted H c.self.view_is kinds.Number c.args.k
+    c.requires.0 c.requires.1 p e in
     let n = number_value r.value r.kind in
     let seen = r.seen ∙ ap Fine n.1 in
-    let fits : p < length a.numbers.items = omega (arith, c.self.invariant.beside, place_fits (holdings a) xs ns vs a.declared cs h H c.self.view_is r.number c.requires.0 r.value p r.named r.seen r.place) in
+    let fits : p < length a.numbers.items =
+    omega (
+      arith,
+      c.self.invariant.beside,
+      place_fits (holdings a) xs ns vs a.declared cs h H c.self.view_is r.number c.requires.0 r.value p r.named r.seen
+          r.place,
+    ) in
     let m = to_z w32 (of_z w32 c.args.number) in
     let after = set a.numbers.items p m in
     record {
       held = number_held (holdings a) xs ns vs a.declared cs h H c.self.view_is r.number c.requires.0 n.0 r.named seen p r.place m after refl fits;
-      stacks = omega (arith, c.self.invariant.stacks, ap live_stacks c.self.view_is, number_live (holdings a) xs ns vs a.declared cs h H c.self.view_is r.number c.requires.0 n.0 r.named seen p r.place m after refl fits);
-      values = omega (arith, c.self.invariant.values, ap values_held c.self.view_is, number_values (holdings a) xs ns vs a.declared cs h H c.self.view_is r.number c.requires.0 n.0 r.named seen p r.place m after refl fits);
+      stacks = omega (
+        arith,
+        c.self.invariant.stacks,
+        ap live_stacks c.self.view_is,
+        number_live (holdings a) xs ns vs a.declared cs h H c.self.view_is r.number c.requires.0 n.0 r.named seen p r.place m after refl fits,
+      );
+      values = omega (
+        arith,
+        c.self.invariant.values,
+        ap values_held c.self.view_is,
+        number_values (holdings a) xs ns vs a.declared cs h H c.self.view_is r.number c.requires.0 n.0 r.named seen p r.place m after refl fits,
+      );
       apart = c.self.invariant.apart;
       known = c.self.invariant.known;
       beside = length-set a.numbers.items p m ∙ c.self.invariant.beside;
@@ -104,11 +143,20 @@ returns-clause-shape g c =
     let H = c.args.self.now in
     let told = c.self.invariant.in_front in
     let p = c.nth-place.result in
-    let e : slice_get a.places.numbers ((lengths_before cs).numbers + c.args.k) ≡ Some p = ap (λ (ls : Lengths). slice_get a.places.numbers (ls.numbers + c.args.k)) (sym told) ∙ ap (λ l. slice_get l (a.in_front.numbers + c.args.k)) (sym c.numbers.ensures) ∙ c.nth-place.ensures in
-    let r = nth_found (holdings a) xs ns vs a.declared cs h a.places c.self.invariant.sorted c.self.invariant.counted H c.self.view_is kinds.Number c.args.k c.requires.0 c.requires.1 p e in
+    let e : slice_get a.places.numbers ((lengths_before cs).numbers + c.args.k) ≡ Some p =
+    ap (λ (ls : Lengths). slice_get a.places.numbers (ls.numbers + c.args.k)) (sym told)
+    ∙ ap (λ l. slice_get l (a.in_front.numbers + c.args.k)) (sym c.numbers.ensures) ∙ c.nth-place.ensures in
+    let r = nth_found (holdings a) xs ns vs a.declared cs h a.places c.self.invariant.sorted c.self.invariant.counted H c.self.view_is kinds.Number c.args.k
+    c.requires.0 c.requires.1 p e in
     let n = number_value r.value r.kind in
     let seen = r.seen ∙ ap Fine n.1 in
-    let fits : p < length a.numbers.items = omega (arith, c.self.invariant.beside, place_fits (holdings a) xs ns vs a.declared cs h H c.self.view_is r.number c.requires.0 r.value p r.named r.seen r.place) in
+    let fits : p < length a.numbers.items =
+    omega (
+      arith,
+      c.self.invariant.beside,
+      place_fits (holdings a) xs ns vs a.declared cs h H c.self.view_is r.number c.requires.0 r.value p r.named r.seen
+          r.place,
+    ) in
     let m = to_z w32 (of_z w32 c.args.number) in
     let after = set a.numbers.items p m in
     number_like (holdings a) xs ns vs a.declared cs h H c.self.view_is r.number c.requires.0 n.0 r.named seen p r.place m after refl fits
@@ -124,11 +172,15 @@ returns-clause-written g c = λ x nth.
     let H = c.args.self.now in
     let told = c.self.invariant.in_front in
     let p = c.nth-place.result in
-    let e : slice_get a.places.numbers ((lengths_before cs).numbers + c.args.k) ≡ Some p = ap (λ (ls : Lengths). slice_get a.places.numbers (ls.numbers + c.args.k)) (sym told) ∙ ap (λ l. slice_get l (a.in_front.numbers + c.args.k)) (sym c.numbers.ensures) ∙ c.nth-place.ensures in
-    let r = nth_found (holdings a) xs ns vs a.declared cs h a.places c.self.invariant.sorted c.self.invariant.counted H c.self.view_is kinds.Number c.args.k x nth p e in
+    let e : slice_get a.places.numbers ((lengths_before cs).numbers + c.args.k) ≡ Some p =
+    ap (λ (ls : Lengths). slice_get a.places.numbers (ls.numbers + c.args.k)) (sym told)
+    ∙ ap (λ l. slice_get l (a.in_front.numbers + c.args.k)) (sym c.numbers.ensures) ∙ c.nth-place.ensures in
+    let r = nth_found (holdings a) xs ns vs a.declared cs h a.places c.self.invariant.sorted c.self.invariant.counted H c.self.view_is kinds.Number c.args.k x
+    nth p e in
     let n = number_value r.value r.kind in
     let seen = r.seen ∙ ap Fine n.1 in
-    let fits : p < length a.numbers.items = omega (arith, c.self.invariant.beside, place_fits (holdings a) xs ns vs a.declared cs h H c.self.view_is r.number x r.value p r.named r.seen r.place) in
+    let fits : p < length a.numbers.items =
+    omega (arith, c.self.invariant.beside, place_fits (holdings a) xs ns vs a.declared cs h H c.self.view_is r.number x r.value p r.named r.seen r.place) in
     let m = to_z w32 (of_z w32 c.args.number) in
     let after = set a.numbers.items p m in
     ap (λ n. write x (Num n) H.slots) (sym (to_z-of_z w32 c.args.number c.ranges.number))
@@ -145,10 +197,14 @@ returns-clause-former g c = λ x nth.
     let H = c.args.self.now in
     let told = c.self.invariant.in_front in
     let p = c.nth-place.result in
-    let e : slice_get a.places.numbers ((lengths_before cs).numbers + c.args.k) ≡ Some p = ap (λ (ls : Lengths). slice_get a.places.numbers (ls.numbers + c.args.k)) (sym told) ∙ ap (λ l. slice_get l (a.in_front.numbers + c.args.k)) (sym c.numbers.ensures) ∙ c.nth-place.ensures in
-    let r = nth_found (holdings a) xs ns vs a.declared cs h a.places c.self.invariant.sorted c.self.invariant.counted H c.self.view_is kinds.Number c.args.k x nth p e in
+    let e : slice_get a.places.numbers ((lengths_before cs).numbers + c.args.k) ≡ Some p =
+    ap (λ (ls : Lengths). slice_get a.places.numbers (ls.numbers + c.args.k)) (sym told)
+    ∙ ap (λ l. slice_get l (a.in_front.numbers + c.args.k)) (sym c.numbers.ensures) ∙ c.nth-place.ensures in
+    let r = nth_found (holdings a) xs ns vs a.declared cs h a.places c.self.invariant.sorted c.self.invariant.counted H c.self.view_is kinds.Number c.args.k x
+    nth p e in
     let n = number_value r.value r.kind in
     let seen = r.seen ∙ ap Fine n.1 in
     let is = number_is (holdings a) xs ns vs a.declared cs h H c.self.view_is r.number x n.0 r.named seen p r.place in
-    let beside : slice_index_or a.numbers.items p (pos 0) ≡ c.beside-former.result = ap (λ l. slice_index_or l p (pos 0)) (sym c.deref.ensures.value) ∙ c.beside-former.ensures in
+    let beside : slice_index_or a.numbers.items p (pos 0) ≡ c.beside-former.result = ap (λ l. slice_index_or l p (pos 0)) (sym c.deref.ensures.value)
+    ∙ c.beside-former.ensures in
     seen ∙ ap (λ n. Fine (Num n)) (sym is ∙ beside ∙ sym (to_z-of_z w32 c.beside-former.result (record { sfits = c.beside-former.type_inv })))

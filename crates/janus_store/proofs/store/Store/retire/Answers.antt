@@ -108,8 +108,15 @@ take_back-requires-clause-room g c =
     let was = left_over (holdings a) xs ns vs a.declared cs h y ms ws gone newest above over H c.self.view_is in
     let left = held_in (holdings a) xs a.declared ws cs in
     let top : H.slots ≡ Slot (name_among xs y) (val_at (holdings a) (length ws) y.value) left.slots = ap (λ (h : StoreState). h.slots) was in
-    let slots : live_stacks H ≡ stacks_with (val_at (holdings a) (length ws) y.value) (live_stacks left) = ap live_stacks was ∙ more_stacks (val_at (holdings a) (length ws) y.value) (stacks_in left.slots) (stacks_lent left.callers) in
-    omega (arith, with_number a.stacks.lists (slice_index_or a.numbers.items (length ws) (pos 0)) y.value (live_stacks left), slots, c.self.invariant.stacks, ap live_stacks c.self.view_is)
+    let slots : live_stacks H ≡ stacks_with (val_at (holdings a) (length ws) y.value) (live_stacks left) =
+    ap live_stacks was ∙ more_stacks (val_at (holdings a) (length ws) y.value) (stacks_in left.slots) (stacks_lent left.callers) in
+    omega (
+      arith,
+      with_number a.stacks.lists (slice_index_or a.numbers.items (length ws) (pos 0)) y.value (live_stacks left),
+      slots,
+      c.self.invariant.stacks,
+      ap live_stacks c.self.view_is,
+    )
 
 pub invariant_of-self : goal.invariant_of-self
 invariant_of-self g c =
@@ -138,14 +145,17 @@ invariant_of-self g c =
     let tail : a.numbers.items ≡ few ++ more = sym (ap (λ l. l ++ drop n a.numbers.items) cut ∙ take-append-drop n a.numbers.items) in
     let is_long : n ≡ length ws = omega (arith, c.len.ensures, c.remove_own-value.new.variables.ok.0) in
     let was_long : length vs ≡ suc (length ws) = omega (arith, ap length gone, length-append ws (y ∷ [])) in
-    let few_long : length few ≡ length ws = omega (arith, ap length cut, length-take-le n a.numbers.items (omega (arith, is_long, was_long, c.self.invariant.beside)), is_long) in
+    let few_long : length few ≡ length ws =
+    omega (arith, ap length cut, length-take-le n a.numbers.items (omega (arith, is_long, was_long, c.self.invariant.beside)), is_long) in
     let fits : length ws ≤ length few = omega (arith, few_long) in
     let on : List (List ℤ) → Holdings = λ ls. record { lists = ls; numbers = few; texts = a.texts } in
     let nested = left_nested (holdings a) xs ns vs a.declared cs h y ms ws gone newest above over in
-    let shorter : held_in (on a.stacks.lists) xs a.declared ws cs ≡ held_in (holdings a) xs a.declared ws cs = same_beside a.texts a.stacks.lists few more a.numbers.items tail xs a.declared ws cs nested fits in
+    let shorter : held_in (on a.stacks.lists) xs a.declared ws cs ≡ held_in (holdings a) xs a.declared ws cs =
+    same_beside a.texts a.stacks.lists few more a.numbers.items tail xs a.declared ws cs nested fits in
     let left = held_in (holdings a) xs a.declared ws cs in
     let top : H.slots ≡ Slot (name_among xs y) (val_at (holdings a) (length ws) y.value) left.slots = ap (λ (h : StoreState). h.slots) was in
-    let slots : live_stacks H ≡ stacks_with (val_at (holdings a) (length ws) y.value) (live_stacks left) = ap live_stacks was ∙ more_stacks (val_at (holdings a) (length ws) y.value) (stacks_in left.slots) (stacks_lent left.callers) in
+    let slots : live_stacks H ≡ stacks_with (val_at (holdings a) (length ws) y.value) (live_stacks left) =
+    ap live_stacks was ∙ more_stacks (val_at (holdings a) (length ws) y.value) (stacks_in left.slots) (stacks_lent left.callers) in
     let all : a.declared ≡ length vs = all_declared (holdings a) xs ns vs a.declared cs h H c.self.view_is c.requires.whole in
     let long : length vs ≡ suc (length ws) = omega (arith, ap length gone, length-append ws (y ∷ [])) in
     let lists = ap (λ (s : Pooled). s.lists) c.take_back.ensures in
@@ -153,14 +163,39 @@ invariant_of-self g c =
     let e = c.requires.first in
     let both : Slot (name_among xs y) (val_at (holdings a) (length ws) y.value) left.slots ≡ Slot e.0 e.1 e.2 = sym top ∙ e.3 in
     let same : val_at (holdings a) (length ws) y.value ≡ e.1 = cc in
-    let none : held_by (val_at (holdings a) (length ws) y.value) ≡ 0 = none_cleared (val_at (holdings a) (length ws) y.value) (subst (λ v. cleared_val v ≡ v) (sym same) e.4) in
+    let none : held_by (val_at (holdings a) (length ws) y.value) ≡ 0 =
+    none_cleared (val_at (holdings a) (length ws) y.value) (subst (λ v. cleared_val v ≡ v) (sym same) e.4) in
     kept_over xs _ stay (record {
-      held = other_texts c.take_back.new.stacks.lists few a.texts ts xs ms ws (a.declared - 1) cs (subst (λ ls. IsHeld (on ls) xs ms ws (a.declared - 1) cs) (sym lists)
-          (held_shorter a.texts a.stacks.lists few more a.numbers.items tail xs ms ws (a.declared - 1) cs fits (left_held (holdings a) xs ns vs a.declared cs h y ms ws gone newest above over (a.declared - 1) (omega arith) (omega (arith, all, long, outermost_alone (length ws) cs alone)) (omega (arith, all, long)))));
-      stacks = omega (arith, ap live_stacks shorter, ap (λ ls. live_stacks (held_in (on ls) xs a.declared ws cs)) lists, with_number a.stacks.lists (slice_index_or a.numbers.items (length ws) (pos 0)) y.value (live_stacks left), ap length spare, length-append a.stacks.spare (number_in y.value), slots, c.self.invariant.stacks, ap live_stacks c.self.view_is);
-      values = omega (arith, ap values_held shorter, ap (λ ls. values_held (held_in (on ls) xs a.declared ws cs)) lists, ap total lists, c.self.invariant.values, ap values_held c.self.view_is, ap values_held was, none);
-      apart = λ i. let z = times_left vs ws y gone i in let w = ap (times i) spare in let t = times_append i a.stacks.spare (number_in y.value) in let o = c.self.invariant.apart i in omega (arith, z, w, t, o);
-      known = λ i le. let z = times_left vs ws y gone i in let w = ap (times i) spare in let t = times_append i a.stacks.spare (number_in y.value) in let o = c.self.invariant.known i le in omega (arith, z, w, t, o);
+      held = other_texts c.take_back.new.stacks.lists few a.texts ts xs ms ws (a.declared - 1) cs
+          (subst (λ ls. IsHeld (on ls) xs ms ws (a.declared - 1) cs) (sym lists)
+          (held_shorter a.texts a.stacks.lists few more a.numbers.items tail xs ms ws (a.declared - 1) cs fits
+          (left_held (holdings a) xs ns vs a.declared cs h y ms ws gone newest above over (a.declared - 1) (omega arith)
+          (omega (arith, all, long, outermost_alone (length ws) cs alone)) (omega (arith, all, long)))));
+      stacks = omega (
+        arith,
+        ap live_stacks shorter,
+        ap (λ ls. live_stacks (held_in (on ls) xs a.declared ws cs)) lists,
+        with_number a.stacks.lists (slice_index_or a.numbers.items (length ws) (pos 0)) y.value (live_stacks left),
+        ap length spare,
+        length-append a.stacks.spare (number_in y.value),
+        slots,
+        c.self.invariant.stacks,
+        ap live_stacks c.self.view_is,
+      );
+      values = omega (
+        arith,
+        ap values_held shorter,
+        ap (λ ls. values_held (held_in (on ls) xs a.declared ws cs)) lists,
+        ap total lists,
+        c.self.invariant.values,
+        ap values_held c.self.view_is,
+        ap values_held was,
+        none,
+      );
+      apart = λ i. let z = times_left vs ws y gone i in let w = ap (times i) spare in let t = times_append i a.stacks.spare (number_in y.value) in let o =
+          c.self.invariant.apart i in omega (arith, z, w, t, o);
+      known = λ i le. let z = times_left vs ws y gone i in let w = ap (times i) spare in let t = times_append i a.stacks.spare (number_in y.value) in let o =
+          c.self.invariant.known i le in omega (arith, z, w, t, o);
       beside = few_long;
       room = omega (arith, c.self.invariant.room, c.remove_own-value.ensures.room);
       numbers_room = omega (arith, c.self.invariant.numbers_room, c.truncate.ensures.capacity);
@@ -169,7 +204,8 @@ invariant_of-self g c =
       counted = counted_under vs ws y cs (omega (arith, over, start_of (bounds xs [] ws) (length ws) cs)) gone c.self.invariant.counted;
       places_room = omega (arith, c.self.invariant.places_room, c.remove_own-value.ensures.places_room);
       in_front = c.self.invariant.in_front;
-      told = told_retired a.texts ts a.declared (a.declared - 1) vs ws (y ∷ []) c.self.invariant.told (omega arith) c.truncate-2.ensures.names c.truncate-2.ensures.one_number gone;
+      told = told_retired a.texts ts a.declared (a.declared - 1) vs ws (y ∷ []) c.self.invariant.told (omega arith)
+          c.truncate-2.ensures.names c.truncate-2.ensures.one_number gone;
     })
 
 pub returns : goal.returns
@@ -199,19 +235,22 @@ returns g c =
     let tail : a.numbers.items ≡ few ++ more = sym (ap (λ l. l ++ drop n a.numbers.items) cut ∙ take-append-drop n a.numbers.items) in
     let is_long : n ≡ length ws = omega (arith, c.len.ensures, c.remove_own-value.new.variables.ok.0) in
     let was_long : length vs ≡ suc (length ws) = omega (arith, ap length gone, length-append ws (y ∷ [])) in
-    let few_long : length few ≡ length ws = omega (arith, ap length cut, length-take-le n a.numbers.items (omega (arith, is_long, was_long, c.self.invariant.beside)), is_long) in
+    let few_long : length few ≡ length ws =
+    omega (arith, ap length cut, length-take-le n a.numbers.items (omega (arith, is_long, was_long, c.self.invariant.beside)), is_long) in
     let fits : length ws ≤ length few = omega (arith, few_long) in
     let on : List (List ℤ) → Holdings = λ ls. record { lists = ls; numbers = few; texts = ts } in
     let with_texts : Holdings = record { lists = a.stacks.lists; numbers = a.numbers.items; texts = ts } in
     let nested = left_nested (holdings a) xs ns vs a.declared cs h y ms ws gone newest above over in
-    let shorter : held_in (on a.stacks.lists) xs (a.declared - 1) ws cs ≡ held_in with_texts xs (a.declared - 1) ws cs = same_beside ts a.stacks.lists few more a.numbers.items tail xs (a.declared - 1) ws cs nested fits in
+    let shorter : held_in (on a.stacks.lists) xs (a.declared - 1) ws cs ≡ held_in with_texts xs (a.declared - 1) ws cs =
+    same_beside ts a.stacks.lists few more a.numbers.items tail xs (a.declared - 1) ws cs nested fits in
     let left = held_in (holdings a) xs a.declared ws cs in
     let top : H.slots ≡ Slot (name_among xs y) (val_at (holdings a) (length ws) y.value) left.slots = ap (λ (h : StoreState). h.slots) was in
     let lists = ap (λ (s : Pooled). s.lists) c.take_back.ensures in
     ap (λ l. held_in (on c.take_back.new.stacks.lists) l (a.declared - 1) ws cs) stay
     ∙ ap (λ ls. held_in (on ls) xs (a.declared - 1) ws cs) lists ∙ shorter
     ∙ same_state (sym (ap rest_of top)) (ap (λ (h : StoreState). h.declared - 1) c.self.view_is)
-    (c.truncate-2.ensures.names ∙ ap (λ (h : StoreState). take (h.declared - 1) h.texts) c.self.view_is) (ap (λ (h : StoreState). h.names) c.self.view_is) (sym (ap (λ (h : StoreState). h.callers) was) ∙ c.requires.whole.callers)
+    (c.truncate-2.ensures.names ∙ ap (λ (h : StoreState). take (h.declared - 1) h.texts) c.self.view_is) (ap (λ (h : StoreState). h.names) c.self.view_is)
+    (sym (ap (λ (h : StoreState). h.callers) was) ∙ c.requires.whole.callers)
 
 pub overflow_sub-self : goal.overflow_sub-self
 overflow_sub-self g c =

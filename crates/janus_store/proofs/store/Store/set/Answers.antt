@@ -32,8 +32,15 @@ index_mut-requires g c =
     let h = c.self.invariant.held in
     let H = c.args.self.now in
     let e = c.place-at.ensures in
-    let q : IsPlaceOf ns vs c.args.name c.place-at.result = (e.0, e.1, ap (λ l. slice_get l c.args.name) (sym c.deref.ensures.value) ∙ e.2, ap (λ l. slice_get l e.0) (sym c.deref-2.ensures.value) ∙ e.3, e.4) in
-    omega (arith, place_fits (holdings a) xs ns vs a.declared cs h H c.self.view_is c.args.name c.requires.0 (Num c.requires.2.0) c.place-at.result c.requires.1 c.requires.2.1 q, c.self.invariant.beside, a.numbers.ok.0)
+    let q : IsPlaceOf ns vs c.args.name c.place-at.result =
+    (e.0, e.1, ap (λ l. slice_get l c.args.name) (sym c.deref.ensures.value) ∙ e.2, ap (λ l. slice_get l e.0) (sym c.deref-2.ensures.value) ∙ e.3, e.4) in
+    omega (
+      arith,
+      place_fits (holdings a) xs ns vs a.declared cs h H c.self.view_is c.args.name c.requires.0 (Num c.requires.2.0)
+          c.place-at.result c.requires.1 c.requires.2.1 q,
+      c.self.invariant.beside,
+      a.numbers.ok.0,
+    )
 
 pub invariant_of-self : goal.invariant_of-self
 invariant_of-self g c =
@@ -46,15 +53,32 @@ invariant_of-self g c =
     let H = c.args.self.now in
     let e = c.place-at.ensures in
     let p = c.place-at.result in
-    let q : IsPlaceOf ns vs c.args.name p = (e.0, e.1, ap (λ l. slice_get l c.args.name) (sym c.deref.ensures.value) ∙ e.2, ap (λ l. slice_get l e.0) (sym c.deref-2.ensures.value) ∙ e.3, e.4) in
+    let q : IsPlaceOf ns vs c.args.name p =
+    (e.0, e.1, ap (λ l. slice_get l c.args.name) (sym c.deref.ensures.value) ∙ e.2, ap (λ l. slice_get l e.0) (sym c.deref-2.ensures.value) ∙ e.3, e.4) in
     let seen = c.requires.2.1 in
-    let fits : p < length a.numbers.items = omega (arith, c.self.invariant.beside, place_fits (holdings a) xs ns vs a.declared cs h H c.self.view_is c.args.name c.requires.0 (Num c.requires.2.0) p c.requires.1 seen q) in
+    let fits : p < length a.numbers.items =
+    omega (
+      arith,
+      c.self.invariant.beside,
+      place_fits (holdings a) xs ns vs a.declared cs h H c.self.view_is c.args.name c.requires.0 (Num c.requires.2.0)
+          p c.requires.1 seen q,
+    ) in
     let m = to_z w32 (of_z w32 c.args.number) in
     let after = set a.numbers.items p m in
     record {
       held = number_held (holdings a) xs ns vs a.declared cs h H c.self.view_is c.args.name c.requires.0 c.requires.2.0 c.requires.1 seen p q m after refl fits;
-      stacks = omega (arith, c.self.invariant.stacks, ap live_stacks c.self.view_is, number_live (holdings a) xs ns vs a.declared cs h H c.self.view_is c.args.name c.requires.0 c.requires.2.0 c.requires.1 seen p q m after refl fits);
-      values = omega (arith, c.self.invariant.values, ap values_held c.self.view_is, number_values (holdings a) xs ns vs a.declared cs h H c.self.view_is c.args.name c.requires.0 c.requires.2.0 c.requires.1 seen p q m after refl fits);
+      stacks = omega (
+        arith,
+        c.self.invariant.stacks,
+        ap live_stacks c.self.view_is,
+        number_live (holdings a) xs ns vs a.declared cs h H c.self.view_is c.args.name c.requires.0 c.requires.2.0 c.requires.1 seen p q m after refl fits,
+      );
+      values = omega (
+        arith,
+        c.self.invariant.values,
+        ap values_held c.self.view_is,
+        number_values (holdings a) xs ns vs a.declared cs h H c.self.view_is c.args.name c.requires.0 c.requires.2.0 c.requires.1 seen p q m after refl fits,
+      );
       apart = c.self.invariant.apart;
       known = c.self.invariant.known;
       beside = length-set a.numbers.items p m ∙ c.self.invariant.beside;
@@ -79,9 +103,16 @@ returns-clause-shape g c =
     let H = c.args.self.now in
     let e = c.place-at.ensures in
     let p = c.place-at.result in
-    let q : IsPlaceOf ns vs c.args.name p = (e.0, e.1, ap (λ l. slice_get l c.args.name) (sym c.deref.ensures.value) ∙ e.2, ap (λ l. slice_get l e.0) (sym c.deref-2.ensures.value) ∙ e.3, e.4) in
+    let q : IsPlaceOf ns vs c.args.name p =
+    (e.0, e.1, ap (λ l. slice_get l c.args.name) (sym c.deref.ensures.value) ∙ e.2, ap (λ l. slice_get l e.0) (sym c.deref-2.ensures.value) ∙ e.3, e.4) in
     let seen = c.requires.2.1 in
-    let fits : p < length a.numbers.items = omega (arith, c.self.invariant.beside, place_fits (holdings a) xs ns vs a.declared cs h H c.self.view_is c.args.name c.requires.0 (Num c.requires.2.0) p c.requires.1 seen q) in
+    let fits : p < length a.numbers.items =
+    omega (
+      arith,
+      c.self.invariant.beside,
+      place_fits (holdings a) xs ns vs a.declared cs h H c.self.view_is c.args.name c.requires.0 (Num c.requires.2.0)
+          p c.requires.1 seen q,
+    ) in
     let m = to_z w32 (of_z w32 c.args.number) in
     let after = set a.numbers.items p m in
     number_like (holdings a) xs ns vs a.declared cs h H c.self.view_is c.args.name c.requires.0 c.requires.2.0 c.requires.1 seen p q m after refl fits
@@ -97,10 +128,17 @@ returns-clause-written g c = λ x named.
     let H = c.args.self.now in
     let e = c.place-at.ensures in
     let p = c.place-at.result in
-    let q : IsPlaceOf ns vs c.args.name p = (e.0, e.1, ap (λ l. slice_get l c.args.name) (sym c.deref.ensures.value) ∙ e.2, ap (λ l. slice_get l e.0) (sym c.deref-2.ensures.value) ∙ e.3, e.4) in
+    let q : IsPlaceOf ns vs c.args.name p =
+    (e.0, e.1, ap (λ l. slice_get l c.args.name) (sym c.deref.ensures.value) ∙ e.2, ap (λ l. slice_get l e.0) (sym c.deref-2.ensures.value) ∙ e.3, e.4) in
     let same : c.requires.0 ≡ x = let both : Some c.requires.0 ≡ Some x = sym c.requires.1 ∙ named in cc in
     let seen = ap (λ x. look x H.slots) (sym same) ∙ c.requires.2.1 in
-    let fits : p < length a.numbers.items = omega (arith, c.self.invariant.beside, place_fits (holdings a) xs ns vs a.declared cs h H c.self.view_is c.args.name x (Num c.requires.2.0) p named seen q) in
+    let fits : p < length a.numbers.items =
+    omega (
+      arith,
+      c.self.invariant.beside,
+      place_fits (holdings a) xs ns vs a.declared cs h H c.self.view_is c.args.name x (Num c.requires.2.0)
+          p named seen q,
+    ) in
     let m = to_z w32 (of_z w32 c.args.number) in
     let after = set a.numbers.items p m in
     ap (λ n. write x (Num n) H.slots) (sym (to_z-of_z w32 c.args.number c.ranges.number))

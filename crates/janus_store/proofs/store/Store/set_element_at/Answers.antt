@@ -29,8 +29,12 @@ nth-place-requires g c =
     let h = c.self.invariant.held in
     let H = c.args.self.now in
     let told = c.self.invariant.in_front in
-    let t = nth_there (holdings a) xs ns vs a.declared cs h a.places c.self.invariant.sorted c.self.invariant.counted H c.self.view_is kinds.Array c.args.k c.requires.0 c.requires.1 in
-    (t.0, ap (λ l. slice_get l (a.in_front.arrays + c.args.k)) c.arrays.ensures ∙ ap (λ (ls : Lengths). slice_get a.places.arrays (ls.arrays + c.args.k)) told ∙ t.1)
+    let t = nth_there (holdings a) xs ns vs a.declared cs h a.places c.self.invariant.sorted c.self.invariant.counted H c.self.view_is kinds.Array c.args.k
+    c.requires.0 c.requires.1 in (
+      t.0,
+      ap (λ l. slice_get l (a.in_front.arrays + c.args.k)) c.arrays.ensures ∙ ap (λ (ls : Lengths). slice_get a.places.arrays (ls.arrays + c.args.k)) told
+          ∙ t.1,
+    )
 
 pub index_mut-requires : goal.index_mut-requires
 index_mut-requires g c =
@@ -44,8 +48,11 @@ index_mut-requires g c =
     let told = c.self.invariant.in_front in
     let p = c.nth-place.result in
     let b = slice_index_or a.numbers.items p (pos 0) in
-    let e : slice_get a.places.arrays ((lengths_before cs).arrays + c.args.k) ≡ Some p = ap (λ (ls : Lengths). slice_get a.places.arrays (ls.arrays + c.args.k)) (sym told) ∙ ap (λ l. slice_get l (a.in_front.arrays + c.args.k)) (sym c.arrays.ensures) ∙ c.nth-place.ensures in
-    let r = nth_found (holdings a) xs ns vs a.declared cs h a.places c.self.invariant.sorted c.self.invariant.counted H c.self.view_is kinds.Array c.args.k c.requires.0 c.requires.1 p e in
+    let e : slice_get a.places.arrays ((lengths_before cs).arrays + c.args.k) ≡ Some p =
+    ap (λ (ls : Lengths). slice_get a.places.arrays (ls.arrays + c.args.k)) (sym told)
+    ∙ ap (λ l. slice_get l (a.in_front.arrays + c.args.k)) (sym c.arrays.ensures) ∙ c.nth-place.ensures in
+    let r = nth_found (holdings a) xs ns vs a.declared cs h a.places c.self.invariant.sorted c.self.invariant.counted H c.self.view_is kinds.Array c.args.k
+    c.requires.0 c.requires.1 p e in
     omega (arith, place_fits (holdings a) xs ns vs a.declared cs h H c.self.view_is r.number c.requires.0 r.value p r.named r.seen r.place, a.variables.ok.0)
 
 pub set_element-requires : goal.set_element-requires
@@ -60,11 +67,15 @@ set_element-requires g c =
     let told = c.self.invariant.in_front in
     let p = c.nth-place.result in
     let b = slice_index_or a.numbers.items p (pos 0) in
-    let e : slice_get a.places.arrays ((lengths_before cs).arrays + c.args.k) ≡ Some p = ap (λ (ls : Lengths). slice_get a.places.arrays (ls.arrays + c.args.k)) (sym told) ∙ ap (λ l. slice_get l (a.in_front.arrays + c.args.k)) (sym c.arrays.ensures) ∙ c.nth-place.ensures in
-    let r = nth_found (holdings a) xs ns vs a.declared cs h a.places c.self.invariant.sorted c.self.invariant.counted H c.self.view_is kinds.Array c.args.k c.requires.0 c.requires.1 p e in
+    let e : slice_get a.places.arrays ((lengths_before cs).arrays + c.args.k) ≡ Some p =
+    ap (λ (ls : Lengths). slice_get a.places.arrays (ls.arrays + c.args.k)) (sym told)
+    ∙ ap (λ l. slice_get l (a.in_front.arrays + c.args.k)) (sym c.arrays.ensures) ∙ c.nth-place.ensures in
+    let r = nth_found (holdings a) xs ns vs a.declared cs h a.places c.self.invariant.sorted c.self.invariant.counted H c.self.view_is kinds.Array c.args.k
+    c.requires.0 c.requires.1 p e in
     let v = c.index_mut.result.now in
     let read = c.index_mut.ensures.value in
-    let same = value_is (holdings a) xs ns vs a.declared cs h H c.self.view_is r.number c.requires.0 (Arr c.requires.2.0) p v r.named c.requires.2.2 r.place read in
+    let same = value_is (holdings a) xs ns vs a.declared cs h H c.self.view_is r.number c.requires.0 (Arr c.requires.2.0)
+    p v r.named c.requires.2.2 r.place read in
     (a.stacks.lists, b, (c.requires.2.0, c.requires.2.1, same, ap (element c.requires.2.0) (to_z-of_z w32 c.args.index c.ranges.index) ∙ c.requires.2.3))
 
 pub invariant_of-self : goal.invariant_of-self
@@ -79,20 +90,42 @@ invariant_of-self g c =
     let told = c.self.invariant.in_front in
     let p = c.nth-place.result in
     let b = slice_index_or a.numbers.items p (pos 0) in
-    let e : slice_get a.places.arrays ((lengths_before cs).arrays + c.args.k) ≡ Some p = ap (λ (ls : Lengths). slice_get a.places.arrays (ls.arrays + c.args.k)) (sym told) ∙ ap (λ l. slice_get l (a.in_front.arrays + c.args.k)) (sym c.arrays.ensures) ∙ c.nth-place.ensures in
-    let r = nth_found (holdings a) xs ns vs a.declared cs h a.places c.self.invariant.sorted c.self.invariant.counted H c.self.view_is kinds.Array c.args.k c.requires.0 c.requires.1 p e in
+    let e : slice_get a.places.arrays ((lengths_before cs).arrays + c.args.k) ≡ Some p =
+    ap (λ (ls : Lengths). slice_get a.places.arrays (ls.arrays + c.args.k)) (sym told)
+    ∙ ap (λ l. slice_get l (a.in_front.arrays + c.args.k)) (sym c.arrays.ensures) ∙ c.nth-place.ensures in
+    let r = nth_found (holdings a) xs ns vs a.declared cs h a.places c.self.invariant.sorted c.self.invariant.counted H c.self.view_is kinds.Array c.args.k
+    c.requires.0 c.requires.1 p e in
     let v = c.index_mut.result.now in
     let read = c.index_mut.ensures.value in
     let new = c.set_element.new.self in
-    let same = value_is (holdings a) xs ns vs a.declared cs h H c.self.view_is r.number c.requires.0 (Arr c.requires.2.0) p v r.named c.requires.2.2 r.place read in
-    let shape : cleared_val (val_at (holdings a) p new) ≡ cleared_val (Arr c.requires.2.0) = c.set_element.ensures.extent a.stacks.lists b ∙ ap cleared_val same in
-    let there : slice_get vs p ≡ Some v = slice_get_read vs (length vs) p v refl (place_fits (holdings a) xs ns vs a.declared cs h H c.self.view_is r.number c.requires.0 (Arr c.requires.2.0) p r.named c.requires.2.2 r.place) read in
+    let same = value_is (holdings a) xs ns vs a.declared cs h H c.self.view_is r.number c.requires.0 (Arr c.requires.2.0)
+    p v r.named c.requires.2.2 r.place read in
+    let shape : cleared_val (val_at (holdings a) p new) ≡ cleared_val (Arr c.requires.2.0) = c.set_element.ensures.extent a.stacks.lists b
+    ∙ ap cleared_val same in
+    let there : slice_get vs p ≡ Some v =
+    slice_get_read vs (length vs) p v refl
+    (place_fits (holdings a) xs ns vs a.declared cs h H c.self.view_is r.number c.requires.0 (Arr c.requires.2.0) p r.named c.requires.2.2 r.place) read in
     let keep = stacks_written vs p v (record { name = v.name; hidden = v.hidden; place = v.place; value = new }) there c.set_element.ensures.stack in
-    let marks = marks_set vs p v (record { name = v.name; hidden = v.hidden; place = v.place; value = new }) there refl (same_shape a.stacks.lists b v.value new (shape ∙ sym (ap cleared_val same))) in
+    let marks = marks_set vs p v (record { name = v.name; hidden = v.hidden; place = v.place; value = new }) there refl
+    (same_shape a.stacks.lists b v.value new (shape ∙ sym (ap cleared_val same))) in
     record {
-      held = set_held (holdings a) xs ns vs a.declared cs h H c.self.view_is r.number c.requires.0 (Arr c.requires.2.0) p v r.named c.requires.2.2 r.place read (holdings a) (λ j ne. refl) new;
-      stacks = omega (arith, c.self.invariant.stacks, ap live_stacks c.self.view_is, set_stacks (holdings a) xs ns vs a.declared cs h H c.self.view_is r.number c.requires.0 (Arr c.requires.2.0) p v r.named c.requires.2.2 r.place read (holdings a) (λ j ne. refl) new shape);
-      values = omega (arith, c.self.invariant.values, ap values_held c.self.view_is, set_values (holdings a) xs ns vs a.declared cs h H c.self.view_is r.number c.requires.0 (Arr c.requires.2.0) p v r.named c.requires.2.2 r.place read (holdings a) (λ j ne. refl) new, ap held_by (c.set_element.ensures.written a.stacks.lists b c.requires.2.0 same));
+      held = set_held (holdings a) xs ns vs a.declared cs h H c.self.view_is r.number c.requires.0 (Arr c.requires.2.0) p v r.named c.requires.2.2 r.place read
+          (holdings a) (λ j ne. refl) new;
+      stacks = omega (
+        arith,
+        c.self.invariant.stacks,
+        ap live_stacks c.self.view_is,
+        set_stacks (holdings a) xs ns vs a.declared cs h H c.self.view_is r.number c.requires.0 (Arr c.requires.2.0) p v r.named c.requires.2.2 r.place read
+            (holdings a) (λ j ne. refl) new shape,
+      );
+      values = omega (
+        arith,
+        c.self.invariant.values,
+        ap values_held c.self.view_is,
+        set_values (holdings a) xs ns vs a.declared cs h H c.self.view_is r.number c.requires.0 (Arr c.requires.2.0) p v r.named c.requires.2.2 r.place read
+            (holdings a) (λ j ne. refl) new,
+        ap held_by (c.set_element.ensures.written a.stacks.lists b c.requires.2.0 same),
+      );
       apart = λ i. let z = ap (times i) keep in let o = c.self.invariant.apart i in omega (arith, z, o);
       known = λ i le. let z = ap (times i) keep in let o = c.self.invariant.known i le in omega (arith, z, o);
       beside = c.self.invariant.beside ∙ sym (length-set vs p (record { name = v.name; hidden = v.hidden; place = v.place; value = new }));
@@ -118,14 +151,20 @@ returns-clause-shape g c =
     let told = c.self.invariant.in_front in
     let p = c.nth-place.result in
     let b = slice_index_or a.numbers.items p (pos 0) in
-    let e : slice_get a.places.arrays ((lengths_before cs).arrays + c.args.k) ≡ Some p = ap (λ (ls : Lengths). slice_get a.places.arrays (ls.arrays + c.args.k)) (sym told) ∙ ap (λ l. slice_get l (a.in_front.arrays + c.args.k)) (sym c.arrays.ensures) ∙ c.nth-place.ensures in
-    let r = nth_found (holdings a) xs ns vs a.declared cs h a.places c.self.invariant.sorted c.self.invariant.counted H c.self.view_is kinds.Array c.args.k c.requires.0 c.requires.1 p e in
+    let e : slice_get a.places.arrays ((lengths_before cs).arrays + c.args.k) ≡ Some p =
+    ap (λ (ls : Lengths). slice_get a.places.arrays (ls.arrays + c.args.k)) (sym told)
+    ∙ ap (λ l. slice_get l (a.in_front.arrays + c.args.k)) (sym c.arrays.ensures) ∙ c.nth-place.ensures in
+    let r = nth_found (holdings a) xs ns vs a.declared cs h a.places c.self.invariant.sorted c.self.invariant.counted H c.self.view_is kinds.Array c.args.k
+    c.requires.0 c.requires.1 p e in
     let v = c.index_mut.result.now in
     let read = c.index_mut.ensures.value in
     let new = c.set_element.new.self in
-    let same = value_is (holdings a) xs ns vs a.declared cs h H c.self.view_is r.number c.requires.0 (Arr c.requires.2.0) p v r.named c.requires.2.2 r.place read in
-    let shape : cleared_val (val_at (holdings a) p new) ≡ cleared_val (Arr c.requires.2.0) = c.set_element.ensures.extent a.stacks.lists b ∙ ap cleared_val same in
-    set_like (holdings a) xs ns vs a.declared cs h H c.self.view_is r.number c.requires.0 (Arr c.requires.2.0) p v r.named c.requires.2.2 r.place read (holdings a) (λ j ne. refl) new shape refl
+    let same = value_is (holdings a) xs ns vs a.declared cs h H c.self.view_is r.number c.requires.0 (Arr c.requires.2.0)
+    p v r.named c.requires.2.2 r.place read in
+    let shape : cleared_val (val_at (holdings a) p new) ≡ cleared_val (Arr c.requires.2.0) = c.set_element.ensures.extent a.stacks.lists b
+    ∙ ap cleared_val same in
+    set_like (holdings a) xs ns vs a.declared cs h H c.self.view_is r.number c.requires.0 (Arr c.requires.2.0) p v r.named c.requires.2.2 r.place read
+    (holdings a) (λ j ne. refl) new shape refl
 
 pub returns-clause-written : goal.returns-clause-written
 returns-clause-written g c = λ x l nth k.
@@ -139,12 +178,16 @@ returns-clause-written g c = λ x l nth k.
     let told = c.self.invariant.in_front in
     let p = c.nth-place.result in
     let b = slice_index_or a.numbers.items p (pos 0) in
-    let e : slice_get a.places.arrays ((lengths_before cs).arrays + c.args.k) ≡ Some p = ap (λ (ls : Lengths). slice_get a.places.arrays (ls.arrays + c.args.k)) (sym told) ∙ ap (λ l. slice_get l (a.in_front.arrays + c.args.k)) (sym c.arrays.ensures) ∙ c.nth-place.ensures in
-    let r = nth_found (holdings a) xs ns vs a.declared cs h a.places c.self.invariant.sorted c.self.invariant.counted H c.self.view_is kinds.Array c.args.k x nth p e in
+    let e : slice_get a.places.arrays ((lengths_before cs).arrays + c.args.k) ≡ Some p =
+    ap (λ (ls : Lengths). slice_get a.places.arrays (ls.arrays + c.args.k)) (sym told)
+    ∙ ap (λ l. slice_get l (a.in_front.arrays + c.args.k)) (sym c.arrays.ensures) ∙ c.nth-place.ensures in
+    let r = nth_found (holdings a) xs ns vs a.declared cs h a.places c.self.invariant.sorted c.self.invariant.counted H c.self.view_is kinds.Array c.args.k x
+    nth p e in
     let v = c.index_mut.result.now in
     let read = c.index_mut.ensures.value in
     let new = c.set_element.new.self in
     let same = value_is (holdings a) xs ns vs a.declared cs h H c.self.view_is r.number x (Arr l) p v r.named k r.place read in
     ap (λ n. write x (Arr (set_element l n c.args.number)) H.slots) (sym (to_z-of_z w32 c.args.index c.ranges.index))
     ∙ ap (λ n. write x (Arr (set_element l (to_z w32 (of_z w32 c.args.index)) n)) H.slots) (sym (to_z-of_z w32 c.args.number c.ranges.number))
-    ∙ ap (λ u. write x u H.slots) (sym (c.set_element.ensures.written a.stacks.lists b l same)) ∙ set_written (holdings a) xs ns vs a.declared cs h H c.self.view_is r.number x (Arr l) p v r.named k r.place read (holdings a) (λ j ne. refl) new
+    ∙ ap (λ u. write x u H.slots) (sym (c.set_element.ensures.written a.stacks.lists b l same))
+    ∙ set_written (holdings a) xs ns vs a.declared cs h H c.self.view_is r.number x (Arr l) p v r.named k r.place read (holdings a) (λ j ne. refl) new

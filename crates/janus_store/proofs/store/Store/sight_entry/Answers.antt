@@ -21,7 +21,8 @@ overflow_add-sight_start g c =
     let h = c.self.invariant.held in
     let i = c.args.i in
     let start : c.sight_start.result ≡ sight_start cs = c.sight_start.ensures ∙ ap (λ l. sight_start (reverse l)) c.deref.ensures.value in
-    let within : sight_start cs + i < length vs = omega (arith, c.requires, ap (λ (h : StoreState). size_of h.slots) c.self.view_is, sight_long (holdings a) xs ns vs a.declared cs h) in
+    let within : sight_start cs + i < length vs =
+    omega (arith, c.requires, ap (λ (h : StoreState). size_of h.slots) c.self.view_is, sight_long (holdings a) xs ns vs a.declared cs h) in
     omega (arith, start, within, a.variables.ok.0)
 
 pub index-variable-requires : goal.index-variable-requires
@@ -34,7 +35,8 @@ index-variable-requires g c =
     let h = c.self.invariant.held in
     let i = c.args.i in
     let start : c.sight_start.result ≡ sight_start cs = c.sight_start.ensures ∙ ap (λ l. sight_start (reverse l)) c.deref.ensures.value in
-    let within : sight_start cs + i < length vs = omega (arith, c.requires, ap (λ (h : StoreState). size_of h.slots) c.self.view_is, sight_long (holdings a) xs ns vs a.declared cs h) in
+    let within : sight_start cs + i < length vs =
+    omega (arith, c.requires, ap (λ (h : StoreState). size_of h.slots) c.self.view_is, sight_long (holdings a) xs ns vs a.declared cs h) in
     omega (arith, start, within, a.variables.ok.0)
 
 pub index-requires : goal.index-requires
@@ -47,9 +49,11 @@ index-requires g c =
     let h = c.self.invariant.held in
     let i = c.args.i in
     let start : c.sight_start.result ≡ sight_start cs = c.sight_start.ensures ∙ ap (λ l. sight_start (reverse l)) c.deref.ensures.value in
-    let within : sight_start cs + i < length vs = omega (arith, c.requires, ap (λ (h : StoreState). size_of h.slots) c.self.view_is, sight_long (holdings a) xs ns vs a.declared cs h) in
+    let within : sight_start cs + i < length vs =
+    omega (arith, c.requires, ap (λ (h : StoreState). size_of h.slots) c.self.view_is, sight_long (holdings a) xs ns vs a.declared cs h) in
     let v = c.index-variable.result.now in
-    let at : slice_get vs (sight_start cs + i) ≡ Some v = ap (λ k. slice_get vs (k + i)) (sym start) ∙ slice_get_read vs (length vs) (c.sight_start.result + i) v refl (omega (arith, start, within)) c.index-variable.ensures in
+    let at : slice_get vs (sight_start cs + i) ≡ Some v = ap (λ k. slice_get vs (k + i)) (sym start)
+    ∙ slice_get_read vs (length vs) (c.sight_start.result + i) v refl (omega (arith, start, within)) c.index-variable.ensures in
     omega (arith, place_in_sight (holdings a) xs ns vs a.declared cs h i v at, a.variables.ok.0)
 
 pub beside-requires : goal.beside-requires
@@ -62,9 +66,11 @@ beside-requires g c =
     let h = c.self.invariant.held in
     let i = c.args.i in
     let start : c.sight_start.result ≡ sight_start cs = c.sight_start.ensures ∙ ap (λ l. sight_start (reverse l)) c.deref.ensures.value in
-    let within : sight_start cs + i < length vs = omega (arith, c.requires, ap (λ (h : StoreState). size_of h.slots) c.self.view_is, sight_long (holdings a) xs ns vs a.declared cs h) in
+    let within : sight_start cs + i < length vs =
+    omega (arith, c.requires, ap (λ (h : StoreState). size_of h.slots) c.self.view_is, sight_long (holdings a) xs ns vs a.declared cs h) in
     let v = c.index-variable.result.now in
-    let at : slice_get vs (sight_start cs + i) ≡ Some v = ap (λ k. slice_get vs (k + i)) (sym start) ∙ slice_get_read vs (length vs) (c.sight_start.result + i) v refl (omega (arith, start, within)) c.index-variable.ensures in
+    let at : slice_get vs (sight_start cs + i) ≡ Some v = ap (λ k. slice_get vs (k + i)) (sym start)
+    ∙ slice_get_read vs (length vs) (c.sight_start.result + i) v refl (omega (arith, start, within)) c.index-variable.ensures in
     omega (arith, place_in_sight (holdings a) xs ns vs a.declared cs h i v at, c.self.invariant.beside, ap length c.deref-2.ensures.value)
 
 pub view-requires : goal.view-requires
@@ -77,9 +83,11 @@ view-requires g c =
     let h = c.self.invariant.held in
     let i = c.args.i in
     let start : c.sight_start.result ≡ sight_start cs = c.sight_start.ensures ∙ ap (λ l. sight_start (reverse l)) c.deref.ensures.value in
-    let within : sight_start cs + i < length vs = omega (arith, c.requires, ap (λ (h : StoreState). size_of h.slots) c.self.view_is, sight_long (holdings a) xs ns vs a.declared cs h) in
+    let within : sight_start cs + i < length vs =
+    omega (arith, c.requires, ap (λ (h : StoreState). size_of h.slots) c.self.view_is, sight_long (holdings a) xs ns vs a.declared cs h) in
     let v = c.index-variable.result.now in
-    let at : slice_get vs (sight_start cs + i) ≡ Some v = ap (λ k. slice_get vs (k + i)) (sym start) ∙ slice_get_read vs (length vs) (c.sight_start.result + i) v refl (omega (arith, start, within)) c.index-variable.ensures in
+    let at : slice_get vs (sight_start cs + i) ≡ Some v = ap (λ k. slice_get vs (k + i)) (sym start)
+    ∙ slice_get_read vs (length vs) (c.sight_start.result + i) v refl (omega (arith, start, within)) c.index-variable.ensures in
     let fits = place_in_sight (holdings a) xs ns vs a.declared cs h i v at in
     let w = c.index.result.now in
     let there : slice_get vs v.place ≡ Some w = slice_get_read vs (length vs) v.place w refl fits c.index.ensures in
@@ -95,9 +103,11 @@ returns-clause-met g c =
     let h = c.self.invariant.held in
     let i = c.args.i in
     let start : c.sight_start.result ≡ sight_start cs = c.sight_start.ensures ∙ ap (λ l. sight_start (reverse l)) c.deref.ensures.value in
-    let within : sight_start cs + i < length vs = omega (arith, c.requires, ap (λ (h : StoreState). size_of h.slots) c.self.view_is, sight_long (holdings a) xs ns vs a.declared cs h) in
+    let within : sight_start cs + i < length vs =
+    omega (arith, c.requires, ap (λ (h : StoreState). size_of h.slots) c.self.view_is, sight_long (holdings a) xs ns vs a.declared cs h) in
     let v = c.index-variable.result.now in
-    let at : slice_get vs (sight_start cs + i) ≡ Some v = ap (λ k. slice_get vs (k + i)) (sym start) ∙ slice_get_read vs (length vs) (c.sight_start.result + i) v refl (omega (arith, start, within)) c.index-variable.ensures in
+    let at : slice_get vs (sight_start cs + i) ≡ Some v = ap (λ k. slice_get vs (k + i)) (sym start)
+    ∙ slice_get_read vs (length vs) (c.sight_start.result + i) v refl (omega (arith, start, within)) c.index-variable.ensures in
     let low = met xs ns vs (laid_of (holdings a) xs ns vs a.declared cs h) (sight_start cs + i) v at in
     omega (arith, low, ap (λ (h : StoreState). length h.names) c.self.view_is)
 
@@ -111,15 +121,19 @@ returns-clause-entry g c =
     let h = c.self.invariant.held in
     let i = c.args.i in
     let start : c.sight_start.result ≡ sight_start cs = c.sight_start.ensures ∙ ap (λ l. sight_start (reverse l)) c.deref.ensures.value in
-    let within : sight_start cs + i < length vs = omega (arith, c.requires, ap (λ (h : StoreState). size_of h.slots) c.self.view_is, sight_long (holdings a) xs ns vs a.declared cs h) in
+    let within : sight_start cs + i < length vs =
+    omega (arith, c.requires, ap (λ (h : StoreState). size_of h.slots) c.self.view_is, sight_long (holdings a) xs ns vs a.declared cs h) in
     let v = c.index-variable.result.now in
-    let at : slice_get vs (sight_start cs + i) ≡ Some v = ap (λ k. slice_get vs (k + i)) (sym start) ∙ slice_get_read vs (length vs) (c.sight_start.result + i) v refl (omega (arith, start, within)) c.index-variable.ensures in
+    let at : slice_get vs (sight_start cs + i) ≡ Some v = ap (λ k. slice_get vs (k + i)) (sym start)
+    ∙ slice_get_read vs (length vs) (c.sight_start.result + i) v refl (omega (arith, start, within)) c.index-variable.ensures in
     let fits = place_in_sight (holdings a) xs ns vs a.declared cs h i v at in
     let w = c.index.result.now in
     let there : slice_get vs v.place ≡ Some w = slice_get_read vs (length vs) v.place w refl fits c.index.ensures in
-    let beside : slice_index_or a.numbers.items v.place (pos 0) ≡ c.beside.result = ap (λ l. slice_index_or l v.place (pos 0)) (sym c.deref-2.ensures.value) ∙ c.beside.ensures in
+    let beside : slice_index_or a.numbers.items v.place (pos 0) ≡ c.beside.result = ap (λ l. slice_index_or l v.place (pos 0)) (sym c.deref-2.ensures.value)
+    ∙ c.beside.ensures in
     ap (λ (h : StoreState). slice_get (listed h.slots) i) (sym c.self.view_is)
     ∙ listed_in_sight (holdings a) xs ns vs a.declared cs h i v w at there
     ∙ ap (λ (h : StoreState). Some (slice_index_or h.names v.name [], val_at (holdings a) v.place w.value)) c.self.view_is
-    ∙ ap (λ n. Some (slice_index_or c.args.self.now.names v.name [], val_in a.stacks.lists n w.value)) (beside ∙ sym (to_z-of_z w32 c.beside.result (record { sfits = c.beside.type_inv })))
+    ∙ ap (λ n. Some (slice_index_or c.args.self.now.names v.name [], val_in a.stacks.lists n w.value))
+    (beside ∙ sym (to_z-of_z w32 c.beside.result (record { sfits = c.beside.type_inv })))
     ∙ ap (λ u. Some (slice_index_or c.args.self.now.names v.name [], u)) (sym c.view.ensures)

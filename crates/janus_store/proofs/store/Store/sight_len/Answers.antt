@@ -11,4 +11,10 @@ returns g c =
     let a = c.self.inside in
     let cs = reverse a.calls.items in
     let start : c.sight_start.result ≡ sight_start cs = c.sight_start.ensures ∙ ap (λ l. sight_start (reverse l)) c.deref.ensures.value in
-    omega (arith, start, c.len.ensures, ap (λ (h : StoreState). size_of h.slots) c.self.view_is, sight_long (holdings a) (slots_of a) a.newest.items a.variables.items a.declared cs c.self.invariant.held)
+    omega (
+      arith,
+      start,
+      c.len.ensures,
+      ap (λ (h : StoreState). size_of h.slots) c.self.view_is,
+      sight_long (holdings a) (slots_of a) a.newest.items a.variables.items a.declared cs c.self.invariant.held,
+    )

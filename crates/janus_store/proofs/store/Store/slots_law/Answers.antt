@@ -14,7 +14,8 @@ use Rattle.janus_store.proofs.store.Store.slots_law.Goals as goal
 pub returns-clause-known : goal.returns-clause-known
 returns-clause-known g c = λ x v e.
     let a = c.self.inside in
-    is_met (holdings a) (slots_of a) a.newest.items a.variables.items a.declared (reverse a.calls.items) c.self.invariant.held c.args.self.now c.self.view_is x v e
+    is_met (holdings a) (slots_of a) a.newest.items a.variables.items a.declared (reverse a.calls.items) c.self.invariant.held c.args.self.now c.self.view_is x
+    v e
 
 pub returns-clause-one_number : goal.returns-clause-one_number
 returns-clause-one_number g c = subst (λ (h : StoreState). HaveOneNumber h.names) c.self.view_is c.self.invariant.held.one_number
@@ -32,7 +33,8 @@ pub returns-clause-declared : goal.returns-clause-declared
 returns-clause-declared g c =
     let a = c.self.inside in
     subst (λ (h : StoreState). in_slots (declared_store h) ≡ declared_store h) c.self.view_is
-    (declared_in_slots (holdings a) (slots_of a) a.newest.items a.declared a.variables.items (reverse a.calls.items) c.self.invariant.held c.self.invariant.told (are_slots (length a.newest.items)))
+    (declared_in_slots (holdings a) (slots_of a) a.newest.items a.declared a.variables.items (reverse a.calls.items) c.self.invariant.held c.self.invariant.told
+    (are_slots (length a.newest.items)))
 
 pub returns-clause-whole : goal.returns-clause-whole
 returns-clause-whole g c = λ all alone. is_whole c.args.self.now (returns-clause-declared g c) all alone
@@ -50,10 +52,12 @@ pub returns-clause-unmet : goal.returns-clause-unmet
 returns-clause-unmet g c = λ x none.
     let a = c.self.inside in
     subst (λ (h : StoreState). IsUnmet h.texts x) c.self.view_is
-    (unmet_by (holdings a) (slots_of a) a.newest.items a.declared a.variables.items (reverse a.calls.items) c.self.invariant.held c.self.invariant.told x (ap (λ (h : StoreState). look x (shown_store h)) c.self.view_is ∙ none))
+    (unmet_by (holdings a) (slots_of a) a.newest.items a.declared a.variables.items (reverse a.calls.items) c.self.invariant.held c.self.invariant.told x
+    (ap (λ (h : StoreState). look x (shown_store h)) c.self.view_is ∙ none))
 
 pub returns-clause-slotted : goal.returns-clause-slotted
 returns-clause-slotted g c =
     let a = c.self.inside in
     subst (λ (h : StoreState). in_slots (shown_store h) ≡ declared_store h) c.self.view_is
-    (shown_in_slots (holdings a) (slots_of a) a.newest.items a.declared a.variables.items (reverse a.calls.items) c.self.invariant.held c.self.invariant.told (are_slots (length a.newest.items)))
+    (shown_in_slots (holdings a) (slots_of a) a.newest.items a.declared a.variables.items (reverse a.calls.items) c.self.invariant.held c.self.invariant.told
+    (are_slots (length a.newest.items)))

@@ -15,7 +15,8 @@ pub returns-in_default : goal.returns-in_default
 returns-in_default g c =
     let a = c.self.inside in
     let cs = reverse a.calls.items in
-    sym (unmet_gone (holdings a) (slots_of a) a.newest.items a.declared a.variables.items cs c.self.invariant.held c.self.invariant.told c.args.name.now (c.in_default.ensures.unmet refl))
+    sym (unmet_gone (holdings a) (slots_of a) a.newest.items a.declared a.variables.items cs c.self.invariant.held c.self.invariant.told c.args.name.now
+    (c.in_default.ensures.unmet refl))
     ∙ ap (λ (h : StoreState). look c.args.name.now (shown_store h)) c.self.view_is
 
 pub index-requires : goal.index-requires
@@ -23,14 +24,27 @@ index-requires g c =
     let a = c.self.inside in
     let cs = reverse a.calls.items in
     let low = slice_get_within a.texts c.in-Some.at c.args.name.now c.in-Some.ensures.met in
-    omega (arith, low, enough (holdings a) (slots_of a) a.newest.items a.declared a.variables.items cs c.self.invariant.held c.self.invariant.told, c.self.invariant.told.many, a.variables.ok.0)
+    omega (
+      arith,
+      low,
+      enough (holdings a) (slots_of a) a.newest.items a.declared a.variables.items cs c.self.invariant.held c.self.invariant.told,
+      c.self.invariant.told.many,
+      a.variables.ok.0,
+    )
 
 pub beside-requires : goal.beside-requires
 beside-requires g c =
     let a = c.self.inside in
     let cs = reverse a.calls.items in
     let low = slice_get_within a.texts c.in-Some.at c.args.name.now c.in-Some.ensures.met in
-    omega (arith, low, enough (holdings a) (slots_of a) a.newest.items a.declared a.variables.items cs c.self.invariant.held c.self.invariant.told, c.self.invariant.told.many, c.self.invariant.beside, ap length c.deref.ensures.value)
+    omega (
+      arith,
+      low,
+      enough (holdings a) (slots_of a) a.newest.items a.declared a.variables.items cs c.self.invariant.held c.self.invariant.told,
+      c.self.invariant.told.many,
+      c.self.invariant.beside,
+      ap length c.deref.ensures.value,
+    )
 
 pub view-requires : goal.view-requires
 view-requires g c =
@@ -50,8 +64,10 @@ returns g c =
     let cs = reverse a.calls.items in
     let x = c.args.name.now in
     let i = c.in-Some.at in
-    let beside : slice_index_or a.numbers.items i (pos 0) ≡ c.beside.result = ap (λ l. slice_index_or l i (pos 0)) (sym c.deref.ensures.value) ∙ c.beside.ensures in
+    let beside : slice_index_or a.numbers.items i (pos 0) ≡ c.beside.result = ap (λ l. slice_index_or l i (pos 0)) (sym c.deref.ensures.value)
+    ∙ c.beside.ensures in
     ap Fine c.view.ensures
     ∙ ap (λ n. Fine (val_in a.stacks.lists n c.index.result.now.value)) (to_z-of_z w32 c.beside.result (record { sfits = c.beside.type_inv }) ∙ sym beside)
-    ∙ sym (shown_at (holdings a) (slots_of a) a.newest.items a.declared a.variables.items cs c.self.invariant.held c.self.invariant.told x i c.index.result.now c.in-Some.ensures.met c.index.ensures)
+    ∙ sym (shown_at (holdings a) (slots_of a) a.newest.items a.declared a.variables.items cs c.self.invariant.held c.self.invariant.told x i c.index.result.now
+    c.in-Some.ensures.met c.index.ensures)
     ∙ ap (λ (h : StoreState). look x (shown_store h)) c.self.view_is

@@ -17,7 +17,8 @@ begin_next-told-requires-clause-few g c =
 
 -- no end is told: the machine behind the begin
 abbrev going : (g : given.Over) (c : goal.In_default g) → Machine
-going g c = machine_with c.begin_next-told.new.history c.begin_next-told.new.queue.items c.begin_next-told.new.counter c.self.inside.minutes c.self.inside.closing
+going g c = machine_with c.begin_next-told.new.history c.begin_next-told.new.queue.items c.begin_next-told.new.counter c.self.inside.minutes
+    c.self.inside.closing
 
 begun : (g : given.Over) (c : goal.In_default g) → IsBegin (machine_of c.self.inside) c.begin_next-told.result (going g c)
 begun g c = (going g c, c.begin_next-told.ensures.begins, unnoted (going g c) _ (no_end_begun c.begin_next-told.result c.in_default.not-Ended))
@@ -48,9 +49,11 @@ end-requires-clause-some g c =
     in
     omega (arith, c.self.invariant.places.posted, c.self.invariant.places.ended, some)
 
-written : (g : given.Over) (c : goal.After-end g) → entries_in c.end.new.self ≡ entries_in c.self.inside.minutes ++ minutes.Ended (suc (ended_in (entries_in c.self.inside.minutes))) c.in-Ended.outcome c.begin_next-told.new.counter c.begin_next-told.new.history.past.position ∷ []
+written : (g : given.Over) (c : goal.After-end g) → entries_in c.end.new.self ≡ entries_in c.self.inside.minutes ++ minutes.Ended
+    (suc (ended_in (entries_in c.self.inside.minutes))) c.in-Ended.outcome c.begin_next-told.new.counter c.begin_next-told.new.history.past.position ∷ []
 written g c =
-    end_written c.self.inside.minutes c.end.new.self c.in-Ended.outcome c.begin_next-told.new.counter c.position-node.result _ c.self.invariant.places c.end.ensures.written c.position-node.ensures
+    end_written c.self.inside.minutes c.end.new.self c.in-Ended.outcome c.begin_next-told.new.counter c.position-node.result _ c.self.invariant.places
+    c.end.ensures.written c.position-node.ensures
 
 abbrev over : (g : given.Over) (c : goal.After-end g) → Machine
 over g c = machine_with c.begin_next-told.new.history c.begin_next-told.new.queue.items c.begin_next-told.new.counter c.end.new.self c.self.inside.closing
@@ -59,7 +62,8 @@ ended : (g : given.Over) (c : goal.After-end g) → IsBegin (machine_of c.self.i
 ended g c = (
   mid g c,
   c.in-Ended.ensures.begins,
-  end_noted c.begin_next-told.new.history c.begin_next-told.new.queue.items c.begin_next-told.new.counter c.self.inside.closing c.self.inside.minutes c.end.new.self c.in-Ended.outcome (written g c)
+  end_noted c.begin_next-told.new.history c.begin_next-told.new.queue.items c.begin_next-told.new.counter c.self.inside.closing c.self.inside.minutes
+      c.end.new.self c.in-Ended.outcome (written g c)
       c.begin_next-told.ensures.posts,
 )
 

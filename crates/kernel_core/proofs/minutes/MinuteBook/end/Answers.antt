@@ -7,5 +7,6 @@ push_reserved-requires c = omega (arith, size_of c.args.self.now c.requires.kept
 
 pub returns-clause-kept : goal.returns-clause-kept
 returns-clause-kept c =
-    ended_kept c.args.self.now (record { entries = c.push_reserved.new.self; posted = c.args.self.now.posted; ended = c.args.self.now.ended + 1 }) (c.args.self.now.ended + 1) c.args.outcome c.args.count c.args.node c.requires.kept c.requires.some
+    ended_kept c.args.self.now (record { entries = c.push_reserved.new.self; posted = c.args.self.now.posted; ended = c.args.self.now.ended + 1 })
+    (c.args.self.now.ended + 1) c.args.outcome c.args.count c.args.node c.requires.kept c.requires.some
     c.push_reserved.ensures.items refl refl c.push_reserved.ensures.capacity

@@ -7,5 +7,6 @@ push_reserved-requires c = omega (arith, size_of c.args.self.now c.requires.kept
 
 pub returns-clause-kept : goal.returns-clause-kept
 returns-clause-kept c =
-    posted_kept c.args.self.now (record { entries = c.push_reserved.new.self; posted = c.args.self.now.posted + 1; ended = c.args.self.now.ended }) c.args.lane c.args.job c.requires.kept c.requires.room c.requires.within
+    posted_kept c.args.self.now (record { entries = c.push_reserved.new.self; posted = c.args.self.now.posted + 1; ended = c.args.self.now.ended })
+    c.args.lane c.args.job c.requires.kept c.requires.room c.requires.within
     c.push_reserved.ensures.items refl refl c.push_reserved.ensures.capacity

@@ -13,7 +13,8 @@ returns g c = (
     serial = c.ring-serial.result;
     later = c.ring-serial.ensures.later;
     seat = c.ring-serial.ensures.step
-        ∙ ap (λ (b : TableId). ringer_seat b (after_raise (after_look c.self.inside.seat.knows c.ring-serial.result))) (c.bell.ensures ∙ sym c.self.invariant.1);
+        ∙ ap (λ (b : TableId). ringer_seat b (after_raise (after_look c.self.inside.seat.knows c.ring-serial.result)))
+        (c.bell.ensures ∙ sym c.self.invariant.1);
     within = c.ring-serial.ensures.within;
   },
   ap (λ (v : DeskState). record v { seat = c.ring-serial.new.ringer }) c.self.view_is,

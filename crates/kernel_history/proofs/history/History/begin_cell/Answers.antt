@@ -17,7 +17,8 @@ use Rattle.kernel_history.specs.declared.job.Open.{Open}
 use Rattle.kernel_history.specs.declared.job.Open.TheVariants.{Idle}
 use Rattle.kernel_machine.proofs.Texts.{accepted_formed}
 use Rattle.kernel_runner.proofs.Growing.{more_yet, same_more}
-use Rattle.kernel_history.proofs.Standing.{ok_fact, err_fact, kept_begun, kept_idle, idle_in_time, here_sound, idle_job, nodes_more, nodes_ready, no_other_same, posted_behind, behind_stack, shows_still, IsUnentered, kept_dropped}
+use Rattle.kernel_history.proofs.Standing.{ok_fact, err_fact, kept_begun, kept_idle, idle_in_time, here_sound, idle_job, nodes_more, nodes_ready, no_other_same}
+use Rattle.kernel_history.proofs.Standing.{posted_behind, behind_stack, shows_still, IsUnentered, kept_dropped}
 use Rattle.kernel_history.proofs.history.History.begin_cell.Goals as goal
 use Rattle.kernel_history.proofs.history.History.begin_cell.Goals.{then-is_err-via-then-is_err, then-is_err-via-else-is_err+then-is_err-2}
 use Rattle.janus_machine.specs.Procedures.{kept_in}
@@ -27,7 +28,8 @@ use Rattle.janus_machine.specs.declared.procedures.Procedures.{Procedures}
 pub prepare-requires-clause-legal : goal.prepare-requires-clause-legal
 prepare-requires-clause-legal g c =
     let idle : c.self.inside.job ≡ Idle = idle_job c.self.inside.job (subst (λ (s : State). s.job ≡ state.Idle) (sym c.self.view_is) c.requires) in
-    let kept : Kept c.self.inside.tree c.self.inside.runner Idle = subst (λ (j : Open). Kept c.self.inside.tree c.self.inside.runner j) idle c.self.invariant.kept in
+    let kept : Kept c.self.inside.tree c.self.inside.runner Idle =
+    subst (λ (j : Open). Kept c.self.inside.tree c.self.inside.runner j) idle c.self.invariant.kept in
     let tree = c.self.inside.tree in
     let old = c.self.inside.runner in
     let shown = shown_here tree in
@@ -36,7 +38,8 @@ prepare-requires-clause-legal g c =
 pub prepare-requires-clause-is : goal.prepare-requires-clause-is
 prepare-requires-clause-is g c =
     let idle : c.self.inside.job ≡ Idle = idle_job c.self.inside.job (subst (λ (s : State). s.job ≡ state.Idle) (sym c.self.view_is) c.requires) in
-    let kept : Kept c.self.inside.tree c.self.inside.runner Idle = subst (λ (j : Open). Kept c.self.inside.tree c.self.inside.runner j) idle c.self.invariant.kept in
+    let kept : Kept c.self.inside.tree c.self.inside.runner Idle =
+    subst (λ (j : Open). Kept c.self.inside.tree c.self.inside.runner j) idle c.self.invariant.kept in
     let tree = c.self.inside.tree in
     let old = c.self.inside.runner in
     let shown = shown_here tree in
@@ -45,7 +48,8 @@ prepare-requires-clause-is g c =
 pub enter-requires : goal.enter-requires
 enter-requires g c =
     let idle : c.self.inside.job ≡ Idle = idle_job c.self.inside.job (subst (λ (s : State). s.job ≡ state.Idle) (sym c.self.view_is) c.requires) in
-    let kept : Kept c.self.inside.tree c.self.inside.runner Idle = subst (λ (j : Open). Kept c.self.inside.tree c.self.inside.runner j) idle c.self.invariant.kept in
+    let kept : Kept c.self.inside.tree c.self.inside.runner Idle =
+    subst (λ (j : Open). Kept c.self.inside.tree c.self.inside.runner j) idle c.self.invariant.kept in
     let tree = c.self.inside.tree in
     let old = c.self.inside.runner in
     let shown = shown_here tree in
@@ -67,7 +71,8 @@ enter-requires g c =
 pub invariant_of-self-2 : goal.invariant_of-self-2
 invariant_of-self-2 g c =
     let idle : c.self.inside.job ≡ Idle = idle_job c.self.inside.job (subst (λ (s : State). s.job ≡ state.Idle) (sym c.self.view_is) c.requires) in
-    let kept : Kept c.self.inside.tree c.self.inside.runner Idle = subst (λ (j : Open). Kept c.self.inside.tree c.self.inside.runner j) idle c.self.invariant.kept in
+    let kept : Kept c.self.inside.tree c.self.inside.runner Idle =
+    subst (λ (j : Open). Kept c.self.inside.tree c.self.inside.runner j) idle c.self.invariant.kept in
     let tree = c.self.inside.tree in
     let old = c.self.inside.runner in
     let shown = shown_here tree in
@@ -80,31 +85,36 @@ invariant_of-self-2 g c =
     let nodes = ap (λ (t : cells.Tree EndedCell). t.nodes) c.room.ensures.same in
     let stands = ok_fact _ c.enter.result (sym c.is_err-else-is_err.ensures.value ∙ c.if-is_err-2.false) c.enter.ensures.ok in
     let formed = accepted_formed _ _ _ c.in-Ok.ensures.accepts in
-    let can : CanEnter met c.in-Ok.program shown = record { is = is; sound = here_sound tree kept.legal; formed = formed; ready = c.in-Ok.ensures.ready; named = c.in-Ok.ensures.named; behind = low } in
+    let can : CanEnter met c.in-Ok.program shown =
+    record { is = is; sound = here_sound tree kept.legal; formed = formed; ready = c.in-Ok.ensures.ready; named = c.in-Ok.ensures.named; behind = low } in
     let at_text = nodes_more tree old met c.prepare.ensures.kept.names c.prepare.ensures.entries c.prepare.ensures.older kept.ready in
     kept_begun tree (record { cells = c.room.new.self; position = tree.position }) old c.enter.new.self c.in-Ok.program kept
-    (nodes_ready tree met c.enter.new.self c.enter.ensures.names (same_more met.entries c.enter.new.self.entries c.enter.ensures.entries) c.enter.ensures.kept at_text) behind same nodes refl room formed c.in-Ok.ensures.behind
+    (nodes_ready tree met c.enter.new.self c.enter.ensures.names (same_more met.entries c.enter.new.self.entries c.enter.ensures.entries)
+    c.enter.ensures.kept at_text) behind same nodes refl room formed c.in-Ok.ensures.behind
     (ap (λ (bs : List LinkedProcedure). length bs) c.enter.ensures.kept ∙ c.in-Ok.ensures.last) (stands shown can)
 
 -- a refused text: there may be more slots, and more names of procedures
 pub invariant_of-self : goal.invariant_of-self
 invariant_of-self g c =
     let idle : c.self.inside.job ≡ Idle = idle_job c.self.inside.job (subst (λ (s : State). s.job ≡ state.Idle) (sym c.self.view_is) c.requires) in
-    let kept : Kept c.self.inside.tree c.self.inside.runner Idle = subst (λ (j : Open). Kept c.self.inside.tree c.self.inside.runner j) idle c.self.invariant.kept in
+    let kept : Kept c.self.inside.tree c.self.inside.runner Idle =
+    subst (λ (j : Open). Kept c.self.inside.tree c.self.inside.runner j) idle c.self.invariant.kept in
     let tree = c.self.inside.tree in
     let old = c.self.inside.runner in
     let shown = shown_here tree in
     let met = c.prepare.new.runner in
     let is = c.prepare.ensures.shown shown kept.stands in
     subst (λ (j : Open). IsKept tree met j) (sym idle)
-    (idle_in_time tree met (kept_idle tree Idle old met kept (nodes_more tree old met c.prepare.ensures.kept.names c.prepare.ensures.entries c.prepare.ensures.older kept.ready)
+    (idle_in_time tree met
+    (kept_idle tree Idle old met kept (nodes_more tree old met c.prepare.ensures.kept.names c.prepare.ensures.entries c.prepare.ensures.older kept.ready)
     (no_other_same tree old.procedures met.procedures c.in-Err.ensures.none kept.no_other) is.1 is.0))
 
 -- no memory for its node or its names: its bodies are dropped again
 pub invariant_of-self-then-is_err : goal.invariant_of-self-then-is_err
 invariant_of-self-then-is_err g c =
     let idle : c.self.inside.job ≡ Idle = idle_job c.self.inside.job (subst (λ (s : State). s.job ≡ state.Idle) (sym c.self.view_is) c.requires) in
-    let kept : Kept c.self.inside.tree c.self.inside.runner Idle = subst (λ (j : Open). Kept c.self.inside.tree c.self.inside.runner j) idle c.self.invariant.kept in
+    let kept : Kept c.self.inside.tree c.self.inside.runner Idle =
+    subst (λ (j : Open). Kept c.self.inside.tree c.self.inside.runner j) idle c.self.invariant.kept in
     let tree = c.self.inside.tree in
     let old = c.self.inside.runner in
     let shown = shown_here tree in
@@ -136,19 +146,23 @@ invariant_of-self-then-is_err g c =
             nodes = nodes;
             position = refl;
             names = more_yet old.store.names met.store.names w.enter.new.self.store.names c.prepare.ensures.kept.names entered.names;
-            entries = more_yet old.entries met.entries w.enter.new.self.entries c.prepare.ensures.entries (same_more met.entries w.enter.new.self.entries w.enter.ensures.entries);
+            entries = more_yet old.entries met.entries w.enter.new.self.entries c.prepare.ensures.entries
+                (same_more met.entries w.enter.new.self.entries w.enter.ensures.entries);
             whole = entered.whole;
             shows = shows_still met w.enter.new.self shown entered same w.enter.ensures.entries is.0;
             older = subst (λ (t : Procedures). take (length (kept_in old.procedures)) (kept_in t) ≡ kept_in old.procedures) (sym same) c.prepare.ensures.older;
             idle = idle;
           }))
     ] in
-    kept_dropped tree left.tree old left.runner (record { store = left.runner.store; cursor = left.runner.cursor; procedures = c.forget.new.self; entries = left.runner.entries }) left.job c.in-Ok.program.first kept unentered c.in-Ok.ensures.behind low refl refl c.forget.ensures.kept c.forget.ensures.defined
+    kept_dropped tree left.tree old left.runner
+    (record { store = left.runner.store; cursor = left.runner.cursor; procedures = c.forget.new.self; entries = left.runner.entries })
+    left.job c.in-Ok.program.first kept unentered c.in-Ok.ensures.behind low refl refl c.forget.ensures.kept c.forget.ensures.defined
 
 pub returns : goal.returns
 returns g c =
     let idle : c.self.inside.job ≡ Idle = idle_job c.self.inside.job (subst (λ (s : State). s.job ≡ state.Idle) (sym c.self.view_is) c.requires) in
-    let kept : Kept c.self.inside.tree c.self.inside.runner Idle = subst (λ (j : Open). Kept c.self.inside.tree c.self.inside.runner j) idle c.self.invariant.kept in
+    let kept : Kept c.self.inside.tree c.self.inside.runner Idle =
+    subst (λ (j : Open). Kept c.self.inside.tree c.self.inside.runner j) idle c.self.invariant.kept in
     let cell : Cell = cell_of_program c.in-Ok.program in
     let job : state.Job = state.Inside (record { work = state.Posted (cell_of_program c.in-Ok.program); count = 0; heading = GoesOn }) in
     let made : HistoryTree = record { cells = c.room.new.self; position = c.self.inside.tree.position } in

@@ -21,19 +21,25 @@ depart-job-requires-clause-way g c =
       | inr past ↦ absurd (let none = c.in-Ok.ensures.no_node.1 past in cc)
     ] in
     let known : c.args.n < length (nodes_of c.find_way.new.tree) = subst (λ (s : Past). c.args.n < length s.nodes) (sym c.find_way.ensures.same) low in
-    subst (λ (t : Travel). CanGo t.aim (nodes_of c.find_way.new.tree) c.find_way.new.tree.cells.favourites c.find_way.new.tree.position t.up t.down) (sym c.new-travel.ensures)
+    subst (λ (t : Travel). CanGo t.aim (nodes_of c.find_way.new.tree) c.find_way.new.tree.cells.favourites c.find_way.new.tree.position t.up t.down)
+    (sym c.new-travel.ensures)
     (meeting_way (past_of c.find_way.new.tree) c.args.n c.in-Ok.way.up c.in-Ok.way.down legal known c.in-Ok.ensures.way)
 
 -- a way that is sought changes the tree's way alone
 pub depart-job-requires-clause-idle : goal.depart-job-requires-clause-idle
 depart-job-requires-clause-idle g c =
     let idle : c.self.inside.job ≡ Idle = idle_job c.self.inside.job (subst (λ (s : State). s.job ≡ state.Idle) (sym c.self.view_is) c.requires) in
-    let kept : Kept c.self.inside.tree c.self.inside.runner Idle = subst (λ (j : Open). Kept c.self.inside.tree c.self.inside.runner j) idle c.self.invariant.kept in
-    kept_with_room c.self.inside.tree c.find_way.new.tree c.self.inside.runner kept c.find_way.ensures.same c.find_way.ensures.nodes (ap (λ (s : Past). s.position) c.find_way.ensures.same)
+    let kept : Kept c.self.inside.tree c.self.inside.runner Idle =
+    subst (λ (j : Open). Kept c.self.inside.tree c.self.inside.runner j) idle c.self.invariant.kept in
+    kept_with_room c.self.inside.tree c.find_way.new.tree c.self.inside.runner kept c.find_way.ensures.same c.find_way.ensures.nodes
+    (ap (λ (s : Past). s.position) c.find_way.ensures.same)
 
 pub invariant_of-self : goal.invariant_of-self
 invariant_of-self g c =
     let idle : c.self.inside.job ≡ Idle = idle_job c.self.inside.job (subst (λ (s : State). s.job ≡ state.Idle) (sym c.self.view_is) c.requires) in
-    let kept : Kept c.self.inside.tree c.self.inside.runner Idle = subst (λ (j : Open). Kept c.self.inside.tree c.self.inside.runner j) idle c.self.invariant.kept in
-    let now : Kept c.find_way.new.tree c.self.inside.runner Idle = kept_with_room c.self.inside.tree c.find_way.new.tree c.self.inside.runner kept c.find_way.ensures.same c.find_way.ensures.nodes (ap (λ (s : Past). s.position) c.find_way.ensures.same) in
+    let kept : Kept c.self.inside.tree c.self.inside.runner Idle =
+    subst (λ (j : Open). Kept c.self.inside.tree c.self.inside.runner j) idle c.self.invariant.kept in
+    let now : Kept c.find_way.new.tree c.self.inside.runner Idle =
+    kept_with_room c.self.inside.tree c.find_way.new.tree c.self.inside.runner kept c.find_way.ensures.same c.find_way.ensures.nodes
+    (ap (λ (s : Past). s.position) c.find_way.ensures.same) in
     subst (λ (j : Open). IsKept c.find_way.new.tree c.self.inside.runner j) (sym idle) (idle_in_time c.find_way.new.tree c.self.inside.runner now)

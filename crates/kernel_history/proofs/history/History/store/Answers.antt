@@ -9,7 +9,8 @@ use Rattle.kernel_history.proofs.history.History.store.Goals as goal
 pub returns-clause-sight : goal.returns-clause-sight
 returns-clause-sight g c =
     let idle : job_of c.self.inside.job ≡ state.Idle = subst (λ (s : State). s.job ≡ state.Idle) (sym c.self.view_is) c.requires in
-    c.slots_law.ensures.sight ∙ subst (λ (s : State). shown_store c.self.inside.runner.store ≡ (here s.past).store) c.self.view_is (idle_store c.self.inside.tree c.self.inside.runner c.self.inside.job c.self.invariant.kept.stands idle).0
+    c.slots_law.ensures.sight ∙ subst (λ (s : State). shown_store c.self.inside.runner.store ≡ (here s.past).store) c.self.view_is
+    (idle_store c.self.inside.tree c.self.inside.runner c.self.inside.job c.self.invariant.kept.stands idle).0
 
 pub returns-clause-whole : goal.returns-clause-whole
 returns-clause-whole g c =

@@ -13,13 +13,16 @@ slice-sliced-requires-clause-safe g c = safe_back c.args.self.now c.args.program
 
 pub returns-clause-goes : goal.returns-clause-goes
 returns-clause-goes g c = λ at h.
-    back_cut c.args.self.now c.args.program.now at c.slice-sliced.new.store c.slice-sliced.new.cursor c.slice-sliced.result.taken c.args.m c.slice-sliced.result.end h
-    c.slice-sliced.ensures.stands c.slice-sliced.ensures.names c.slice-sliced.ensures.agrees c.slice-sliced.ensures.taken c.slice-sliced.ensures.counts c.slice-sliced.ensures.steps c.slice-sliced.ensures.end
+    back_cut c.args.self.now c.args.program.now at c.slice-sliced.new.store c.slice-sliced.new.cursor c.slice-sliced.result.taken c.args.m
+    c.slice-sliced.result.end h
+    c.slice-sliced.ensures.stands c.slice-sliced.ensures.names c.slice-sliced.ensures.agrees c.slice-sliced.ensures.taken c.slice-sliced.ensures.counts
+    c.slice-sliced.ensures.steps c.slice-sliced.ensures.end
 
 pub returns-clause-written : goal.returns-clause-written
 returns-clause-written g c =
     let stood = c.requires.1 in
-    let within = (gone_back c.args.self.now c.args.program.now c.requires.0 c.slice-sliced.new.store c.slice-sliced.new.cursor c.slice-sliced.result.taken c.args.m stood
+    let within = (gone_back c.args.self.now c.args.program.now c.requires.0 c.slice-sliced.new.store c.slice-sliced.new.cursor c.slice-sliced.result.taken
+    c.args.m stood
     c.slice-sliced.ensures.stands c.slice-sliced.ensures.names c.slice-sliced.ensures.agrees c.slice-sliced.ensures.counts c.slice-sliced.ensures.steps).1 in
     let low = c.slice-sliced.ensures.taken in
     let count = stood.counted in

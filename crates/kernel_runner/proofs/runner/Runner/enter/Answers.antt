@@ -14,9 +14,13 @@ use Rattle.kernel_runner.proofs.runner.Runner.enter.Goals as goal
 pub returns-clause-ok : goal.returns-clause-ok
 returns-clause-ok g c = λ from can.
     let same : length (procedures_of c.args.program.now) ≡ length c.procedures.result.now =
-    sym (ap (λ (ps : List Proc). length ps) c.procedures.ensures) ∙ length-map (procedures_view c.procedures.result.now) plain_procedure ∙ length-map c.procedures.result.now procedure_view in
-    entered_here c.args.self.now (record { store = c.declare.new.store; cursor = c.enter.new.self; procedures = c.define_all.new.self; entries = c.args.self.now.entries }) c.args.program.now from can
+    sym (ap (λ (ps : List Proc). length ps) c.procedures.ensures) ∙ length-map (procedures_view c.procedures.result.now) plain_procedure
+    ∙ length-map c.procedures.result.now procedure_view in
+    entered_here c.args.self.now
+    (record { store = c.declare.new.store; cursor = c.enter.new.self; procedures = c.define_all.new.self; entries = c.args.self.now.entries })
+    c.args.program.now from can
     (becomes_same _ _ _ _ (ap (λ l. declare l (shown_store c.args.self.now.store)) c.declarations.ensures) c.in_ok-declare.ensures.ok)
     c.define_all.ensures.kept refl
-    (subst (λ (n : ℕ). AreDefined c.define_all.new.self (onto c.args.program.now.first n from.bodies)) (sym same) (c.define_all.ensures.defined from.bodies can.is.0.defined.defined can.behind))
+    (subst (λ (n : ℕ). AreDefined c.define_all.new.self (onto c.args.program.now.first n from.bodies)) (sym same)
+    (c.define_all.ensures.defined from.bodies can.is.0.defined.defined can.behind))
     (record { stands = c.enter.ensures.stands; place = c.enter.ensures.place c.declare.new.store.names; counts = c.enter.ensures.counts })

@@ -19,7 +19,8 @@ returns-in-Ended-clause-runs g c = λ at h.
     let r = c.args.self.now in
     let p = c.args.program.now in
     let sliced = c.slice-sliced.ensures in
-    let s = gone_on r p at c.slice-sliced.new.store c.slice-sliced.new.cursor c.slice-sliced.result.taken c.args.m h sliced.stands sliced.names sliced.agrees sliced.counts sliced.steps in
+    let s = gone_on r p at c.slice-sliced.new.store c.slice-sliced.new.cursor c.slice-sliced.result.taken c.args.m h sliced.stands sliced.names sliced.agrees
+    sliced.counts sliced.steps in
     let why = rw c.in-Ended.is at (sliced.end _ _ (in_effect r p at false h) h.agrees) in
     record {
       reaches = run_ended _ p at c.slice-sliced.result.taken c.args.m s c.count-count.result sliced.taken c.count-count.ensures why;
@@ -32,7 +33,8 @@ returns-in-Fault-clause-runs g c = λ at h.
     let r = c.args.self.now in
     let p = c.args.program.now in
     let sliced = c.slice-sliced.ensures in
-    let s = gone_on r p at c.slice-sliced.new.store c.slice-sliced.new.cursor c.slice-sliced.result.taken c.args.m h sliced.stands sliced.names sliced.agrees sliced.counts sliced.steps in
+    let s = gone_on r p at c.slice-sliced.new.store c.slice-sliced.new.cursor c.slice-sliced.result.taken c.args.m h sliced.stands sliced.names sliced.agrees
+    sliced.counts sliced.steps in
     let why = rw c.in-Fault.is at (sliced.end _ _ (in_effect r p at false h) h.agrees) in
     record {
       reaches = run_stopped _ p at c.slice-sliced.result.taken c.args.m s c.count-count.result c.in-Fault.fault why.0 c.count-count.ensures why.1 why.2;
@@ -45,7 +47,8 @@ returns-in-Cut-clause-runs g c = λ at h.
     let r = c.args.self.now in
     let p = c.args.program.now in
     let sliced = c.slice-sliced.ensures in
-    let s = gone_on r p at c.slice-sliced.new.store c.slice-sliced.new.cursor c.slice-sliced.result.taken c.args.m h sliced.stands sliced.names sliced.agrees sliced.counts sliced.steps in
+    let s = gone_on r p at c.slice-sliced.new.store c.slice-sliced.new.cursor c.slice-sliced.result.taken c.args.m h sliced.stands sliced.names sliced.agrees
+    sliced.counts sliced.steps in
     let why = rw c.in-Cut.is at (sliced.end _ _ (in_effect r p at false h) h.agrees) in
     record {
       reaches = run_went _ p at c.slice-sliced.result.taken c.args.m s why.0 why.1;
@@ -54,13 +57,20 @@ returns-in-Cut-clause-runs g c = λ at h.
     }
 
 pub returns-in-Ended-clause-written : goal.returns-in-Ended-clause-written
-returns-in-Ended-clause-written g c = subst (λ (k : ℕ). IsWritten k c.args.writes.now c.slice-sliced.new.writes) (sym (counted_on c.args.self.now.cursor.turned c.args.self.now.cursor.count c.count-count.result c.slice-sliced.result.taken c.requires.1.turned (c.count-count.ensures ∙ c.slice-sliced.ensures.counts.count))) c.slice-sliced.ensures.written
+returns-in-Ended-clause-written g c =
+    subst (λ (k : ℕ). IsWritten k c.args.writes.now c.slice-sliced.new.writes)
+    (sym (counted_on c.args.self.now.cursor.turned c.args.self.now.cursor.count c.count-count.result c.slice-sliced.result.taken c.requires.1.turned
+    (c.count-count.ensures ∙ c.slice-sliced.ensures.counts.count))) c.slice-sliced.ensures.written
 
 pub returns-in-Fault-clause-written : goal.returns-in-Fault-clause-written
-returns-in-Fault-clause-written g c = subst (λ (k : ℕ). IsWritten k c.args.writes.now c.slice-sliced.new.writes) (sym (counted_on c.args.self.now.cursor.turned c.args.self.now.cursor.count c.count-count.result c.slice-sliced.result.taken c.requires.1.turned (c.count-count.ensures ∙ c.slice-sliced.ensures.counts.count))) c.slice-sliced.ensures.written
+returns-in-Fault-clause-written g c =
+    subst (λ (k : ℕ). IsWritten k c.args.writes.now c.slice-sliced.new.writes)
+    (sym (counted_on c.args.self.now.cursor.turned c.args.self.now.cursor.count c.count-count.result c.slice-sliced.result.taken c.requires.1.turned
+    (c.count-count.ensures ∙ c.slice-sliced.ensures.counts.count))) c.slice-sliced.ensures.written
 
 pub returns-in-Cut-clause-written : goal.returns-in-Cut-clause-written
 returns-in-Cut-clause-written g c =
     let h = c.requires.1 in
     subst (λ (k : ℕ). IsWritten k c.args.writes.now c.slice-sliced.new.writes)
-    (rw c.in-Cut.is at (c.slice-sliced.ensures.end _ _ (in_effect c.args.self.now c.args.program.now c.requires.0 false h) h.agrees)).0 c.slice-sliced.ensures.written
+    (rw c.in-Cut.is at (c.slice-sliced.ensures.end _ _ (in_effect c.args.self.now c.args.program.now c.requires.0 false h) h.agrees)).0
+    c.slice-sliced.ensures.written

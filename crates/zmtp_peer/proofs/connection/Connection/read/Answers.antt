@@ -17,7 +17,8 @@ read_frames-requires c = record {
   connection = (
     c.requires.connection.0,
     c.requires.connection.1,
-    fed_gives_back c.feed.result c.args.self.now.decoder c.feed.new.self c.args.piece.now (sym c.is_err.ensures.value ∙ c.if-is_err.false) c.feed.ensures.fed c.feed.ensures.given_back,
+    fed_gives_back c.feed.result c.args.self.now.decoder c.feed.new.self c.args.piece.now (sym c.is_err.ensures.value ∙ c.if-is_err.false)
+        c.feed.ensures.fed c.feed.ensures.given_back,
     c.requires.connection.3,
   );
   going = c.requires.going;
@@ -77,17 +78,21 @@ returns c =
     let rest : c.feed.new.self.rest ≡ (fed self.decoder piece).rest = ap (λ (d : Decoding). d.rest) same in
     let came : length c.feed.new.self.rest.octets ≡ length self.decoder.rest.octets + length piece =
     ap (λ (r : Rest). length r.octets) rest ∙ length-append self.decoder.rest.octets piece in
-    let room : c.feed.new.self.room ≤ max self.decoder.room (4 * (length self.decoder.rest.octets + length piece)) = at_ok _ c.feed.result fine c.feed.ensures.room in
+    let room : c.feed.new.self.room ≤ max self.decoder.room (4 * (length self.decoder.rest.octets + length piece)) =
+    at_ok _ c.feed.result fine c.feed.ensures.room in
     record {
-      read = subst (λ (r : Rest). IfOk frames.result (λ events. ReadsPiece c.args.terms r (state_in self) new.decoder.rest (state_in new) (events_of events.items))) rest frames.ensures.read;
+      read = subst (λ (r : Rest). IfOk frames.result
+          (λ events. ReadsPiece c.args.terms r (state_in self) new.decoder.rest (state_in new) (events_of events.items))) rest frames.ensures.read;
       counted = frames.ensures.counted;
-      unread = unread frames.result self new c.feed.new.self.before (ap (λ (d : Decoding). d.before) same) frames.ensures.rest frames.ensures.stage frames.ensures.held;
+      unread = unread frames.result self new c.feed.new.self.before (ap (λ (d : Decoding). d.before) same) frames.ensures.rest frames.ensures.stage
+          frames.ensures.held;
       uncounted = frames.ensures.uncounted;
       opening = frames.ensures.opening;
       tidy = frames.ensures.tidy;
       given_back = frames.ensures.given_back;
       brought = frames.ensures.brought;
       room = if_ok _ _ frames.result
-          (λ events. reserves-fed (length c.feed.new.self.rest.octets) (length self.decoder.rest.octets + length piece) (vec_len self.intake.held) (room_in self) (record (room_in self) { octets = c.feed.new.self.room }) (room_in new) (vec_capacity events) came room refl)
+          (λ events. reserves-fed (length c.feed.new.self.rest.octets) (length self.decoder.rest.octets + length piece) (vec_len self.intake.held)
+          (room_in self) (record (room_in self) { octets = c.feed.new.self.room }) (room_in new) (vec_capacity events) came room refl)
           frames.ensures.room;
     }

@@ -18,7 +18,8 @@ count_events-requires c =
     let intake = c.args.self.now.intake in
     let here : HasRoom (length events.items) table (events_of events.items) =
     subst (λ (es : List Event). HasRoom (length events.items) table es) (sym (rw c.replace-brought.ensures.value at c.tell-events.ensures.told))
-    (told-room (vec_len intake.brought + 1) (length events.items) table intake.ready (flat_map (brought_told c.args.terms.role) (brought_in intake)) c.requires.room (omega (arith, (rw c.replace-brought.ensures.value at c.tell-events.ensures.few), events.ok.0))) in
+    (told-room (vec_len intake.brought + 1) (length events.items) table intake.ready (flat_map (brought_told c.args.terms.role) (brought_in intake))
+    c.requires.room (omega (arith, (rw c.replace-brought.ensures.value at c.tell-events.ensures.few), events.ok.0))) in
     subst (λ (es : List PeerEvent). HasRoom (length es) table (events_of es)) (sym c.deref.ensures.value) here
 
 pub returns-clause-tidy : goal.returns-clause-tidy
@@ -29,6 +30,7 @@ returns-clause-tidy c q idle =
     ⊎_elim
     (λ old. false≢true
     (sym dropped.1 ∙ ap (λ (es : List PeerEvent). is_named es q) c.deref-2.ensures.value
-    ∙ asked-named c.args.terms.role intake.ready intake.brought.items events.items q (rw c.replace-brought.ensures.value at c.tell-events.ensures.told) (c.requires.idle q old)))
+    ∙ asked-named c.args.terms.role intake.ready intake.brought.items events.items q (rw c.replace-brought.ensures.value at c.tell-events.ensures.told)
+    (c.requires.idle q old)))
     (λ named. false≢true (sym dropped.1 ∙ ap (λ (es : List PeerEvent). is_named es q) (c.deref-2.ensures.value ∙ sym c.deref.ensures.value) ∙ named))
     (c.count_events.ensures.idle q dropped.0)

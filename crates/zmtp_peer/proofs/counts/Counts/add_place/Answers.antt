@@ -22,7 +22,8 @@ invariant_of-self-in-Ok c n =
     let es = c.self.inside.places.entries in
     let key = c.in_ok-key.key in
     let e = c.in_ok-key.ensures.items in
-    let none = subst (λ (r : List ℕ). lookup (is_key r) es ≡ None) (sym e) (place-missing (lookup (is_key c.args.prefix.now) es) (sym c.contains_key.ensures ∙ c.if-contains_key.false)) in
+    let none = subst (λ (r : List ℕ). lookup (is_key r) es ≡ None) (sym e)
+    (place-missing (lookup (is_key c.args.prefix.now) es) (sym c.contains_key.ensures ∙ c.if-contains_key.false)) in
     c.in_ok-raise.ensures.ok n ∙ ap (λ m. one_at (length c.args.prefix.now) n + m) (c.self.invariant n)
     ∙ ap (λ (r : List ℕ). one_at (length r) n + number_of_length n (table_of es)) (sym e)
     ∙ rw c.in-Ok.ensures.entries (sym (number-insert key 0 n es none))
@@ -34,9 +35,13 @@ returns-clause-ok c =
           let es = c.self.inside.places.entries in
           let fs = c.insert.new.self.entries in
           let e = c.in_ok-key.ensures.items in
-          let none = subst (λ (r : List ℕ). lookup (is_key r) es ≡ None) (sym e) (place-missing (lookup (is_key c.args.prefix.now) es) (sym c.contains_key.ensures ∙ c.if-contains_key.false)) in
-          let here = subst (λ (r : List ℕ). (q : List ℕ) → place_of (table_of fs) q ≡ option_or (place_of (table_of es) q) (if bytes_eq q r then Some 0 else None)) e
+          let none = subst (λ (r : List ℕ). lookup (is_key r) es ≡ None) (sym e)
+          (place-missing (lookup (is_key c.args.prefix.now) es) (sym c.contains_key.ensures ∙ c.if-contains_key.false)) in
+          let here = subst
+          (λ (r : List ℕ). (q : List ℕ) → place_of (table_of fs) q ≡ option_or (place_of (table_of es) q) (if bytes_eq q r then Some 0 else None)) e
           (placed c.in_ok-key.key.items es fs none w.in-Ok.ensures.updates.1 w.in-Ok.ensures.updates.3) in
-          rw (w.result-is, w.self-is) (subst (λ (t : List (List ℕ × ℕ)). (q : List ℕ) → place_of (table_of fs) q ≡ option_or (place_of t q) (if bytes_eq q c.args.prefix.now then Some 0 else None)) c.self.view_is here)
+          rw (w.result-is, w.self-is)
+          (subst (λ (t : List (List ℕ × ℕ)). (q : List ℕ) →
+          place_of (table_of fs) q ≡ option_or (place_of t q) (if bytes_eq q c.args.prefix.now then Some 0 else None)) c.self.view_is here)
       | in-Err w ↦ rw w.result-is tt
     ]

@@ -20,6 +20,8 @@ returns-clause-some c =
 pub returns-clause-none : goal.returns-clause-none
 returns-clause-none c =
     let inside = c.self.inside in
-    if_none c.length_from.result ((n : ℕ) → c.args.least ≤ n → get nat_cmp inside.lengths n ≡ None) ((q : List ℕ) → c.args.least ≤ length q → count_in c.args.self.now q ≡ 0)
+    if_none c.length_from.result ((n : ℕ) → c.args.least ≤ n → get nat_cmp inside.lengths n ≡ None)
+    ((q : List ℕ) → c.args.least ≤ length q → count_in c.args.self.now q ≡ 0)
     (λ h q from. subst (λ (t : List (List ℕ × ℕ)). count_in t q ≡ 0) c.self.view_is
-    (uncounted (table_of inside.places.entries) q (get nat_cmp inside.lengths (length q)) (c.self.invariant (length q)) (h (length q) from))) c.length_from.ensures.none
+    (uncounted (table_of inside.places.entries) q (get nat_cmp inside.lengths (length q)) (c.self.invariant (length q)) (h (length q) from)))
+    c.length_from.ensures.none

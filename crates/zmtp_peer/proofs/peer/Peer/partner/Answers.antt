@@ -22,7 +22,8 @@ whole_kept (Some g) octets kept same h = subst (λ (s : List ℕ). length s ≡ 
 pub returns : goal.returns
 returns c =
     let inside = c.self.inside in
-    let all : take inside.greeted inside.greeting ≡ inside.greeting = take_all inside.greeted inside.greeting (omega (arith, c.welcome.ensures.size, c.if-self-lt-GREETING_LENGTH.false)) in
+    let all : take inside.greeted inside.greeting ≡ inside.greeting =
+    take_all inside.greeted inside.greeting (omega (arith, c.welcome.ensures.size, c.if-self-lt-GREETING_LENGTH.false)) in
     let same : inside.greeting ≡ c.args.self.now.greeting = sym all ∙ ap (λ (s : PeerState). s.greeting) c.self.view_is in
     record {
       some = some_kept c.welcome.result inside.greeting c.args.self.now.greeting same c.welcome.ensures.some;

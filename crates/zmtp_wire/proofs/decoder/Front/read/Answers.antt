@@ -15,5 +15,6 @@ returns-then-behind-size-clause-partial c =
 pub returns-clause-frame : goal.returns-clause-frame
 returns-clause-frame c =
     let has = rw c.in-Some.is at c.in_ok-header.ensures.found in
-    frame_whole c.args.octets.now c.args.tally c.in-Some-with.tally c.in-Some.header c.in-Some.behind.now (take c.in-Some.header.size c.in-Some.behind.now) _ has c.in-Some-with.ensures.fits
+    frame_whole c.args.octets.now c.args.tally c.in-Some-with.tally c.in-Some.header c.in-Some.behind.now (take c.in-Some.header.size c.in-Some.behind.now)
+    _ has c.in-Some-with.ensures.fits
     c.in-Some-with.ensures.after c.if-behind-size.false refl refl
