@@ -1,5 +1,6 @@
 -- Slots of names: over older names, among declared ones and among parameters.
 use Rattle.std.proofs.Common.{◌≡◌, ℕ, zero, suc, ◌+◌, ◌<◌, Bool, true, false, List, [], ◌∷◌, map, length, slice_get, Option, Some, None, refl, ap, ◌∙◌, sym}
+use Rattle.std.proofs.Common.{cond}
 use Rattle.std.proofs.Common.{string_bytes, position, arith}
 use Rattle.std.specs.Map.{keys_of}
 use Rattle.std.specs.Prelude.{MatchOption}
@@ -17,7 +18,7 @@ use Rattle.std.proofs.lemmas.List.{length-map}
 use Rattle.janus_syntax.specs.declared.tree.Parameter as code_parameter
 use Rattle.janus_syntax.specs.Tree.{parameter_view, parameters_view}
 use Rattle.janus_syntax.specs.View.{plain_parameter}
-use Rattle.janus_slots.specs.Slots.{slot, slot_in, picked}
+use Rattle.janus_slots.specs.Slots.{slot, slot_in}
 use Rattle.janus_slots.proofs.Stores.{length_names}
 use Rattle.janus_check.specs.Names.{meant_kind, AreAdded, over, shape_in}
 use Rattle.janus_check.specs.Sight.{IsSeen}
@@ -28,11 +29,11 @@ use Rattle.janus_check.proofs.LookupLemmas.{looked_up, meant, same_as_bytes}
 
 -- the newest of this name
 pub slot_here : {A : Type 0} (x : Name) (e : Name × A) (g : List (Name × A)) → same_name x e.0 ≡ true → slot_in (names_of (e ∷ g)) x ≡ slot (length g)
-slot_here x e g s = ap (λ b. picked b (slot (length (names_of g))) (slot_in (names_of g) x)) s ∙ ap slot (length_names g)
+slot_here x e g s = ap (λ b. cond b (slot (length (names_of g))) (slot_in (names_of g) x)) s ∙ ap slot (length_names g)
 
 -- the newest name is another
 pub slot_behind : {A : Type 0} (x : Name) (e : Name × A) (g : List (Name × A)) → same_name x e.0 ≡ false → slot_in (names_of (e ∷ g)) x ≡ slot_in (names_of g) x
-slot_behind x e g s = ap (λ b. picked b (slot (length (names_of g))) (slot_in (names_of g) x)) s
+slot_behind x e g s = ap (λ b. cond b (slot (length (names_of g))) (slot_in (names_of g) x)) s
 
 -- a slot is below the count of names
 pub slot_below : (g : List Name) (x : Name) (k : ℕ) → slot_in g x ≡ slot k → k < length g
@@ -41,11 +42,11 @@ slot_below (y ∷ g) x k h = by (slot_below g x k) (same_name x y) refl
   where
     by : (slot_in g x ≡ slot k → k < length g) → (b : Bool) → same_name x y ≡ b → k < suc (length g)
     by later true s =
-        let is : slot (length g) ≡ slot k = sym (ap (λ b. picked b (slot (length g)) (slot_in g x)) s) ∙ h in
+        let is : slot (length g) ≡ slot k = sym (ap (λ b. cond b (slot (length g)) (slot_in g x)) s) ∙ h in
         let same : length g ≡ k = cc in
         omega (arith, same)
     by later false s =
-        let inner : k < length g = later (sym (ap (λ b. picked b (slot (length g)) (slot_in g x)) s) ∙ h) in
+        let inner : k < length g = later (sym (ap (λ b. cond b (slot (length g)) (slot_in g x)) s) ∙ h) in
         omega (arith, inner)
 
 some_none : {A : Type 0} (a : A) → Some a ≡ None → ⊥

@@ -1,6 +1,6 @@
 //! From a cell to flat code.
 
-ghost use Rattle.std.specs.Prelude.{◌≡◌, ◌<◌, ◌≤◌, ◌^◌, List, ℕ, ◌+◌, suc, length, max, slice_index_or, IfOk, OnOk};
+ghost use Rattle.std.specs.Prelude.{◌≡◌, ◌<◌, ◌≤◌, ◌^◌, List, ℕ, ◌+◌, suc, length, max, slice_index_or, IfOk, OnOk, OnErr};
 ghost use Rattle.janus_check.specs.Checked.{cell_in};
 ghost use Rattle.janus_check.specs.Sight.{in_sight, heads_seen};
 ghost use Rattle.janus_syntax.specs.View.{stm_of, block_of, plain_cell};
@@ -151,6 +151,7 @@ fn local(sight: &Sight, draft: &mut Draft) -> Result<Symbol, AllocError>
     ensures name { IfOk result (λ symbol. symbol_name all_slots symbol ≡ slot (length (names_of (in_sight sight.now)))) }
     ensures number { IfOk result (λ symbol. symbol.number ≡ length (in_sight sight.now)) }
     ensures small { IfOk result (λ symbol. suc (length (in_sight sight.now)) < 2 ^ 64) }
+    ensures full { OnErr result (2 ^ 64 ≤ suc (length (in_sight sight.now))) }
     ensures width { OnOk result (draft.new.width ≡ max draft.old.width (suc (length (in_sight sight.now)))) }
     ensures wider { draft.old.width ≤ draft.new.width }
     ensures members { draft.new.members.items ≡ draft.old.members.items }

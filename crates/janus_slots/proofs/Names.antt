@@ -1,5 +1,5 @@
 -- Slots and numbers in place of names: two of them are the same where the names are.
-use Rattle.std.proofs.Common.{◌≡◌, ℕ, zero, suc, ◌<◌, ◌≤◌, List, [], ◌∷◌, length, Bool, true, false, nat_eq, ◌&&◌, Some, None, slice_get, refl, ap}
+use Rattle.std.proofs.Common.{◌≡◌, ℕ, zero, suc, ◌<◌, ◌≤◌, List, [], ◌∷◌, length, cond, Bool, true, false, nat_eq, ◌&&◌, Some, None, slice_get, refl, ap}
 use Rattle.std.proofs.Common.{◌∙◌, sym, arith}
 use Rattle.std.proofs.lemmas.Bool.Decides.{nat_tests}
 use Rattle.std.proofs.lemmas.Option.{slice_get_past}
@@ -7,7 +7,7 @@ use Rattle.janus_meaning.specs.Syntax.{Name}
 use Rattle.janus_meaning.specs.Store.{same_name}
 use Rattle.janus_meaning.proofs.Stores.{same_name_true, same_name_self}
 use Rattle.janus_names.specs.Numbers.{IsMet}
-use Rattle.janus_slots.specs.Slots.{slot, picked, slot_in, number_from, number_in}
+use Rattle.janus_slots.specs.Slots.{slot, slot_in, number_from, number_in}
 
 -- ---- slots
 
@@ -24,7 +24,7 @@ IsBelow n y = (k : ℕ) → n ≤ k → same_name y (slot k) ≡ false
 slot_below : (m n : ℕ) → m < n → IsBelow n (slot m)
 slot_below m n lt k le = ap (λ b. b && true) (less_differs m k (omega arith))
 
-picked_below : (b : Bool) (n : ℕ) (x y : Name) → IsBelow n x → IsBelow n y → IsBelow n (picked b x y)
+picked_below : (b : Bool) (n : ℕ) (x y : Name) → IsBelow n x → IsBelow n y → IsBelow n (cond b x y)
 picked_below true n x y h g = h
 picked_below false n x y h g = g
 
@@ -54,7 +54,7 @@ IsAbove n y = (k : ℕ) → k < n → same_name (slot k) y ≡ false
 slot_above : (n : ℕ) → IsAbove n (slot n)
 slot_above n k lt = ap (λ b. b && true) (less_differs k n lt)
 
-picked_above : (b : Bool) (n : ℕ) (x y : Name) → IsAbove n x → IsAbove n y → IsAbove n (picked b x y)
+picked_above : (b : Bool) (n : ℕ) (x y : Name) → IsAbove n x → IsAbove n y → IsAbove n (cond b x y)
 picked_above true n x y h g = h
 picked_above false n x y h g = g
 
@@ -75,7 +75,7 @@ met_later h es q m ne = at m.0 m.1
 
 numbers_by : (n : ℕ) (h : Name) (es : List Name) (f q : Name) (a b : Bool) → same_name f h ≡ a → same_name q h ≡ b → IsMet (h ∷ es) q
     → (IsMet es q → same_name (number_from (suc n) es f) (number_from (suc n) es q) ≡ same_name f q)
-    → same_name (picked a (slot n) (number_from (suc n) es f)) (picked b (slot n) (number_from (suc n) es q)) ≡ same_name f q
+    → same_name (cond a (slot n) (number_from (suc n) es f)) (cond b (slot n) (number_from (suc n) es q)) ≡ same_name f q
 numbers_by n h es f q true true ea eb m later =
     let same : f ≡ q = same_name_true f h ea ∙ sym (same_name_true q h eb) in
     same_name_self (slot n) ∙ sym (ap (λ x. same_name x q) same ∙ same_name_self q)

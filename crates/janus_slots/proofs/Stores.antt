@@ -1,12 +1,12 @@
 -- Reading, taking, putting and passing of values: with slots in place of names they do the same.
-use Rattle.std.proofs.Common.{◌≡◌, ℕ, suc, List, [], ◌∷◌, length, Bool, true, false, refl, ap, ◌∙◌, sym, arith}
+use Rattle.std.proofs.Common.{◌≡◌, ℕ, suc, List, [], ◌∷◌, length, cond, Bool, true, false, refl, ap, ◌∙◌, sym, arith}
 use Rattle.janus_meaning.specs.Fault.{Res, Fine, Broken, and_then, guard}
 use Rattle.janus_meaning.specs.Syntax.{Name, Proc, Kind, names_of}
 use Rattle.janus_meaning.specs.Store.{Val, Num, Arr, Stk, Lent, Store, Bare, Slot, same_name, look, look_at, take, take_at, take_slot, put, put_at}
 use Rattle.janus_meaning.specs.Store.{put_slot, pull, fill, bind, unbind, pick, find}
 use Rattle.janus_meaning.proofs.Results.{with_parts, by_fine}
 use Rattle.janus_meaning.proofs.Stores.{same_name_self, put-take, fill-pull}
-use Rattle.janus_slots.specs.Slots.{slot, picked, slot_in, slots_in, number_in, stacked, procedure_in, procedures_in, names_in, in_slots}
+use Rattle.janus_slots.specs.Slots.{slot, slot_in, slots_in, number_in, stacked, procedure_in, procedures_in, names_in, in_slots}
 use Rattle.janus_slots.specs.Law.{AreListed}
 use Rattle.janus_slots.proofs.Results.{res_in, then_in}
 use Rattle.janus_slots.proofs.Names.{IsBelow, slot_in_below, numbers_same}
@@ -14,7 +14,7 @@ use Rattle.janus_slots.proofs.Names.{IsBelow, slot_in_below, numbers_same}
 -- ---- reading
 
 look_at_same : (b : Bool) (n : ℕ) (z : Name) (v : Val) (s : Store) (r : Res Val) → IsBelow n z → look z s ≡ r
-    → look (picked b (slot n) z) (Slot (slot n) v s) ≡ look_at b v r
+    → look (cond b (slot n) z) (Slot (slot n) v s) ≡ look_at b v r
 look_at_same true n z v s r h e = ap (λ b. look_at b v (look (slot n) s)) (same_name_self (slot n))
 look_at_same false n z v s r h e = ap (λ b. look_at b v (look z s)) (h n (omega arith)) ∙ e
 
@@ -57,7 +57,7 @@ take_slot_same y (Stk l) s = refl
 take_slot_same y Lent s = refl
 
 take_at_same : (b : Bool) (x y : Name) (v : Val) (s : Store) → take (slot_in (names_in s) x) (in_slots s) ≡ res_in beside (take x s)
-    → take (picked b (slot (length (names_in s))) (slot_in (names_in s) x)) (Slot (slot (length (names_in s))) v (in_slots s))
+    → take (cond b (slot (length (names_in s))) (slot_in (names_in s) x)) (Slot (slot (length (names_in s))) v (in_slots s))
     ≡ res_in beside (take_at b y v s (take x s))
 take_at_same true x y v s ih =
     let n : Name = slot (length (names_in s)) in
@@ -91,7 +91,7 @@ put_slot_same y (Arr l) s u = refl
 put_slot_same y (Stk l) s u = refl
 
 put_at_same : (b : Bool) (x y : Name) (v : Val) (s : Store) (u : Val) → put (slot_in (names_in s) x) u (in_slots s) ≡ res_in in_slots (put x u s)
-    → put (picked b (slot (length (names_in s))) (slot_in (names_in s) x)) u (Slot (slot (length (names_in s))) v (in_slots s))
+    → put (cond b (slot (length (names_in s))) (slot_in (names_in s) x)) u (Slot (slot (length (names_in s))) v (in_slots s))
     ≡ res_in in_slots (put_at b y v s u (put x u s))
 put_at_same true x y v s u ih =
     let n : Name = slot (length (names_in s)) in

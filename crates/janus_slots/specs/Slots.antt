@@ -1,5 +1,5 @@
 -- Names replaced by slots: a name in sight by how many names stand below it, and the name of a procedure by its number in a table of procedures.
-use Rattle.std.specs.Prelude.{ℕ, zero, suc, ◌<◌, Bool, true, false, List, [], ◌∷◌, length, map}
+use Rattle.std.specs.Prelude.{ℕ, zero, suc, ◌<◌, cond, List, [], ◌∷◌, length, map}
 use Rattle.janus_meaning.specs.Syntax.{Name, Exp, Number, Var, At, Empty, Top, Negate, Binary, And, Or, Stm, Blk, Skip, Set, SetAt, Push, Pop, Swap, If, From}
 use Rattle.janus_meaning.specs.Syntax.{LocalInt, LocalStack, Call, Uncall, Nil, Cons, Proc, names_of}
 use Rattle.janus_meaning.specs.Store.{Store, Bare, Slot, same_name}
@@ -13,11 +13,6 @@ slot n = n ∷ []
 -- the name of what has no slot
 abbrev pub no_slot : Name
 no_slot = []
-
--- one of two names, by a test
-abbrev pub picked : Bool → Name → Name → Name
-picked true x y = x
-picked false x y = y
 
 -- each name of a table is the slot of its number
 abbrev pub AreSlots : List Name → Type 0
@@ -33,7 +28,7 @@ slots_from k (suc n) = slot k ∷ slots_from (suc k) n
 -- the slot of a name: that of the newest of this name
 abbrev pub slot_in : List Name → Name → Name
 slot_in [] x = no_slot
-slot_in (y ∷ g) x = picked (same_name x y) (slot (length g)) (slot_in g x)
+slot_in (y ∷ g) x = cond (same_name x y) (slot (length g)) (slot_in g x)
 
 -- those of several
 abbrev pub slots_in : List Name → List Name → List Name
@@ -56,7 +51,7 @@ exp_in g (Or l r) = Or (exp_in g l) (exp_in g r)
 -- the number of a name in the table, from n on
 abbrev pub number_from : ℕ → List Name → Name → Name
 number_from n [] f = no_slot
-number_from n (h ∷ es) f = picked (same_name f h) (slot n) (number_from (suc n) es f)
+number_from n (h ∷ es) f = cond (same_name f h) (slot n) (number_from (suc n) es f)
 
 -- the number of a procedure's name, the first one's being 0
 abbrev pub number_in : List Name → Name → Name

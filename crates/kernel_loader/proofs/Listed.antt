@@ -1,5 +1,5 @@
 -- A table of procedures' names that goes on: where all that is called is listed, blocks and procedures keep their numbers.
-use Rattle.std.proofs.Common.{◌≡◌, ℕ, zero, suc, Bool, true, false, List, [], ◌∷◌, ◌++◌, length, Some, None, slice_get, refl, ap, ◌∙◌, sym, arith}
+use Rattle.std.proofs.Common.{◌≡◌, ℕ, zero, suc, Bool, true, false, List, [], ◌∷◌, ◌++◌, length, Some, None, slice_get, refl, ap, ◌∙◌, sym, arith, cond}
 use Rattle.std.proofs.lemmas.Option.{slice_get_past}
 use Rattle.janus_meaning.specs.Syntax.{Name, Proc, names_of, Stm, Blk, Skip, Set, SetAt, Push, Pop, Swap, If, From, LocalInt, LocalStack, Call, Uncall, Nil}
 use Rattle.janus_meaning.specs.Syntax.{Cons, ANumber, AStack}
@@ -8,7 +8,7 @@ use Rattle.janus_meaning.specs.Shape.{Shape, Heads}
 use Rattle.janus_meaning.specs.Formed.{IsStm, IsBlk, AreProcs}
 use Rattle.janus_meaning.proofs.Stores.{same_name_true, same_name_self}
 use Rattle.janus_names.specs.Numbers.{IsMet, GoOn}
-use Rattle.janus_slots.specs.Slots.{slot, picked, number_from, number_in, slots_in, exp_in, stm_in, block_in, stacked, procedure_in, procedures_in}
+use Rattle.janus_slots.specs.Slots.{slot, number_from, number_in, slots_in, exp_in, stm_in, block_in, stacked, procedure_in, procedures_in}
 use Rattle.janus_slots.specs.Law.{AreListed}
 use Rattle.janus_code.specs.Slotted.{HasEntries}
 
@@ -70,7 +70,7 @@ abbrev pub IsSlot : Name → Type 0
 IsSlot x = (k : ℕ) × (x ≡ slot k)
 
 number_by : (n : ℕ) (h : Name) (es : List Name) (f : Name) (b : Bool) → same_name f h ≡ b → (IsSlot (number_from (suc n) es f) → IsMet es f) →
-    IsSlot (picked b (slot n) (number_from (suc n) es f)) → IsMet (h ∷ es) f
+    IsSlot (cond b (slot n) (number_from (suc n) es f)) → IsMet (h ∷ es) f
 number_by n h es f true s later p = (0, ap Some (sym (same_name_true f h s)))
 number_by n h es f false s later p = let m = later p in (suc m.0, m.1)
 
@@ -112,7 +112,7 @@ met_later h es f ne m = at m.0 m.1
 
 kept_by : (n : ℕ) (h : Name) (es more : List Name) (f : Name) (b : Bool) → same_name f h ≡ b → IsMet (h ∷ es) f →
     (IsMet es f → number_from (suc n) (es ++ more) f ≡ number_from (suc n) es f)
-    → picked b (slot n) (number_from (suc n) (es ++ more) f) ≡ picked b (slot n) (number_from (suc n) es f)
+    → cond b (slot n) (number_from (suc n) (es ++ more) f) ≡ cond b (slot n) (number_from (suc n) es f)
 kept_by n h es more f true s m later = refl
 kept_by n h es more f false s m later = later (met_later h es f s m)
 
