@@ -20,7 +20,7 @@
 //!
 //! The definitions, in specs/, in reading order:
 //!
-//! - `BlocksOver`: that two codes stand for the same over each table of names holds no data. Code names a variable by its number, so what it
+//! - `BlocksOver`: that two codes stand for the same over each table of names holds no data. Code names a variable by its slot, so what it
 //!   stands for is told over a table of names: that of the store, or any other.
 //! - `Faults`, `Statements`, `Acts`: faults, and what statements and instructions do to a store.
 //! - `LinkedProcedure`, `Procedures`, `Bodies`: what contracts see of bodies, and which of them are in effect.

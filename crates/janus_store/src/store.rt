@@ -1,4 +1,4 @@
-//! The declared names with their values and texts, in the order of declaration, and the locals above them, found by numbers.
+//! The declared names with their values and texts, in the order of declaration, and the locals above them, found by their slots.
 
 ghost use Rattle.std.specs.Prelude.{◌≡◌, ℤ, ℕ, suc, ◌+◌, ◌-◌, List, [], ◌∷◌, ◌++◌, pos, ◌<◌, ◌≤◌, max, length, vec_len, vec_capacity, slice_set, slice_index};
 ghost use Rattle.std.specs.Prelude.{IsTrue, ◌↔◌, IfOk, OnOk, OnErr, slice_get, Some};

@@ -7,7 +7,6 @@ use Rattle.janus_meaning.specs.World.{World}
 use Rattle.janus_names.specs.Numbers.{IsNumbered}
 use Rattle.janus_syntax.specs.Tree.{Cell}
 use Rattle.janus_check.specs.Names.{Known}
-use Rattle.janus_check.specs.WellFormed.{IsWellFormedOver}
 use Rattle.kernel_machine.specs.Text.{Accepts}
 use Rattle.kernel_runner.specs.Runner.{ShownWorld, Is, Between}
 use Rattle.kernel_runner.specs.declared.runner.Runner.{Runner}
@@ -17,7 +16,6 @@ use Rattle.kernel_loader.specs.Known.{IsKnownOf}
 pub record IsCheckedOver {L : Type 0} (runner : Runner L) (env : Known) (cell : Cell) (shown : ShownWorld) : Type 0 where
   pub is : Is runner (Between shown)
   pub known : IsKnownOf env shown.world
-  pub formed : IsWellFormedOver env cell
   pub values : HaveValues shown.world.store
 
 -- the runner shows what it showed: there may be more slots, more names of procedures, and more bodies that are kept

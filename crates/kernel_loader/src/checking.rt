@@ -4,7 +4,6 @@ ghost use Rattle.janus_meaning.specs.World.{World};
 ghost use Rattle.janus_syntax.specs.View.{plain_cell};
 ghost use Rattle.janus_check.specs.Checked.{cell_in};
 ghost use Rattle.janus_check.specs.Own.{IsOwn};
-ghost use Rattle.janus_check.specs.WellFormed.{IsWellFormedOver};
 ghost use Rattle.kernel_machine.specs.Text.{Accepts, Refuses};
 ghost use Rattle.kernel_loader.specs.Known.{IsKnownOf};
 
@@ -17,7 +16,6 @@ use std::alloc::Global;
 /// text is told before one of the check.
 pub fn cell_of_text(alloc: Global, text: &str, env: &Env) -> Result<(Checked, Env), Refusal>
     ensures accepts { IfOk result (λ passed. (w : World) → IsKnownOf env.now w → Accepts w text.now (plain_cell (cell_in passed.0))) }
-    ensures formed { IfOk result (λ passed. IsWellFormedOver env.now (cell_in passed.0)) }
     ensures own { IfOk result (λ passed. IsOwn env.now passed.1 (cell_in passed.0)) }
     ensures refuses { IfErr result (λ refusal. (w : World) → IsKnownOf env.now w → Refuses w text.now refusal) }
 {

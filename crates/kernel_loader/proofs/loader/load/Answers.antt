@@ -23,7 +23,6 @@ link-requires-clause-checked g c =
       record {
         is = c.requires.is.1;
         known = record { names = c.in-Ok.ensures.names; heads = c.in-Ok.ensures.heads };
-        formed = c.in_ok-checked.ensures.formed;
         values = c.requires.sound.formed.values;
       },
     )
