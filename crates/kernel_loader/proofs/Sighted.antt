@@ -2,7 +2,7 @@
 use Rattle.std.proofs.Common.{◌≡◌, ℕ, zero, suc, ◌<◌, Bool, true, false, List, [], ◌∷◌, length, map, take, get_or, inl, inr, refl, sym, ap, ◌∙◌, subst, arith}
 use Rattle.janus_meaning.specs.Syntax.{Name, Proc, names_of}
 use Rattle.janus_meaning.specs.Store.{Store, same_name}
-use Rattle.janus_meaning.specs.Shape.{Shape, Heads, head_at, head_of, heads_of, kinds_in, pick_newest, shape_of}
+use Rattle.janus_meaning.specs.Shape.{Shape, Heads, head_at, head_of, heads_of, kinds_in, pick_newest}
 use Rattle.janus_meaning.specs.World.{Declaration, DeclareInt, DeclareArray, DeclareStack, declare, declare_one, declared_name}
 use Rattle.janus_meaning.specs.FormedWorld.{with_declared, with_heads, declared_kind}
 use Rattle.janus_meaning.proofs.Stores.{same_name_true}
@@ -22,7 +22,7 @@ use Rattle.janus_store.specs.StoreState.{shown_store}
 use Rattle.kernel_runner.specs.Runner.{ShownWorld}
 use Rattle.kernel_runner.specs.declared.runner.Runner.{Runner}
 use Rattle.kernel_runner.proofs.Growing.{no_more}
-use Rattle.kernel_loader.specs.Loading.{IsCheckedOver}
+use Rattle.kernel_loader.specs.Loading.{ShowsKnown}
 use Rattle.kernel_loader.proofs.Listed.{listed_still, met_still}
 
 -- ---- names
@@ -37,7 +37,7 @@ names_declared [] g s e = e
 names_declared (d ∷ ds) g s e =
     names_declared ds ((declared_name d, declared_kind d) ∷ g) (declare_one d s) (ap (λ (l : List Name). declared_name d ∷ l) e ∙ sym (one_declared d s))
 
-pub names_here : {L : Type 0} (runner : Runner L) (env own : Known) (cell : tree.Cell) (shown : ShownWorld) → IsCheckedOver runner env cell shown →
+pub names_here : {L : Type 0} (runner : Runner L) (env own : Known) (cell : tree.Cell) (shown : ShownWorld) → ShowsKnown runner env shown →
     IsOwn env own cell →
     names_of (over (shape_in env.names) own.names) ≡ names_in (declare (plain_cell cell).declarations (shown_store runner.store))
 names_here runner env own cell shown checked is =
@@ -64,7 +64,7 @@ entries_of es [] h = λ f cs e. cc
 entries_of es (p ∷ ps) h = entry_more es (heads_of ps) p (entries_of es ps h.1) h.0
 
 pub entries_here : {L : Type 0} (runner : Runner L) (env own : Known) (cell : tree.Cell) (shown : ShownWorld) (es : List Name) →
-    IsCheckedOver runner env cell shown → IsOwn env own cell →
+    ShowsKnown runner env shown → IsOwn env own cell →
     GoOn runner.entries es → AreListed es (plain_cell cell).procedures → HasEntries (heads_over env own) es
 entries_here runner env own cell shown es checked is onward listed =
     let older : HasEntries (heads_of shown.world.procedures) es =

@@ -5,15 +5,14 @@ use Rattle.janus_meaning.specs.FormedWorld.{HaveValues}
 use Rattle.janus_meaning.specs.World as world
 use Rattle.janus_meaning.specs.World.{World}
 use Rattle.janus_names.specs.Numbers.{IsNumbered}
-use Rattle.janus_syntax.specs.Tree.{Cell}
 use Rattle.janus_check.specs.Names.{Known}
 use Rattle.kernel_machine.specs.Text.{Accepts}
 use Rattle.kernel_runner.specs.Runner.{ShownWorld, Is, Between}
 use Rattle.kernel_runner.specs.declared.runner.Runner.{Runner}
 use Rattle.kernel_loader.specs.Known.{IsKnownOf}
 
--- the cell was checked over what is known of the world that is shown
-pub record IsCheckedOver {L : Type 0} (runner : Runner L) (env : Known) (cell : Cell) (shown : ShownWorld) : Type 0 where
+-- the runner shows this world, of which this is known, and in which each name has a value
+pub record ShowsKnown {L : Type 0} (runner : Runner L) (env : Known) (shown : ShownWorld) : Type 0 where
   pub is : Is runner (Between shown)
   pub known : IsKnownOf env shown.world
   pub values : HaveValues shown.world.store

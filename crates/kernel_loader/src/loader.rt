@@ -24,7 +24,7 @@ ghost use Rattle.kernel_runner.specs.Program.{cell_of_program, procedures_of, Is
 ghost use Rattle.kernel_runner.specs.Runner.{ShownWorld, over, Is, Between, world_of};
 ghost use Rattle.kernel_loader.specs.Defined.{in_a_row};
 ghost use Rattle.kernel_loader.specs.Keeping.{StandsFor, KeepsOlder, KeepsDefined, width_of_cell};
-ghost use Rattle.kernel_loader.specs.Loading.{IsCheckedOver, KeepsShown, AddNamesOf, AddNamesOfText};
+ghost use Rattle.kernel_loader.specs.Loading.{ShowsKnown, KeepsShown, AddNamesOf, AddNamesOfText};
 
 use crate::checking::cell_of_text;
 use crate::frame::{frame_names, has_loop};
@@ -96,7 +96,7 @@ fn link<L: Ledger>(
     checked: &Checked,
     runner: &mut Runner<L>,
 ) -> Result<(Book, usize), AllocError>
-    requires checked { (shown : ShownWorld) × IsCheckedOver runner.old env.now (cell_in checked.now) shown }
+    requires known { (shown : ShownWorld) × ShowsKnown runner.old env.now shown }
     requires own { IsOwn env.now own.now (cell_in checked.now) }
     ensures ready { IfOk result (λ made. IsReady runner.new.store.names runner.new.entries
         (names_in (declare (plain_cell (cell_in checked.now)).declarations (shown_store runner.old.store)))

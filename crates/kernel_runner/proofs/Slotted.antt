@@ -1,6 +1,6 @@
 -- A good store is good in slots; and what a store with slots shows.
-use Rattle.std.proofs.Common.{◌≡◌, ℕ, ◌+◌, List, length, refl, sym, ap, ◌∙◌, subst}
-use Rattle.std.specs.Prelude.{reverse, slice_get, Some}
+use Rattle.std.proofs.Common.{◌≡◌, ℕ, ◌+◌, List, length, sym, ap, ◌∙◌, subst}
+use Rattle.std.specs.Prelude.{reverse, Some}
 use Rattle.std.proofs.lemmas.List.{length-reverse, reverse-reverse}
 use Rattle.std.proofs.lemmas.Option.{slice_get_within, same_Some}
 use Rattle.janus_meaning.specs.Syntax.{Name}

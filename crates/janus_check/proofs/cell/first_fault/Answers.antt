@@ -1,6 +1,6 @@
 use Rattle.std.proofs.Common.{◌≡◌, ◌++◌, [], None, ap, ◌∙◌}
 use Rattle.janus_syntax.specs.Tree.{declarations_view, block_view, procedures_view}
-use Rattle.janus_check.specs.Names.{Known, shape_in, heads_in, over}
+use Rattle.janus_check.specs.Names.{shape_in, heads_in, over}
 use Rattle.janus_check.specs.Fault.{first_from}
 use Rattle.janus_check.specs.Check.{declarations_faults, after_declarations, heads_faults, heads_with, after_heads, block_faults, bodies_faults}
 use Rattle.janus_check.specs.Sight.{heads_over}

@@ -29,8 +29,8 @@ pub keep_and_link-kept-requires-clause-entries : goal.keep_and_link-kept-require
 keep_and_link-kept-requires-clause-entries g c =
     let same : map plain_procedure (procedures_view c.deref.result.now) ≡ (plain_cell (cell_in c.args.checked.now)).procedures =
     ap (λ l. map plain_procedure (procedures_view l)) c.deref.ensures.value ∙ ap (λ (t : tree.Cell). (plain_cell t).procedures) c.cell.ensures in
-    entries_here c.args.runner.now c.args.env.now c.args.own.now (cell_in c.args.checked.now) c.requires.checked.0 c.list_all-listed.new.entries
-    c.requires.checked.1 c.requires.own c.list_all-listed.ensures.onward
+    entries_here c.args.runner.now c.args.env.now c.args.own.now (cell_in c.args.checked.now) c.requires.known.0 c.list_all-listed.new.entries
+    c.requires.known.1 c.requires.own c.list_all-listed.ensures.onward
     (subst (λ (ps : List Proc). AreListed c.list_all-listed.new.entries ps) same c.in_ok-listed.ensures.listed)
 
 pub returns-in-Ok-clause-named : goal.returns-in-Ok-clause-named
@@ -48,9 +48,9 @@ returns-in-Ok-clause-ready g c =
     let listed : AreListed es (plain_cell cell).procedures = subst (λ (ps : List Proc). AreListed es ps) same c.in_ok-listed.ensures.listed in
     let program : Program = record { book = c.in-Ok.book; checked = c.args.checked.now; first = c.len-first.result } in
     ready_made c.keep_and_link-kept.new.store.names es _ _ _ _ c.args.runner.now.procedures c.keep_and_link-kept.new.kept program c.in-Ok.ensures.block
-    (names_here c.args.runner.now c.args.env.now c.args.own.now cell c.requires.checked.0 c.requires.checked.1 c.requires.own)
+    (names_here c.args.runner.now c.args.env.now c.args.own.now cell c.requires.known.0 c.requires.known.1 c.requires.own)
     c.in-Ok.ensures.numbered c.len-first.ensures c.in-Ok.ensures.bodies c.in-Ok.ensures.count
-    (entries_here c.args.runner.now c.args.env.now c.args.own.now cell c.requires.checked.0 es c.requires.checked.1 c.requires.own
+    (entries_here c.args.runner.now c.args.env.now c.args.own.now cell c.requires.known.0 es c.requires.known.1 c.requires.own
     c.list_all-listed.ensures.onward listed)
     listed c.requires.own.block c.requires.own.procedures
 
@@ -99,6 +99,6 @@ returns-in-Ok-clause-slots g c =
     let seen : length shape ≡ length (names_in (declare (plain_cell cell).declarations (shown_store c.args.runner.now.store))) =
     sym (length_names shape)
     ∙ ap (λ (xs : List Name). length xs)
-    (names_here c.args.runner.now c.args.env.now c.args.own.now cell c.requires.checked.0 c.requires.checked.1 c.requires.own) in
+    (names_here c.args.runner.now c.args.env.now c.args.own.now cell c.requires.known.0 c.requires.known.1 c.requires.own) in
     c.in-Ok.ensures.slots
     ∙ ap (λ (n : ℕ). max (width_of_cell c.list_all-listed.new.entries n (plain_cell cell)) (length c.args.runner.now.store.names)) seen

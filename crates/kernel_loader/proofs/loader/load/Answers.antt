@@ -16,8 +16,8 @@ pub known_over-requires-clause-distinct : goal.known_over-requires-clause-distin
 known_over-requires-clause-distinct g c =
     c.requires.sound.formed.names
 
-pub link-requires-clause-checked : goal.link-requires-clause-checked
-link-requires-clause-checked g c =
+pub link-requires-clause-known : goal.link-requires-clause-known
+link-requires-clause-known g c =
     let w : World = world_of (in_a_row c.args.procedures.now) c.args.runner.now in (
       over c.requires.is.0 w,
       record {
