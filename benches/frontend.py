@@ -118,4 +118,5 @@ def measured(program, is_heard):
 for _ in range(int(sys.argv[2]) if len(sys.argv) > 2 else 3):
     for is_heard in (False, True):
         info, execute, rate = measured(sys.argv[1], is_heard)
-        print(f"{'with a subscriber' if is_heard else 'nobody subscribed'}: what the kernel is {info:.3f} ms, a cell {execute:.3f} ms, pipelined {rate:,.0f} a second", flush=True)
+        heard = "with a subscriber" if is_heard else "nobody subscribed"
+        print(f"{heard}: what the kernel is {info:.3f} ms, a cell {execute:.3f} ms, pipelined {rate:,.0f} a second", flush=True)
