@@ -1,5 +1,5 @@
 //! A conversation with a kernel over its shell and iopub sockets.
-ghost use Rattle.std.specs.Prelude.{◌≡◌, ◌+◌, OnOk, IfOk, string_bytes};
+ghost use Rattle.std.specs.Prelude.{◌≡◌, ◌+◌, ◌%◌, ◌^◌, OnOk, IfOk, string_bytes};
 ghost use Rattle.std.specs.Io.KnownBytes.{Appends};
 ghost use Rattle.kernel_message.specs.Draft.{said_of};
 ghost use Rattle.console_program.specs.Requests.{request_octets};
@@ -70,9 +70,11 @@ struct News {
 }
 
 impl<R: Read + Drop, W: Write + Drop> Frontend<R, W> {
-    /// Sends a request on shell, and answers its number: its octets go out, those of the message of the session under this number, signed.
+    /// Sends a request on shell, and answers its number: its octets go out, those of the message of the session under this number, signed. The next
+    /// request has the number behind it, and 0 behind the last one.
     pub fn send(&mut self, draft: &Draft) -> Result<u64, ConsoleFault>
         ensures number { IfOk result (λ n. n ≡ self.old.next) }
+        ensures next { OnOk result (self.new.next ≡ (self.old.next + 1) % 2 ^ 64) }
         ensures written { OnOk result (Appends (W.contents self.old.shell.writer) (W.contents self.new.shell.writer)
             (request_octets self.old.key (string_bytes self.old.session) self.old.next (said_of draft.now))) }
     {

@@ -183,7 +183,8 @@ impl<R: Read + Drop, W: Write + Drop> Wire<R, W> {
 
     /// Writes a message of these frames: all its octets, or where that fails a beginning of them.
     pub fn write(&mut self, frames: &[Vec<u8>]) -> Result<(), ConsoleFault>
-        ensures { OnOk result (Appends (W.contents self.old.writer) (W.contents self.new.writer) (message_octets (bodies_of frames.now))) }
+        ensures ok { OnOk result (Appends (W.contents self.old.writer) (W.contents self.new.writer) (message_octets (bodies_of frames.now))) }
+        ensures err { OnErr result (SentSome (W.contents self.old.writer) (W.contents self.new.writer) (message_octets (bodies_of frames.now))) }
     {
         match send_message(self.alloc, &mut self.writer, frames) {
             Ok(()) => Ok(()),

@@ -19,4 +19,4 @@ returns-clause-written g c =
     subst
     (λ (os : List ℕ). Appends (g.W.Write.contents self.shell.writer) (g.W.Write.contents c.write.new.self.writer) os)
     octets
-    c.in_ok-write.ensures
+    c.in_ok-write.ensures.ok
