@@ -1,8 +1,8 @@
 //! What holds of all sessions. The functions do nothing: their contracts are the laws.
 ghost use Rattle.kernel_session.specs.Laws.{BusyFirstAndIdleLast, OrdersWhatIsWanted, SessionsGoOn};
 
-/// Of what a served request brings, the status busy is the first message and the status idle the last, unless the desk finds no memory;
-/// between them the desk gets the orders of the request, and no broadcast among them.
+/// Of what a served request brings, the status busy is the first broadcast and the status idle the last, unless the desk finds no memory. Behind
+/// busy the desk gets the orders of the request, no broadcast among them, and behind idle the reply goes out.
 pub fn busy_first_and_idle_last_law()
     ensures { BusyFirstAndIdleLast }
 {}

@@ -14,8 +14,8 @@
 //! sources are RFC 23 for what octets tell, as `zmtp_peer` has it, and the Jupyter messaging page (version 5.4) for what a message asks
 //! and what is answered, as `jupyter_msg` and `kernel_reply` have it. `talk` says what each request has the desk do, `IsServed` what it
 //! brings, `IsSession` what the events bring one after the other. A desk's own relation `leads` says what it may answer, so the session
-//! of one desk is had by its relation. `laws` says of these definitions, over all requests and events, that busy comes first and idle last,
-//! which orders each request gives the desk (`Order`), with all that they carry, and that a session goes on event by event.
+//! of one desk is had by its relation. `laws` says of these definitions, over all requests and events, that busy is the first broadcast and idle
+//! the last, which orders each request gives the desk (`Order`), with all that they carry, and that a session goes on event by event.
 //!
 //! No contract says when `serve` reads: that it answers each request before it reads the next is tested, not proved. No contract can say that
 //! a stream failed: that `Read` and `Write` come only where one did is tested, not proved. The tests stand in `tests_sessions`.

@@ -63,8 +63,8 @@ returns-in-Ok-clause-shown g c = λ shown h.
     shows_more c.args.runner.now _ shown c.keep_and_link-kept.ensures.sight c.slots_law-2.ensures.slots c.list_all-listed.ensures.onward
     c.keep_and_link-kept.ensures.older (λ d. c.keep_and_link-kept.ensures.defined shown.bodies d) h
 
-pub returns-clause-shown : goal.returns-clause-shown
-returns-clause-shown g c = λ shown h.
+pub returns-in-Err-clause-shown : goal.returns-in-Err-clause-shown
+returns-in-Err-clause-shown g c = λ shown h.
     let same : kept_in c.forget.new.self ≡ kept_in c.args.runner.now.procedures =
     c.forget.ensures.kept ∙ ap (λ (n : ℕ). take n (kept_in c.keep_and_link-kept.new.kept)) c.len-first.ensures ∙ c.keep_and_link-kept.ensures.older in
     let below : AreBelow c.len-first.result shown.bodies =
@@ -86,8 +86,8 @@ returns-in-Ok-clause-only g c =
     ap (λ l. map plain_procedure (procedures_view l)) c.deref.ensures.value ∙ ap (λ (t : tree.Cell). (plain_cell t).procedures) c.cell.ensures in
     subst (λ (ps : List Proc). AddNamesOf c.args.runner.now.entries c.list_all-listed.new.entries ps) same c.list_all-listed.ensures.only
 
-pub returns-clause-only : goal.returns-clause-only
-returns-clause-only g c =
+pub returns-in-Err-clause-only : goal.returns-in-Err-clause-only
+returns-in-Err-clause-only g c =
     let same : map plain_procedure (procedures_view c.deref.result.now) ≡ (plain_cell (cell_in c.args.checked.now)).procedures =
     ap (λ l. map plain_procedure (procedures_view l)) c.deref.ensures.value ∙ ap (λ (t : tree.Cell). (plain_cell t).procedures) c.cell.ensures in
     subst (λ (ps : List Proc). AddNamesOf c.args.runner.now.entries c.list_all-listed.new.entries ps) same c.list_all-listed.ensures.only
