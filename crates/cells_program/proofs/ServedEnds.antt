@@ -3,7 +3,7 @@ use Rattle.std.proofs.Common.{◌≡◌, ◌∙◌, ◌≤◌, ◌<◌, ℕ, zer
 use Rattle.std.proofs.Common.{⊎_elim, IsTrue, Result, Ok, Err}
 use Rattle.janus_meaning.specs.World.{World, Cell}
 use Rattle.janus_meaning.specs.Limit.{step_limit}
-use Rattle.janus_machine.specs.declared.fault.Fault.{Fault}
+use Rattle.janus_meaning.specs.declared.fault.Fault.{Fault}
 use Rattle.kernel_core.specs.LegalState.{IsLegalState}
 use Rattle.kernel_core.specs.Legal.{IsLegal}
 use Rattle.kernel_core.specs.progress.Progress.{Progress}

@@ -7,6 +7,8 @@
 //! command line before it; `serve` brings one request of a
 //! kernel to its end; [`laws`] says that an input has at most one transcript that nowhere tells want of memory, and how a request
 //! that is served ends; `fault` and `words` say with which status and line the program ends. The language is Janus (Yokoyama and Glück 2007).
+//!
+//! It gives `WriteFailed` of `kernel_text` again, which its transcript answers.
 #![tactic(auto)]
 
 mod command;
@@ -26,6 +28,7 @@ mod words;
 pub use command_line::{program, without_output};
 pub use fault::{RunFault, status};
 pub use input::INPUT_LIMIT;
+pub use kernel_text::WriteFailed;
 pub use output::send_run_fault;
 pub use transcript::run;
 pub use words::{steps_of, unread_words_status, words_status};

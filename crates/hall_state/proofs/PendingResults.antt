@@ -3,12 +3,12 @@ use Rattle.std.proofs.Common.{◌≡◌, ℕ, ◌-◌, ◌<◌, ◌≤◌, List,
 use Rattle.std.proofs.Common.{subst, arith}
 use Rattle.std.proofs.lemmas.List.{set-get_or}
 use Rattle.std.proofs.lemmas.Option.{slice_get-get_or, get_or_from_slice_get, slice_get_within}
-use Rattle.kernel_core.specs.Minutes.{Entry}
-use Rattle.kernel_ask.specs.declared.done.Done.{Done}
+use Rattle.kernel_audit.specs.Minutes.{Entry}
+use Rattle.kernel_audit.specs.done.Done.{Done}
 use Rattle.hall_state.specs.declared.pending_result.PendingResult.{PendingResult}
 use Rattle.hall_state.specs.declared.pending_result.LastEnd.{LastEnd}
 use Rattle.hall_state.specs.PendingResults.{IsTold, IsSettled, Settles, SettlesEntry, SettlesLast}
-use Rattle.kernel_core.specs.Minutes.{Posted, Ended}
+use Rattle.kernel_audit.specs.Minutes.{Posted, Ended}
 use Rattle.hall_state.specs.LastEnds.{IsLastEnd, EndsNoNumber, last_of, number_in}
 
 -- what a telling leaves of one, beside what it tells

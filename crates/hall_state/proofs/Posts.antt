@@ -1,9 +1,9 @@
 -- How the posts in the minutes are counted.
 use Rattle.std.proofs.Common.{◌≡◌, ℕ, ◌+◌, [], ◌∷◌, length, ap, ◌∙◌, length-append}
-use Rattle.kernel_core.specs.Request.{Request}
-use Rattle.kernel_core.specs.Minutes.{Posted, posts_of, posted_in}
-use Rattle.kernel_core.specs.Runs.{Machine, posted}
-use Rattle.kernel_core.proofs.Posts.{posts-append}
+use Rattle.kernel_audit.specs.Request.{Request}
+use Rattle.kernel_audit.specs.Minutes.{Posted, posts_of, posted_in}
+use Rattle.kernel_audit.specs.Runs.{Machine, posted}
+use Rattle.kernel_audit.proofs.Posts.{posts-append}
 
 -- a post is one more
 pub one_more : (m : Machine) (lane : ℕ) (job : Request) → posted_in (posted m lane job).minutes ≡ posted_in m.minutes + 1

@@ -1,6 +1,6 @@
 -- How the end that stands last in the minutes is read.
 use Rattle.std.specs.Prelude.{◌≡◌, ℕ, ◌-◌, List, Option, None, Some, length, slice_get, zero, suc}
-use Rattle.kernel_core.specs.Minutes.{Entry, Posted, Ended}
+use Rattle.kernel_audit.specs.Minutes.{Entry, Posted, Ended}
 use Rattle.hall_state.specs.declared.pending_result.LastEnd.{LastEnd}
 
 -- the entry that stands last

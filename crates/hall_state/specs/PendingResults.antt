@@ -1,12 +1,12 @@
 -- What stands beside the posts: their wishes until they end, and what is made as a job ends, to be told once.
 use Rattle.std.specs.Prelude.{◌≡◌, ℕ, ◌-◌, ◌≤◌, Bool, true, false, List, [], Option, None, Some, length, slice_get, slice_set, zero, suc}
-use Rattle.kernel_core.specs.Minutes.{Entry, Posted, Ended}
-use Rattle.kernel_core.specs.outcome.Begun.{Begun}
-use Rattle.kernel_core.specs.outcome.Begun.TheVariants as begun
-use Rattle.kernel_core.specs.outcome.Sliced.{Sliced}
-use Rattle.kernel_core.specs.outcome.Sliced.TheVariants as sliced
-use Rattle.kernel_ask.specs.declared.done.Done.{Done}
-use Rattle.kernel_ask.specs.Wishes.{WishOf}
+use Rattle.kernel_audit.specs.Minutes.{Entry, Posted, Ended}
+use Rattle.kernel_audit.specs.outcome.Begun.{Begun}
+use Rattle.kernel_audit.specs.outcome.Begun.TheVariants as begun
+use Rattle.kernel_audit.specs.outcome.Sliced.{Sliced}
+use Rattle.kernel_audit.specs.outcome.Sliced.TheVariants as sliced
+use Rattle.kernel_audit.specs.done.Done.{Done}
+use Rattle.kernel_audit.specs.Wishes.{WishOf}
 use Rattle.hall_state.specs.declared.pending_result.PendingResult.{PendingResult}
 use Rattle.hall_state.specs.declared.turn.Turn.{Turn}
 use Rattle.hall_state.specs.declared.turn.Turn.TheVariants.{Cut, Began, Worn}

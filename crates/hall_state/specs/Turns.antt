@@ -1,10 +1,10 @@
 -- One turn of the runner: what it is of the lent kernel and of the runner's seat.
 use Rattle.std.specs.Prelude.{◌≡◌, ℕ}
-use Rattle.kernel_core.specs.Runs.{Machine, phase_of, IsBegin, IsSliceOf}
-use Rattle.kernel_core.specs.outcome.Phase.{Phase}
-use Rattle.kernel_core.specs.outcome.Phase.TheVariants.{Idle, Queued, Border, Inside}
-use Rattle.kernel_core.specs.outcome.Begun.{Begun}
-use Rattle.kernel_core.specs.outcome.Sliced.{Sliced}
+use Rattle.kernel_audit.specs.Runs.{Machine, phase_of, IsBegin, IsSliceOf}
+use Rattle.kernel_audit.specs.outcome.Phase.{Phase}
+use Rattle.kernel_audit.specs.outcome.Phase.TheVariants.{Idle, Queued, Border, Inside}
+use Rattle.kernel_audit.specs.outcome.Begun.{Begun}
+use Rattle.kernel_audit.specs.outcome.Sliced.{Sliced}
 use Rattle.kernel_bell.specs.Views.{after_begin, after_hearing}
 use Rattle.kernel_bell.specs.Seats.{RunnerOf, runner_seat, is_asked}
 use Rattle.hall_state.specs.declared.turn.Turn.{Turn}

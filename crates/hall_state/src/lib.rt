@@ -7,6 +7,8 @@
 //!
 //! `state` has all of it. `turn` is what the runner does with the kernel and the bell, `pending_result` what stands beside a post,
 //! `passes` who may post, `minutes` what is left at the end.
+//!
+//! It gives the names of `kernel_audit`, `kernel_ask` and the kernel again that the hall hands out.
 #![tactic(auto)]
 
 mod limit;
@@ -16,6 +18,11 @@ mod pending_result;
 mod state;
 mod turn;
 
+pub use kernel_audit::{
+    Answer, Ask, AuditFault, Begun, CellText, CommChange, Comms, Content, Done, HallFault, Job,
+    Kernel, Outcome, Pass, PostFault, Refusal, STEPS_OF_A_SLICE, Sliced, Ticket, Wish, ask_on,
+    audit, comm_on, judge,
+};
 pub use limit::{PARTS_OF_POSTS, PASSES};
 pub use minutes::Minutes;
 pub use passes::Passes;

@@ -1,9 +1,9 @@
 //! The minutes of a hall that was closed.
 ghost use Rattle.std.specs.Prelude.{◌≡◌, map};
-ghost use Rattle.kernel_core.specs.LegalMinutes.{HasLegalMinutes};
-ghost use Rattle.kernel_core.specs.Written.{entry_of};
+ghost use Rattle.kernel_audit.specs.LegalMinutes.{HasLegalMinutes};
+ghost use Rattle.kernel_audit.specs.Written.{entry_of};
 
-use kernel_core::{Entry, Kernel};
+use kernel_audit::{Entry, Kernel};
 use std::marker::Model;
 use std::sync::ledger::Ledger;
 
@@ -14,8 +14,8 @@ pub struct Minutes<W: Ledger> {
 }
 
 impl<W: Ledger> Model for Minutes<W> {
-    ghost use Rattle.kernel_core.specs.Runs.{Machine};
-    ghost use Rattle.kernel_core.specs.MachineCode.{machine_code};
+    ghost use Rattle.kernel_audit.specs.Runs.{Machine};
+    ghost use Rattle.kernel_audit.specs.MachineCode.{machine_code};
 
     ghost Value = { Machine };
 

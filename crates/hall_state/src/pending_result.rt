@@ -1,13 +1,14 @@
 //! What is made for a job that ends, to be fetched by the first wait for it.
 ghost use Rattle.std.specs.Prelude.{◌≡◌, ◌-◌, [], IfSome, IfNone, IfOk, None, map, suc};
-ghost use Rattle.kernel_core.specs.State.{Idle};
-ghost use Rattle.kernel_core.specs.Written.{entry_of};
+ghost use Rattle.kernel_audit.specs.State.{Idle};
+ghost use Rattle.kernel_audit.specs.Written.{entry_of};
 ghost use Rattle.kernel_audit.specs.Ends.{HasEnd};
 ghost use Rattle.hall_state.specs.PendingResults.{IsNewPending, IsTold, IsSettled, SettlesLast};
 ghost use Rattle.hall_state.specs.LastEnds.{IsLastEnd, EndsNoNumber, last_of, number_in};
 
-use kernel_ask::{Done, NamedValue, Wish, is_settled, shown_of_node, stands_at_end};
-use kernel_core::{Entry, Kernel, Outcome};
+use kernel_audit::{
+    Done, Entry, Kernel, NamedValue, Outcome, Wish, is_settled, shown_of_node, stands_at_end,
+};
 use std::alloc::{AllocError, Global};
 use std::mem;
 use std::sync::ledger::Ledger;

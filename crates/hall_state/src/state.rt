@@ -1,13 +1,13 @@
 //! What lies under the hall's lock.
 ghost use Rattle.std.specs.Prelude.{◌≡◌, ◌+◌, ◌-◌, ◌^◌, ◌<◌, ◌≤◌, ◌↔◌, IsTrue, [], ◌∷◌, ◌++◌, IfOk, IfErr, OnErr, IfSome, IfNone, suc, length, true};
 ghost use Rattle.std.specs.Bool.{OnTrue, OnFalse};
-ghost use Rattle.kernel_core.specs.Request.{request_of};
-ghost use Rattle.kernel_core.specs.Minutes.{posted_in};
-ghost use Rattle.kernel_core.specs.LegalMinutes.{IsLegalMachine};
-ghost use Rattle.kernel_core.specs.Runs.{IsReady, IsRefusal, posted, shut, phase_of};
-ghost use Rattle.kernel_core.specs.outcome.Phase.TheVariants.{Idle};
-ghost use Rattle.kernel_ask.specs.Answer.{IsAnswer};
-ghost use Rattle.kernel_ask.specs.CommChanges.{IsChange};
+ghost use Rattle.kernel_audit.specs.Request.{request_of};
+ghost use Rattle.kernel_audit.specs.Minutes.{posted_in};
+ghost use Rattle.kernel_audit.specs.LegalMinutes.{IsLegalMachine};
+ghost use Rattle.kernel_audit.specs.Runs.{IsReady, IsRefusal, posted, shut, phase_of};
+ghost use Rattle.kernel_audit.specs.outcome.Phase.TheVariants.{Idle};
+ghost use Rattle.kernel_audit.specs.Answer.{IsAnswer};
+ghost use Rattle.kernel_audit.specs.CommChanges.{IsChange};
 ghost use Rattle.kernel_audit.specs.Passes.{pass_of, ticket_of};
 ghost use Rattle.hall_state.specs.Turns.{IsTurn};
 ghost use Rattle.hall_state.specs.PendingResults.{IsNewPending, IsTold, SettlesLast, ends_job};
@@ -21,10 +21,11 @@ use crate::minutes::Minutes;
 use crate::passes::Passes;
 use crate::pending_result::{PendingResult, fetch, last_number, settle_last};
 use crate::turn::{Turn, turn_on};
-use kernel_ask::{Answer, Ask, CommChange, Comms, Done, HallFault, Wish, ask_on, comm_on};
-use kernel_audit::{AuditFault, Pass, Ticket, audit};
+use kernel_audit::{
+    Answer, Ask, AuditFault, CommChange, Comms, Done, HallFault, Job, Kernel, Pass, Phase,
+    PostFault, Ticket, Wish, ask_on, audit, comm_on,
+};
 use kernel_bell::{Bell, RunnerSeat};
-use kernel_core::{Job, Kernel, Phase, PostFault};
 use std::alloc::Global;
 use std::sync::ledger::{Book, Ledger, Share};
 

@@ -1,11 +1,11 @@
 //! One turn of the runner over the lent kernel.
 ghost use Rattle.std.specs.Prelude.{◌≡◌, ◌-◌, ◌^◌, ◌<◌};
-ghost use Rattle.kernel_core.specs.Minutes.{posted_in};
+ghost use Rattle.kernel_audit.specs.Minutes.{posted_in};
 ghost use Rattle.hall_state.specs.PendingResults.{ends_job};
 ghost use Rattle.hall_state.specs.Turns.{IsTurn};
 
+use kernel_audit::{Begun, Kernel, Phase, Sliced};
 use kernel_bell::{Bell, RunnerSeat};
-use kernel_core::{Begun, Kernel, Phase, Sliced};
 use std::sync::ledger::Ledger;
 
 /// What a turn was.

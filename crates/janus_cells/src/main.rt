@@ -3,10 +3,10 @@
 #![tactic(auto)]
 
 use cells_program::{
-    RunFault, program, send_run_fault, status, unread_words_status, without_output, words_status,
+    RunFault, WriteFailed, program, send_run_fault, status, unread_words_status, without_output,
+    words_status,
 };
 use clap::error::ErrorKind;
-use kernel_text::WriteFailed;
 use program_words::send_unread_words;
 use std::env;
 use std::io::{self, BufWriter};

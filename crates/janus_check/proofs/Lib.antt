@@ -13,3 +13,6 @@ pub mod DropLemmas
 pub mod SameHeads
 pub mod Found
 pub mod SlotLemmas
+pub mod Crosses
+-- Of janus_slots, given again.
+pub use Rattle.janus_slots.proofs.Stores

@@ -6,7 +6,7 @@ use Rattle.std.specs.Map.{keys_of}
 use Rattle.std.specs.Prelude.{MatchOption}
 use Rattle.std.specs.Str.{bytes_eq}
 use Rattle.indexmap.proofs.MapLemmas.{Missing-position}
-use Rattle.janus_names.proofs.Places.{numbered_there}
+use Rattle.janus_slots.proofs.Places.{numbered_there}
 use Rattle.std.specs.declared.string.String.{String}
 use Rattle.std.proofs.lemmas.Option.{slice_get_past}
 use Rattle.janus_meaning.specs.Syntax.{Name, names_of}

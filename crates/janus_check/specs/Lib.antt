@@ -6,3 +6,5 @@ pub mod WellFormed
 pub mod Checked
 pub mod Naming
 pub mod Own
+-- Of janus_slots, given again.
+pub use Rattle.janus_slots.specs.Slots

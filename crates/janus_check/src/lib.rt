@@ -11,6 +11,8 @@
 //!
 //! The rules are those of Janus (Yokoyama and Glück 2007; Yokoyama, Axelsen and Glück 2008), with this kernel's
 //! limits.
+//!
+//! It gives the slots of `janus_slots`, and the lemma on their stores, again: `janus_code` cites them.
 #![tactic(auto)]
 
 ghost use Rattle.janus_check.specs.WellFormed.{FaultsAreExact};

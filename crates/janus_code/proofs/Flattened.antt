@@ -13,7 +13,7 @@ use Rattle.janus_syntax.proofs.Views.{view_if, view_loop, view_local_int, view_l
 use Rattle.janus_code.specs.declared.code.FlatExp as flat_exp
 use Rattle.janus_meaning.specs.Syntax.{Name}
 use Rattle.janus_meaning.specs.Shape.{Shape}
-use Rattle.janus_slots.specs.Slots.{slot, exp_in, stm_in, block_in}
+use Rattle.janus_check.specs.Slots.{slot, exp_in, stm_in, block_in}
 use Rattle.janus_code.proofs.Seeing.{stm_weight, block_weight}
 use Rattle.janus_code.specs.Expressions.{exp_of}
 use Rattle.janus_code.specs.Seen.{SeesStm, SeesBlk}

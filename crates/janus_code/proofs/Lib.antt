@@ -11,3 +11,4 @@ pub mod Widths
 pub mod ClosedLemmas
 pub mod GoesOn
 pub mod OnePrint
+pub mod Crosses

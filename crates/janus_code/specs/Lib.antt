@@ -11,3 +11,5 @@ pub mod Grown
 pub mod Fault
 pub mod Closed
 pub mod ProcedureTrees
+-- Of janus_syntax, given again.
+pub use Rattle.janus_syntax.specs.View

@@ -4,7 +4,7 @@ ghost use Rattle.std.specs.Prelude.{◌≡◌, ◌<◌, ◌≤◌, ◌^◌, List
 ghost use Rattle.janus_names.specs.Numbers.{IsMet};
 ghost use Rattle.janus_meaning.specs.Syntax.{Name as MeaningName, names_of};
 ghost use Rattle.janus_meaning.specs.Formed.{IsExp};
-ghost use Rattle.janus_slots.specs.Slots.{slot, slot_in, slots_in, exp_in, number_in};
+ghost use Rattle.janus_check.specs.Slots.{slot, slot_in, slots_in, exp_in, number_in};
 ghost use Rattle.janus_syntax.specs.Tree.{names_view};
 ghost use Rattle.janus_syntax.specs.View.{name_of, text_of, exp_of as plain};
 ghost use Rattle.janus_check.specs.Sight.{in_sight, IsSeen};

@@ -4,7 +4,7 @@ ghost use Rattle.std.specs.Prelude.{◌≡◌, ◌<◌, ◌≤◌, ◌^◌, List
 ghost use Rattle.janus_check.specs.Checked.{cell_in};
 ghost use Rattle.janus_check.specs.Sight.{in_sight, heads_seen};
 ghost use Rattle.janus_syntax.specs.View.{stm_of, block_of, plain_cell};
-ghost use Rattle.janus_slots.specs.Slots.{slot, stm_in, block_in};
+ghost use Rattle.janus_check.specs.Slots.{slot, stm_in, block_in};
 ghost use Rattle.janus_code.specs.Flat.{IsBelow, BlocksAreBelow, AreBelow, AreBelow-prop, built, ahead, tree_at, block_at};
 ghost use Rattle.janus_code.specs.CodeBlock.{code_block};
 ghost use Rattle.janus_code.specs.Grown.{Grows};

@@ -9,6 +9,8 @@
 //! self-interpreter": `+=` and `-=` exchange, `^=` stays; an `if` exchanges its test and its assertion, a loop its entry and its
 //! exit, and their blocks stay where they are, each inverted; `skip` and a swap stay; `push` and `pop`, `call` and `uncall` exchange, a
 //! local exchanges its two expressions; a block is reversed with each of its statements inverted.
+//!
+//! It gives again what the layers above cite with flat code: how trees are read (`View` of `janus_syntax`), and `Kind` of `janus_check`.
 #![tactic(auto)]
 
 ghost use Rattle.janus_code.specs.Cells.{InverseCellTwice};
@@ -32,6 +34,7 @@ pub use crate::fault::InvertFault;
 pub use crate::flat::flatten;
 pub use crate::inverse::{invert, opposite};
 pub use crate::procedure::flatten_procedure;
+pub use janus_check::Kind;
 
 /// A law about the definitions of `specs/`: the inverse of a cell's inverse is the cell. It does nothing.
 pub fn inverse_cell_twice_law()

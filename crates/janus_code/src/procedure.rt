@@ -5,7 +5,7 @@ ghost use Rattle.janus_meaning.specs.Syntax.{Name};
 ghost use Rattle.janus_meaning.specs.Formed.{IsProc};
 ghost use Rattle.janus_syntax.specs.Tree.{parameters_view, procedure_view};
 ghost use Rattle.janus_syntax.specs.View.{plain_parameter, plain_procedure};
-ghost use Rattle.janus_slots.specs.Slots.{stacked, procedure_in};
+ghost use Rattle.janus_check.specs.Slots.{stacked, procedure_in};
 ghost use Rattle.janus_check.specs.Sight.{heads_seen};
 ghost use Rattle.janus_code.specs.Procedures.{params_of, proc_of, ParametersHaveNumbers, ProcedureHasNumbers};
 ghost use Rattle.janus_code.specs.Slotted.{AreSlots, HasEntries, all_slots, slots_from};

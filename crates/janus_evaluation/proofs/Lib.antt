@@ -5,3 +5,5 @@ pub mod Sizes
 pub mod Swaps
 pub mod Transfers
 pub mod Values
+-- Of janus_store, given again.
+pub use Rattle.janus_store.proofs.WritesAlone

@@ -5,6 +5,8 @@
 //! its two variables alone, and each of them nothing at a fault. Numbers have 32 bits
 //! in two's complement; operators are those of Janus (Yokoyama, Axelsen and Glück 2008), division truncates towards zero as
 //! in C.
+//!
+//! It gives again what `janus_flat` cites of the store that it works on: `Values` and `Stores` of `janus_store`.
 #![tactic(auto)]
 
 mod assignment;

@@ -5,3 +5,4 @@ pub mod Linked
 pub mod Open
 pub mod Ends
 pub mod Fetched
+pub mod Crosses

@@ -23,3 +23,4 @@ pub mod Leaping
 pub mod Paths
 pub mod Over
 pub mod Walking
+pub mod Crosses

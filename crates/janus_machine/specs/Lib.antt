@@ -1,5 +1,4 @@
 pub mod BlocksOver
-pub mod Faults
 pub mod Statements
 pub mod Acts
 pub mod Places
@@ -17,3 +16,6 @@ pub mod Open
 pub mod Calls
 pub mod Steps
 pub mod Law
+-- Of janus_linear, given again.
+pub use Rattle.janus_linear.specs.Open as LinearOpen
+pub use Rattle.janus_linear.specs.Within

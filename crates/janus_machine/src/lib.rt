@@ -27,13 +27,15 @@
 //! - `Cursor`, `Counts`, `Places`, `Nested`, `Cursors`: a cursor's fields and its count, and which place of the meaning it is.
 //! - `Mirrored`, `Turns`: the other code, and what turning a cursor round does. `Open`: which locals stand in the store at a cursor.
 //! - `Moved`, `Calls`, `Steps`, `Law`: a step within a row, a call's steps, steps and slices, and the laws.
+//!
+//! It gives again what runners cite with it: `Store` and `Writes` of `janus_store`, `Fault` and the limit on steps of `janus_meaning`, `FrameNames`, and
+//! `Open` and `Within` of `janus_linear`.
 #![tactic(auto)]
 
 mod act;
 mod book;
 mod call;
 mod cursor;
-mod fault;
 mod laid_rows;
 pub mod laws;
 mod linked_procedure;
@@ -47,9 +49,10 @@ mod statement;
 
 pub use crate::book::Book;
 pub use crate::cursor::Cursor;
-pub use crate::fault::Fault;
 pub use crate::linked_procedure::LinkedProcedure;
 pub use crate::machine::{End, Sliced, Stepped, slice, step};
 pub use crate::procedures::Procedures;
+pub use janus_meaning::Fault;
 pub use janus_meaning::limit::STEP_LIMIT;
+pub use janus_rows::FrameNames;
 pub use janus_store::{Store, Writes};

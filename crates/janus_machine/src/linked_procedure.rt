@@ -7,9 +7,8 @@ ghost use Rattle.janus_machine.specs.Bodies.{numbers_of};
 ghost use Rattle.janus_machine.specs.LinkedProcedure.{name_number_of, parameters_of, body_of};
 
 use crate::book::Book;
-use janus_check::Kind;
-use janus_code::FlatParameter;
-use janus_laying::FrameNames;
+use janus_code::{FlatParameter, Kind};
+use janus_rows::FrameNames;
 use std::alloc::{AllocError, Global};
 
 /// The numbers of a procedure's name and of its parameters' names, and its body both ways.

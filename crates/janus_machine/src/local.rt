@@ -5,13 +5,13 @@ ghost use Rattle.janus_meaning.specs.Fault.{Bad, Broken};
 ghost use Rattle.janus_evaluation.specs.Locals.{KeepsNames};
 ghost use Rattle.janus_code.specs.Numbered.{StatementHasNumbers};
 ghost use Rattle.janus_store.specs.StoreState.{HasLocal, HasLocalRoom, live_stacks};
-ghost use Rattle.janus_machine.specs.Faults.{IsDone};
+ghost use Rattle.janus_meaning.specs.Faults.{IsDone};
 ghost use Rattle.janus_machine.specs.Statements.{opened_of, closed_of};
 
-use crate::fault::Fault;
 use crate::statement::done;
 use janus_code::Statement;
 use janus_evaluation::{close_number, close_stack, open_number, open_stack};
+use janus_meaning::Fault;
 use janus_store::Store;
 use std::sync::ledger::Ledger;
 

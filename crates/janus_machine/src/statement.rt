@@ -7,12 +7,12 @@ ghost use Rattle.janus_evaluation.specs.Results.{IsDone as IsAssigned, IsCounted
 ghost use Rattle.janus_code.specs.Numbered.{StatementHasNumbers};
 ghost use Rattle.janus_store.specs.StoreState.{values_lent};
 ghost use Rattle.janus_evaluation.specs.Locals.{KeepsNames};
-ghost use Rattle.janus_machine.specs.Faults.{IsDone};
+ghost use Rattle.janus_meaning.specs.Faults.{IsDone};
 ghost use Rattle.janus_machine.specs.Statements.{run_of};
 
-use crate::fault::Fault;
 use janus_code::Statement;
 use janus_evaluation::{ValueFault, assign, assign_element, pop, push, swap};
+use janus_meaning::Fault;
 use janus_store::{Store, Writes};
 use std::sync::ledger::Ledger;
 

@@ -9,3 +9,5 @@ pub mod Named
 pub mod Steps
 pub mod Shown
 pub mod Laws
+-- Of janus_names, given again.
+pub use Rattle.janus_names.proofs.Places

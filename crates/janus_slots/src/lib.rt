@@ -5,6 +5,8 @@
 //! contracts are the laws of that: a block with slots takes the same steps as the block with names, through the same places, with
 //! the same values, ends after as many steps, and stops for the same faults. So what runs slots alone, and never compares a name,
 //! runs Janus as it is meant.
+//!
+//! It gives the lemma on places of `janus_names` again, which `janus_check` cites.
 #![tactic(auto)]
 
 ghost use Rattle.janus_slots.specs.Law.{StepsAreTheSame, RunsAreTheSame, SlotsStay};

@@ -32,3 +32,4 @@ pub mod Owned
 pub mod Apart
 pub mod NameStack
 pub mod Beside
+pub mod Crosses

@@ -41,3 +41,4 @@ pub mod Steps
 pub mod SoFar
 pub mod Chains
 pub mod Operands
+pub mod Crosses

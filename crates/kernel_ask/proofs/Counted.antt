@@ -6,8 +6,8 @@ use Rattle.std.proofs.lemmas.List.{append-nil, append_assoc, length-append, leng
 use Rattle.std.proofs.lemmas.List.Elements.{filter-append}
 use Rattle.std.proofs.Math.Seq.{drop-nil}
 use Rattle.std.proofs.lemmas.Bool.{le-leb, lt-leb}
-use Rattle.kernel_core.specs.Written.{entry_of}
-use Rattle.kernel_core.specs.declared.minutes.Entry.{Entry}
+use Rattle.kernel_text.specs.Written.{entry_of}
+use Rattle.kernel_text.specs.minutes.Entry.{Entry}
 use Rattle.kernel_ask.specs.History.{texts_in, numbered, is_within}
 
 -- the texts of the counted cells among the entries

@@ -13,3 +13,11 @@ pub mod Numbers
 pub mod Rows
 pub mod SameNames
 pub mod ShownTexts
+pub mod Crosses
+-- Of kernel_core, given again.
+pub use Rattle.kernel_text.proofs.CoreCrosses
+pub use Rattle.kernel_text.proofs.Posts
+-- Of kernel_machine, given again.
+pub use Rattle.kernel_text.proofs.MachineCrosses
+-- Of kernel_text, given again.
+pub use Rattle.kernel_text.proofs.NameSets

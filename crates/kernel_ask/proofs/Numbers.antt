@@ -4,12 +4,12 @@ use Rattle.std.proofs.Common.{inl, inr, Contains}
 use Rattle.std.specs.List.{flat_map}
 use Rattle.std.proofs.lemmas.Bool.{cases_lt}
 use Rattle.std.proofs.lemmas.List.{length-append, append_assoc}
-use Rattle.kernel_core.specs.Request.{Request, RunCell, Undo, Redo, Goto, raised}
-use Rattle.kernel_core.specs.Minutes.{Entry, Posted, Ended, Post, posts_of, posted_in}
-use Rattle.kernel_core.specs.Runs.{Machine}
-use Rattle.kernel_core.specs.LegalMinutes.{HasLegalMinutes}
-use Rattle.kernel_core.specs.Counters.{counted_to}
-use Rattle.kernel_core.proofs.Counting.{counted_is_next, counted_rises, counter_is_of_begun, ends_within_counter}
+use Rattle.kernel_text.specs.Request.{Request, RunCell, Undo, Redo, Goto, raised}
+use Rattle.kernel_text.specs.Minutes.{Entry, Posted, Ended, Post, posts_of, posted_in}
+use Rattle.kernel_text.specs.Runs.{Machine}
+use Rattle.kernel_text.specs.LegalMinutes.{HasLegalMinutes}
+use Rattle.kernel_text.specs.Counters.{counted_to}
+use Rattle.kernel_text.proofs.Counting.{counted_is_next, counted_rises, counter_is_of_begun, ends_within_counter}
 use Rattle.kernel_ask.specs.History.{texts_of, texts_in, numbered, inputs, CountedEndsAreInputs, IsBegunCell, InputsAreBegunCells}
 use Rattle.kernel_text.proofs.NameSets.{contains_first, contains_later, contains_none, contains_cases}
 use Rattle.kernel_ask.proofs.Walk.{text_counted}

@@ -5,7 +5,7 @@ use Rattle.janus_meaning.specs.Syntax.{Name}
 use Rattle.janus_syntax.specs.Tree.{procedure_view}
 use Rattle.janus_syntax.specs.View.{plain_procedure}
 use Rattle.janus_syntax.specs.declared.tree.Procedure.{Procedure}
-use Rattle.kernel_core.specs.Defined.{in_a_row}
+use Rattle.kernel_text.specs.Defined.{in_a_row}
 use Rattle.kernel_text.specs.Procedures.{procedure_names}
 
 pub names_more : (all : List (Bor Procedure)) (i : ℕ) (b : Bor Procedure) → i < length all → get_or all i b ≡ b →

@@ -10,8 +10,8 @@ use Rattle.janus_syntax.specs.View.{plain_cell}
 use Rattle.janus_syntax.proofs.TextLaws.{one_tree}
 use Rattle.janus_check.specs.Naming.{in_cell}
 use Rattle.kernel_text.specs.ValueTexts.{value_text}
-use Rattle.kernel_core.specs.State.{Past, world_at}
-use Rattle.kernel_core.specs.NodeTrees.{HasNoTree}
+use Rattle.kernel_text.specs.State.{Past, world_at}
+use Rattle.kernel_text.specs.NodeTrees.{HasNoTree}
 use Rattle.kernel_ask.specs.Shown.{parted, shown_text, ShownIsOfText}
 use Rattle.kernel_ask.proofs.SameNames.{same_names}
 

@@ -7,17 +7,17 @@ use Rattle.std.specs.Prelude.{if◌then◌else◌}
 use Rattle.std.proofs.lemmas.Grind.{flat_map-append}
 use Rattle.std.proofs.lemmas.List.{append-nil, append_assoc, length-append, length-take, map-append, take_all, take-append-le, drop_all, drop-append-le}
 use Rattle.std.proofs.lemmas.List.{reverse-append}
-use Rattle.kernel_core.specs.Request.{Request, RunCell, Undo, Redo, Goto, is_counted, raised}
-use Rattle.kernel_core.specs.Minutes.{Entry, Posted, Ended, Post, posts_of, posted_in, ended_in}
-use Rattle.kernel_core.specs.Runs.{Machine}
-use Rattle.kernel_core.specs.LegalMinutes.{Account, new_account, EndsFirst, Give, HasLegalMinutes}
-use Rattle.kernel_core.specs.Counters.{counted_to}
-use Rattle.kernel_core.specs.Written.{entry_of}
-use Rattle.kernel_core.specs.outcome.Outcome.{Outcome}
-use Rattle.kernel_core.specs.declared.minutes.Entry.{Entry as Kept}
-use Rattle.kernel_core.proofs.Posts.{posts-append, posted-append, entry_count}
-use Rattle.kernel_core.proofs.Noted.{give_ended}
-use Rattle.kernel_core.proofs.Counting.{counted_before, counted_rises, counter_is_of_begun, account_counts}
+use Rattle.kernel_text.specs.Request.{Request, RunCell, Undo, Redo, Goto, is_counted, raised}
+use Rattle.kernel_text.specs.Minutes.{Entry, Posted, Ended, Post, posts_of, posted_in, ended_in}
+use Rattle.kernel_text.specs.Runs.{Machine}
+use Rattle.kernel_text.specs.LegalMinutes.{Account, new_account, EndsFirst, Give, HasLegalMinutes}
+use Rattle.kernel_text.specs.Counters.{counted_to}
+use Rattle.kernel_text.specs.Written.{entry_of}
+use Rattle.kernel_text.specs.outcome.Outcome.{Outcome}
+use Rattle.kernel_text.specs.minutes.Entry.{Entry as Kept}
+use Rattle.kernel_text.proofs.Posts.{posts-append, posted-append, entry_count}
+use Rattle.kernel_text.proofs.Noted.{give_ended}
+use Rattle.kernel_text.proofs.Counting.{counted_before, counted_rises, counter_is_of_begun, account_counts}
 use Rattle.kernel_ask.specs.History.{texts_of, texts_in, numbered, inputs, told}
 use Rattle.kernel_ask.specs.declared.inputs.HistoryAsk.TheVariants.{Tail}
 use Rattle.kernel_ask.specs.Tail.{AreKept, last_end, counted_in}

@@ -1,7 +1,7 @@
 -- What is answered to a frontend's question: filters of the names, the shown world and the minutes.
 use Rattle.std.specs.Prelude.{◌≡◌, ℕ, List, length, map, option_map, string_bytes}
 use Rattle.std.specs.Str.{chars}
-use Rattle.kernel_core.specs.Runs.{Machine}
+use Rattle.kernel_text.specs.Runs.{Machine}
 use Rattle.kernel_ask.specs.Comms.{is_open}
 use Rattle.kernel_ask.specs.Cursor.{word_at}
 use Rattle.kernel_ask.specs.Completion.{IsCompletion}

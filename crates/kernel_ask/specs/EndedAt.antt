@@ -1,8 +1,8 @@
 -- Where the kernel stands as a cell has run.
 use Rattle.std.specs.Prelude.{◌≡◌}
-use Rattle.kernel_core.specs.State.{Past}
-use Rattle.kernel_core.specs.outcome.Outcome.{Outcome}
-use Rattle.kernel_core.specs.outcome.Outcome.TheVariants.{Ran, Failed, Interrupted, Undid, Redid, Went, Refused}
+use Rattle.kernel_text.specs.State.{Past}
+use Rattle.kernel_text.specs.outcome.Outcome.{Outcome}
+use Rattle.kernel_text.specs.outcome.Outcome.TheVariants.{Ran, Failed, Interrupted, Undid, Redid, Went, Refused}
 
 -- after a cell that ran, at its node
 abbrev pub StandsAtEnd : Outcome → Past → Type 0

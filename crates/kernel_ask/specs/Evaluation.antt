@@ -12,11 +12,11 @@ use Rattle.janus_syntax.specs.Text.{HasExp, IsRefusalOf}
 use Rattle.janus_check.specs.Check.{exp_faults}
 use Rattle.janus_check.specs.Fault.{IsFirst}
 use Rattle.janus_check.specs.declared.fault.CheckFault.{CheckFault}
-use Rattle.janus_machine.specs.Faults.{fault_of}
-use Rattle.kernel_core.specs.outcome.Refusal.TheVariants.{Syntax, Check, HistoryFull, TooFar, NoNode, Closing, Memory}
-use Rattle.kernel_core.specs.State.{Past, world_at}
-use Rattle.kernel_core.specs.outcome.Outcome.{Outcome}
-use Rattle.kernel_core.specs.outcome.Outcome.TheVariants.{Ran, Failed, Interrupted, Undid, Redid, Went, Refused as Cancelled}
+use Rattle.janus_meaning.specs.Faults.{fault_of}
+use Rattle.kernel_text.specs.outcome.Refusal.TheVariants.{Syntax, Check, HistoryFull, TooFar, NoNode, Closing, Memory}
+use Rattle.kernel_text.specs.State.{Past, world_at}
+use Rattle.kernel_text.specs.outcome.Outcome.{Outcome}
+use Rattle.kernel_text.specs.outcome.Outcome.TheVariants.{Ran, Failed, Interrupted, Undid, Redid, Went, Refused as Cancelled}
 use Rattle.kernel_ask.specs.declared.done.ExpFault.{ExpFault}
 use Rattle.kernel_ask.specs.declared.done.ExpFault.TheVariants.{Refused, Met}
 use Rattle.kernel_ask.specs.Wishes.{WishOf}

@@ -3,11 +3,11 @@ use Rattle.std.specs.Prelude.{◌≡◌, ◌↔◌, ℕ, ℤ, pos, ◌+◌, ◌-
 use Rattle.std.specs.Prelude.{suc, Option, Some, None, string_bytes, if◌then◌else◌}
 use Rattle.std.specs.Ordering.{int_eq}
 use Rattle.std.specs.List.{filter, flat_map, Contains}
-use Rattle.kernel_core.specs.Request.{Request, RunCell, Undo, Redo, Goto}
-use Rattle.kernel_core.specs.Minutes.{Entry, Posted, Ended, posts_of, posted_in, IsNumberOf}
-use Rattle.kernel_core.specs.Runs.{Machine}
-use Rattle.kernel_core.specs.LegalMinutes.{HasLegalMinutes}
-use Rattle.kernel_core.specs.Counters.{counted_to, HasEnd}
+use Rattle.kernel_text.specs.Request.{Request, RunCell, Undo, Redo, Goto}
+use Rattle.kernel_text.specs.Minutes.{Entry, Posted, Ended, posts_of, posted_in, IsNumberOf}
+use Rattle.kernel_text.specs.Runs.{Machine}
+use Rattle.kernel_text.specs.LegalMinutes.{HasLegalMinutes}
+use Rattle.kernel_text.specs.Counters.{counted_to, HasEnd}
 use Rattle.kernel_ask.specs.declared.inputs.Input.{Input}
 use Rattle.kernel_ask.specs.declared.inputs.HistoryAsk.{HistoryAsk}
 use Rattle.kernel_ask.specs.declared.inputs.HistoryAsk.TheVariants.{Range, Tail}

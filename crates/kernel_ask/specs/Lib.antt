@@ -18,3 +18,19 @@ pub mod CommChanges
 pub mod State
 pub mod Answer
 pub mod Shown
+-- Of kernel_core, given again.
+pub use Rattle.kernel_text.specs.Runs
+pub use Rattle.kernel_text.specs.LegalMinutes
+pub use Rattle.kernel_text.specs.post
+pub use Rattle.kernel_text.specs.Request
+pub use Rattle.kernel_text.specs.Written
+pub use Rattle.kernel_text.specs.MachineCode
+pub use Rattle.kernel_text.specs.State as CoreState
+pub use Rattle.kernel_text.specs.Minutes
+pub use Rattle.kernel_text.specs.outcome
+pub use Rattle.kernel_text.specs.minutes
+pub use Rattle.kernel_text.specs.Refusal
+pub use Rattle.kernel_text.specs.PostFault
+-- Of kernel_text, given again.
+pub use Rattle.kernel_text.specs.NameSets
+pub use Rattle.kernel_text.specs.Lines as TextLines

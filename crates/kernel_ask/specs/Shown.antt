@@ -6,10 +6,10 @@ use Rattle.janus_meaning.specs.World.{listed}
 use Rattle.janus_syntax.specs.Tree.{Cell}
 use Rattle.janus_syntax.specs.Text.{HasTree}
 use Rattle.janus_syntax.specs.View.{plain_cell}
-use Rattle.kernel_core.specs.State.{Past, node_at, world_at}
-use Rattle.kernel_core.specs.NodeTrees.{IsTreeAt, HasNoTree}
-use Rattle.kernel_core.specs.outcome.Outcome.{Outcome}
-use Rattle.kernel_core.specs.outcome.Outcome.TheVariants.{Ran, Failed, Interrupted, Undid, Redid, Went, Refused}
+use Rattle.kernel_text.specs.State.{Past, node_at, world_at}
+use Rattle.kernel_text.specs.NodeTrees.{IsTreeAt, HasNoTree}
+use Rattle.kernel_text.specs.outcome.Outcome.{Outcome}
+use Rattle.kernel_text.specs.outcome.Outcome.TheVariants.{Ran, Failed, Interrupted, Undid, Redid, Went, Refused}
 use Rattle.janus_check.specs.Naming.{in_cell}
 use Rattle.kernel_text.specs.ValueTexts.{value_text}
 

@@ -1,9 +1,9 @@
 -- The state of a kernel, as it is told.
 use Rattle.std.specs.Prelude.{◌≡◌, Bool, true, false, map, string_bytes}
 use Rattle.janus_meaning.specs.World.{World, listed}
-use Rattle.kernel_core.specs.State.{Job, Idle, Border, Inside, Shown}
-use Rattle.kernel_core.specs.Runs.{Machine}
-use Rattle.kernel_core.specs.Extent.{IsExtent}
+use Rattle.kernel_text.specs.State.{Job, Idle, Border, Inside, Shown}
+use Rattle.kernel_text.specs.Runs.{Machine}
+use Rattle.kernel_text.specs.Extent.{IsExtent}
 use Rattle.kernel_text.specs.ValueTexts.{value_text}
 use Rattle.kernel_ask.specs.declared.answer.KernelState.{KernelState}
 

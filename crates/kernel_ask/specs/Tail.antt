@@ -1,9 +1,9 @@
 -- The code's own words: the walk from the end of the minutes to the last inputs.
 use Rattle.std.specs.Prelude.{◌≡◌, ℕ, List, [], ◌∷◌, length}
 use Rattle.std.specs.List.{flat_map}
-use Rattle.kernel_core.specs.Minutes.{Entry, Posted, Ended}
-use Rattle.kernel_core.specs.Runs.{Machine}
-use Rattle.kernel_core.specs.LegalMinutes.{HasLegalMinutes}
+use Rattle.kernel_text.specs.Minutes.{Entry, Posted, Ended}
+use Rattle.kernel_text.specs.Runs.{Machine}
+use Rattle.kernel_text.specs.LegalMinutes.{HasLegalMinutes}
 use Rattle.kernel_ask.specs.History.{texts_in}
 
 -- they are the minutes and the counter of a kernel

@@ -1,9 +1,9 @@
 //! The answers over a lent kernel. None of them changes it.
 ghost use Rattle.std.specs.Prelude.{◌≡◌, ℕ, List, length, map, string_bytes, option_map, IfOk, IfErr};
-ghost use Rattle.kernel_core.specs.Runs.{Machine};
+ghost use Rattle.kernel_text.specs.Runs.{Machine};
 ghost use Rattle.kernel_ask.specs.declared.answer.Ask.TheVariants.{IsComplete};
 ghost use Rattle.std.specs.Str.{chars};
-ghost use Rattle.kernel_core.specs.State.{Idle, here};
+ghost use Rattle.kernel_text.specs.State.{Idle, here};
 ghost use Rattle.kernel_ask.specs.Cursor.{word_at};
 ghost use Rattle.kernel_ask.specs.Completion.{IsCompletion};
 ghost use Rattle.kernel_ask.specs.Inspection.{inspection};
@@ -26,7 +26,7 @@ use crate::judgement::is_complete;
 use crate::shown::shown_of;
 use crate::standing::state;
 use janus_syntax::parse_exp;
-use kernel_core::{Kernel, Outcome};
+use kernel_text::{Kernel, Outcome};
 use std::alloc::{AllocError, Global};
 use std::sync::ledger::Ledger;
 

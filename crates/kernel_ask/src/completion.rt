@@ -3,7 +3,7 @@ ghost use Rattle.std.specs.Prelude.{IfOk};
 ghost use Rattle.std.specs.Str.{chars};
 ghost use Rattle.kernel_ask.specs.Completion.{IsCompletion};
 ghost use Rattle.janus_store.specs.StoreState.{shown_store};
-ghost use Rattle.kernel_core.specs.Defined.{in_a_row};
+ghost use Rattle.kernel_text.specs.Defined.{in_a_row};
 
 use crate::answer::Completion;
 use crate::cursor::prefix_at;

@@ -1,5 +1,5 @@
 //! What is told of a job that ended.
-use kernel_core::{Fault, Outcome, Refusal};
+use kernel_text::{Fault, Outcome, Refusal};
 
 /// Why an expression has no value.
 #[derive(Clone, Copy, Debug)]

@@ -1,12 +1,12 @@
 //! The input history.
 ghost use Rattle.std.specs.Prelude.{◌≡◌, map, IfOk};
-ghost use Rattle.kernel_core.specs.Written.{entry_of};
+ghost use Rattle.kernel_text.specs.Written.{entry_of};
 ghost use Rattle.kernel_ask.specs.History.{inputs, is_present as is_present_of, told, input_of};
 ghost use Rattle.kernel_ask.specs.Tail.{AreKept};
 
 use crate::inputs::{HistoryAsk, Input, range};
 use crate::tail::tail;
-use kernel_core::Entry;
+use kernel_text::Entry;
 use std::alloc::{AllocError, Global};
 
 /// Whether the session is the present one.

@@ -2,10 +2,10 @@
 ghost use Rattle.std.specs.Prelude.{◌≡◌, ◌++◌, ◌+◌, ◌<◌, ◌^◌, [], ◌∷◌, None, length, map, IfOk, OnOk};
 ghost use Rattle.std.specs.List.{filter};
 ghost use Rattle.std.specs.Option.{MatchOption};
-ghost use Rattle.kernel_core.specs.Written.{entry_of};
+ghost use Rattle.kernel_text.specs.Written.{entry_of};
 ghost use Rattle.kernel_ask.specs.History.{texts_in, inputs, is_within as is_within_of, input_of};
 
-use kernel_core::{Entry, Job};
+use kernel_text::{Entry, Job};
 use std::alloc::{AllocError, Global};
 
 /// A cell of the history: the number under which it was counted, from 1 on, and its text.

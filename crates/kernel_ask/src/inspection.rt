@@ -4,7 +4,7 @@ ghost use Rattle.std.specs.Str.{chars};
 ghost use Rattle.janus_meaning.specs.Store.{look, find};
 ghost use Rattle.kernel_ask.specs.Cursor.{word_at as word_at_of};
 ghost use Rattle.kernel_ask.specs.Inspection.{value_told, procedure_told, both_told, inspection};
-ghost use Rattle.kernel_core.specs.Defined.{in_a_row};
+ghost use Rattle.kernel_text.specs.Defined.{in_a_row};
 ghost use Rattle.janus_store.specs.StoreState.{shown_store};
 
 use crate::cursor::word_at;

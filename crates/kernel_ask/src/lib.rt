@@ -10,6 +10,8 @@
 //! In reading order: `answer` (questions and answers), `ask` (the answers over a lent kernel), and each of them: `cursor`, `matches` and
 //! `completion`, `inspection`, `judgement`, `inputs`, `tail` and `input_history`, `standing` (the state). Then what is told of a job that ended:
 //! `done`, `shown`, `wish` and `evaluation`, `lines`. `comms` and `comm_change` are the open comms, `limit` what several crates test, `laws` the laws.
+//!
+//! It gives again what the layers above cite of `kernel_text` and of `kernel_core`, so that they name this crate alone.
 #![tactic(auto)]
 
 mod answer;
@@ -44,4 +46,8 @@ pub use crate::limit::COMM_LIMIT;
 pub use crate::lines::exp_fault_line;
 pub use crate::standing::{is_settled, stands_at_end, state};
 pub use crate::wish::Wish;
-pub use kernel_text::{SHOWN_VALUES, outcome_line, post_fault_line, value_text};
+pub use kernel_text::{
+    Begun, CellText, CheckFault, Entry, Fault, Job, Kernel, Outcome, Phase, PostFault, Refusal,
+    SHOWN_VALUES, STEPS_OF_A_SLICE, Sliced, SyntaxFault, TravelEnd, outcome_line, post_fault_line,
+    procedure_text, value_text,
+};

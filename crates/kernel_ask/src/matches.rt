@@ -8,7 +8,7 @@ ghost use Rattle.kernel_text.specs.NameSets.{with_name};
 ghost use Rattle.kernel_ask.specs.Added.{with_match, with_matches};
 ghost use Rattle.kernel_text.specs.Procedures.{procedure_names};
 ghost use Rattle.kernel_ask.specs.Matches.{names_of, AreMatches};
-ghost use Rattle.kernel_core.specs.Defined.{in_a_row};
+ghost use Rattle.kernel_text.specs.Defined.{in_a_row};
 ghost use Rattle.janus_store.specs.StoreState.{shown_store};
 
 use janus_store::Store;

@@ -1,7 +1,7 @@
 //! The state of a kernel.
 ghost use Rattle.std.specs.Prelude.{◌≡◌, ◌↔◌, IsTrue, true, not, map, string_bytes, IfOk};
 ghost use Rattle.janus_meaning.specs.World.{listed};
-ghost use Rattle.kernel_core.specs.State.{Idle};
+ghost use Rattle.kernel_text.specs.State.{Idle};
 ghost use Rattle.kernel_text.specs.ValueTexts.{value_text as value_text_of};
 ghost use Rattle.kernel_ask.specs.EndedAt.{StandsAtEnd};
 ghost use Rattle.kernel_ask.specs.State.{is_busy as is_busy_of, IsState};
@@ -9,8 +9,7 @@ ghost use Rattle.janus_store.specs.StoreState.{shown_store};
 
 use crate::answer::KernelState;
 use janus_store::Store;
-use kernel_core::{Kernel, Outcome, Phase};
-use kernel_text::value_text;
+use kernel_text::{Kernel, Outcome, Phase, value_text};
 use std::alloc::{AllocError, Global};
 use std::sync::ledger::Ledger;
 

@@ -1,14 +1,14 @@
 //! The last inputs. They are found from the end of the minutes, which are read no further back than the tail and what waits in front of
 //! it.
 ghost use Rattle.std.specs.Prelude.{◌≡◌, ◌≤◌, ◌+◌, ◌-◌, map, drop, reverse, IfOk};
-ghost use Rattle.kernel_core.specs.Minutes.{posts_of, posted_in};
-ghost use Rattle.kernel_core.specs.Counters.{counted_to};
-ghost use Rattle.kernel_core.specs.Written.{entry_of};
+ghost use Rattle.kernel_text.specs.Minutes.{posts_of, posted_in};
+ghost use Rattle.kernel_text.specs.Counters.{counted_to};
+ghost use Rattle.kernel_text.specs.Written.{entry_of};
 ghost use Rattle.kernel_ask.specs.History.{inputs, input_of};
 ghost use Rattle.kernel_ask.specs.Tail.{AreKept, last_end as last_end_of, counted_in};
 
 use crate::inputs::{Input, add, counted_code};
-use kernel_core::Entry;
+use kernel_text::Entry;
 use std::alloc::{AllocError, Global};
 
 /// The number of the last job that has ended and its counter, or zeros where none has.

@@ -1,6 +1,6 @@
 //! User expressions, each of which is read from its text once.
 ghost use Rattle.std.specs.Prelude.{◌≡◌, string_bytes};
-ghost use Rattle.kernel_core.specs.State.{Idle, here};
+ghost use Rattle.kernel_text.specs.State.{Idle, here};
 ghost use Rattle.kernel_ask.specs.Evaluation.{IsEvaluated};
 ghost use Rattle.kernel_ask.specs.Wishes.{wish_of};
 
@@ -8,7 +8,7 @@ use crate::done::NamedValue;
 use crate::evaluation::evaluation_of;
 use janus_syntax::tree::Exp;
 use janus_syntax::{SyntaxFault, parse_exp};
-use kernel_core::Kernel;
+use kernel_text::Kernel;
 use std::alloc::Global;
 use std::marker::Model;
 use std::sync::ledger::Ledger;

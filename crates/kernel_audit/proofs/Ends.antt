@@ -1,8 +1,8 @@
 -- The ends of jobs in the minutes, as they are told.
 use Rattle.std.proofs.Common.{◌≡◌, ℕ, List, [], ◌∷◌, map, zero, suc, ap, subst, slice_get, Some}
-use Rattle.kernel_core.specs.declared.minutes.Entry.{Entry}
-use Rattle.kernel_core.specs.Minutes as minutes
-use Rattle.kernel_core.specs.Written.{entry_of}
+use Rattle.kernel_ask.specs.minutes.Entry.{Entry}
+use Rattle.kernel_ask.specs.Minutes as minutes
+use Rattle.kernel_ask.specs.Written.{entry_of}
 
 -- what stands at a place of the minutes is told of that place
 pub told_there : (entries : List Entry) (at : ℕ) (e : Entry) → slice_get entries at ≡ Some e → slice_get (map entry_of entries) at ≡ Some (entry_of e)

@@ -1,10 +1,10 @@
 -- In legal minutes each end has the number that it has among the ends.
 use Rattle.std.proofs.Common.{◌≡◌, ℕ, ◌+◌, List, [], ◌∷◌, ap, arith, slice_get, subst, suc, Some, take, zero}
-use Rattle.kernel_core.specs.Request.{Request}
-use Rattle.kernel_core.specs.Minutes.{Entry, Posted, Ended, ended_in}
-use Rattle.kernel_core.specs.Runs.{Machine}
-use Rattle.kernel_core.specs.LegalMinutes.{Account, new_account, EndsFirst, Tells, Give, HasLegalMinutes}
-use Rattle.kernel_core.specs.outcome.Outcome.{Outcome}
+use Rattle.kernel_ask.specs.Request.{Request}
+use Rattle.kernel_ask.specs.Minutes.{Entry, Posted, Ended, ended_in}
+use Rattle.kernel_ask.specs.Runs.{Machine}
+use Rattle.kernel_ask.specs.LegalMinutes.{Account, new_account, EndsFirst, Tells, Give, HasLegalMinutes}
+use Rattle.kernel_ask.specs.outcome.Outcome.{Outcome}
 use Rattle.kernel_audit.specs.Marks.{EndsInOrder}
 
 one_end : (a : Account) (waiting : List Request) (number : ℕ) (o : Outcome) (count node : ℕ) (b : Account) → EndsFirst a waiting number o count node b →

@@ -3,13 +3,13 @@ use Rattle.std.proofs.Common.{◌≡◌, ℕ, true, List, [], ◌∷◌, ◌++�
 use Rattle.std.proofs.Common.{IsTrue, ◌↔◌}
 use Rattle.std.proofs.Common.{◌==◌}
 use Rattle.std.proofs.lemmas.Bool.Decides.{nat_tests}
-use Rattle.kernel_core.specs.declared.minutes.Entry.{Entry}
-use Rattle.kernel_core.specs.declared.minutes.Entry.TheVariants.{Posted, Ended}
-use Rattle.kernel_core.specs.outcome.Outcome.{Outcome}
-use Rattle.kernel_core.specs.Request.{Request, request_of}
-use Rattle.kernel_core.specs.Minutes as minutes
-use Rattle.kernel_core.specs.Minutes.{Post, posts_of, ended_in, IsNumberOf}
-use Rattle.kernel_core.specs.Written.{entry_of}
+use Rattle.kernel_ask.specs.minutes.Entry.{Entry}
+use Rattle.kernel_ask.specs.minutes.Entry.TheVariants.{Posted, Ended}
+use Rattle.kernel_ask.specs.outcome.Outcome.{Outcome}
+use Rattle.kernel_ask.specs.Request.{Request, request_of}
+use Rattle.kernel_ask.specs.Minutes as minutes
+use Rattle.kernel_ask.specs.Minutes.{Post, posts_of, ended_in, IsNumberOf}
+use Rattle.kernel_ask.specs.Written.{entry_of}
 use Rattle.kernel_audit.specs.declared.mark.Kind.TheVariants as kind
 use Rattle.kernel_audit.specs.Marks.{is_of, of_kind, nth_of, EndsInOrder}
 use Rattle.kernel_audit.proofs.Filtered.{filter_at, filter_from}

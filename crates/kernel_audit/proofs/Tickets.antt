@@ -8,7 +8,7 @@ use Rattle.std.proofs.lemmas.Bool.Decides.{nat_tests}
 use Rattle.std.proofs.lemmas.List.Sorted.{sum_by-IsPermutation, All-permutation, Contains-permutation, IsPermutation-sym}
 use Rattle.std.proofs.lemmas.Option.{slice_get-get_or, get_or_from_slice_get}
 use Rattle.kernel_audit.specs.declared.pass.Ticket.{Ticket}
-use Rattle.kernel_core.specs.Minutes.{Entry}
+use Rattle.kernel_ask.specs.Minutes.{Entry}
 use Rattle.kernel_ask.specs.declared.done.Done.{Done}
 use Rattle.kernel_audit.specs.Audit.{tickets_of, IsLater, IsPosted, IsNotPosted, IsNotEnded, IsSwapped, IsUntrue, AreTrue}
 use Rattle.kernel_audit.specs.Orders.{IsBefore, AreByLane}

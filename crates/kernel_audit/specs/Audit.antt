@@ -1,7 +1,7 @@
 -- What the audit at the end compares: the minutes, the passes, the tickets, and what was told of ends.
 use Rattle.std.specs.Prelude.{◌≡◌, ℕ, ◌<◌, ◌≤◌, ◌==◌, List, All, Contains, ◌⊎◌, sum_by, count_by}
-use Rattle.kernel_core.specs.Request.{request_of}
-use Rattle.kernel_core.specs.Minutes.{Entry, IsNumberOf, posted_in}
+use Rattle.kernel_ask.specs.Request.{request_of}
+use Rattle.kernel_ask.specs.Minutes.{Entry, IsNumberOf, posted_in}
 use Rattle.kernel_ask.specs.declared.done.Done.{Done}
 use Rattle.kernel_audit.specs.declared.fault.AuditFault.{AuditFault}
 use Rattle.kernel_audit.specs.declared.fault.AuditFault.TheVariants.{PassMissing, TicketUnknown}

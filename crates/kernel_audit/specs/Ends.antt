@@ -1,6 +1,6 @@
 -- The ends of jobs in the minutes, as they are told.
 use Rattle.std.specs.Prelude.{◌≡◌, ℕ, List, slice_get, Some}
-use Rattle.kernel_core.specs.Minutes.{Entry, Ended}
+use Rattle.kernel_ask.specs.Minutes.{Entry, Ended}
 use Rattle.kernel_ask.specs.declared.done.Done.{Done}
 
 -- the end of a job stands in the minutes as it is told

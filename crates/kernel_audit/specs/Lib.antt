@@ -4,3 +4,19 @@ pub mod Audit
 pub mod AuditFault
 pub mod Marks
 pub mod Orders
+-- Of kernel_ask, given again.
+pub use Rattle.kernel_ask.specs.Answer
+pub use Rattle.kernel_ask.specs.declared.answer
+pub use Rattle.kernel_ask.specs.declared.done
+pub use Rattle.kernel_ask.specs.CommChanges
+pub use Rattle.kernel_ask.specs.Wishes
+-- Of kernel_core, given again.
+pub use Rattle.kernel_ask.specs.Runs
+pub use Rattle.kernel_ask.specs.LegalMinutes
+pub use Rattle.kernel_ask.specs.post
+pub use Rattle.kernel_ask.specs.Written
+pub use Rattle.kernel_ask.specs.MachineCode
+pub use Rattle.kernel_ask.specs.CoreState as State
+pub use Rattle.kernel_ask.specs.Request
+pub use Rattle.kernel_ask.specs.Minutes
+pub use Rattle.kernel_ask.specs.outcome

@@ -1,10 +1,10 @@
 -- Where an audit stands in the minutes.
 use Rattle.std.specs.Prelude.{◌≡◌, ℕ, ◌≤◌, Bool, true, false, List, Option, None, Some, filter, take, length, slice_get, zero, suc}
-use Rattle.kernel_core.specs.Minutes as minutes
-use Rattle.kernel_core.specs.Minutes.{ended_in}
-use Rattle.kernel_core.specs.outcome.Outcome.{Outcome}
-use Rattle.kernel_core.specs.declared.minutes.Entry.{Entry}
-use Rattle.kernel_core.specs.declared.minutes.Entry.TheVariants.{Posted, Ended}
+use Rattle.kernel_ask.specs.Minutes as minutes
+use Rattle.kernel_ask.specs.Minutes.{ended_in}
+use Rattle.kernel_ask.specs.outcome.Outcome.{Outcome}
+use Rattle.kernel_ask.specs.minutes.Entry.{Entry}
+use Rattle.kernel_ask.specs.minutes.Entry.TheVariants.{Posted, Ended}
 use Rattle.kernel_audit.specs.declared.mark.Kind.{Kind}
 use Rattle.kernel_audit.specs.declared.mark.Kind.TheVariants.{Post, End}
 use Rattle.kernel_audit.specs.declared.mark.Mark.{Mark}

@@ -1,6 +1,6 @@
 -- What contracts see of a pass, and the tickets of its posts.
 use Rattle.std.specs.Prelude.{ℕ, ◌+◌}
-use Rattle.kernel_core.specs.post.Job.{Job}
+use Rattle.kernel_ask.specs.post.Job.{Job}
 use Rattle.kernel_audit.specs.declared.pass.Ticket.{Ticket}
 
 -- a frontend's lane, and how many posts it made

@@ -1,8 +1,8 @@
 //! The audit at the end: whether the minutes hold what the frontends came away with.
 ghost use Rattle.std.specs.Prelude.{◌≡◌, ◌↔◌, IsTrue, All, IfSome, IfNone, IfOk, IfErr, map};
-ghost use Rattle.kernel_core.specs.Request.{request_of};
-ghost use Rattle.kernel_core.specs.Minutes.{Posted, Ended, posted_in};
-ghost use Rattle.kernel_core.specs.Written.{entry_of};
+ghost use Rattle.kernel_ask.specs.Request.{request_of};
+ghost use Rattle.kernel_ask.specs.Minutes.{Posted, Ended, posted_in};
+ghost use Rattle.kernel_ask.specs.Written.{entry_of};
 ghost use Rattle.kernel_audit.specs.Audit.{AddsUp, IsPosted, AreTrue, IsNotPosted, IsUntrue, IsNotEnded, Audited, IsAuditFault};
 ghost use Rattle.kernel_audit.specs.Ends.{HasEnd};
 ghost use Rattle.kernel_audit.specs.Marks.{IsMark, EndsInOrder};
@@ -12,8 +12,7 @@ use crate::mark::{Kind, Mark, numbered};
 use crate::order::{by_lane, by_number, shared_number, swapped_number};
 use crate::pass::{Pass, Ticket};
 use crate::same::same_outcome;
-use kernel_ask::Done;
-use kernel_core::{Entry, Job};
+use kernel_ask::{Done, Entry, Job};
 use std::sync::ledger::Ledger;
 
 /// Compares what the frontends hold with the minutes, and sorts the tickets and the ends. It takes no memory, and goes over the minutes

@@ -3,6 +3,8 @@
 //! A frontend has a pass, which counts its posts, a ticket for each post that was taken, and what it was told of the ends of jobs. To the
 //! layer above the audit promises that it passes exactly what the minutes hold, and that what it finds missing or untrue is so. A pass
 //! holds one part of a ledger, whose book the owner of the minutes keeps, so that no pass counts a post that the book hasn't.
+//!
+//! It gives the names of `kernel_ask`, and of the kernel below it, again that the hall cites.
 #![tactic(auto)]
 
 mod comparison;
@@ -14,4 +16,9 @@ mod same;
 
 pub use comparison::audit;
 pub use fault::AuditFault;
+pub use kernel_ask::{
+    Answer, Ask, Begun, CellText, CommChange, Comms, Content, Done, Entry, HallFault, Job, Kernel,
+    NamedValue, Outcome, Phase, PostFault, Refusal, STEPS_OF_A_SLICE, Sliced, Wish, ask_on,
+    comm_on, is_settled, judge, shown_of_node, stands_at_end,
+};
 pub use pass::{Pass, Ticket};

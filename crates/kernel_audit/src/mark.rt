@@ -2,7 +2,7 @@
 ghost use Rattle.std.specs.Prelude.{◌≡◌, ◌+◌, ◌-◌, ◌<◌, IfSome, IfNone, None, Some, slice_get};
 ghost use Rattle.kernel_audit.specs.Marks.{IsMark, is_of, of_kind, nth_of};
 
-use kernel_core::Entry;
+use kernel_ask::Entry;
 
 /// The kinds of entries.
 #[derive(Clone, Copy, PartialEq, Eq)]

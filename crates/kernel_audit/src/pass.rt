@@ -2,7 +2,7 @@
 ghost use Rattle.std.specs.Prelude.{◌≡◌, ◌+◌, ◌-◌, ◌^◌, ◌<◌};
 ghost use Rattle.kernel_audit.specs.Passes.{pass_of};
 
-use kernel_core::Job;
+use kernel_ask::Job;
 use std::marker::Model;
 use std::sync::ledger::{Book, Ledger, Share};
 

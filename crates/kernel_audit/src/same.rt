@@ -3,7 +3,7 @@ ghost use Rattle.std.specs.Prelude.{◌≡◌, ◌↔◌, IsTrue};
 
 use janus_syntax::fault::What;
 use janus_syntax::token::{Keyword, Sign};
-use kernel_core::{CheckFault, Fault, Outcome, Refusal, SyntaxFault};
+use kernel_ask::{CheckFault, Fault, Outcome, Refusal, SyntaxFault};
 
 /// Whether two outcomes are the same.
 pub(crate) fn same_outcome(a: Outcome, b: Outcome) -> bool

@@ -8,3 +8,6 @@ pub use Rattle.kernel_machine.proofs.Stays
 pub use Rattle.kernel_machine.proofs.Trees
 pub mod Writing
 pub mod Taken
+pub mod Crosses
+-- Of kernel_machine, given again.
+pub use Rattle.kernel_machine.proofs.Crosses as MachineCrosses

@@ -40,7 +40,7 @@ pub use Rattle.kernel_machine.specs.declared.limit
 pub use Rattle.kernel_machine.specs.contracts.outcome as contracts_of_outcome
 pub use Rattle.kernel_machine.specs.contracts.post as contracts_of_post
 -- Procedures that are lent, and the view of the shown world; and the trees of nodes.
-pub use Rattle.kernel_loader.specs.Defined
+pub use Rattle.kernel_history.specs.Defined
 pub use Rattle.kernel_history.specs.NodeTrees
 -- The code's own words: the minutes as it writes them, and how its fields are the machine.
 pub mod Written

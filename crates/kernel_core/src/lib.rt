@@ -24,14 +24,11 @@ mod minutes;
 pub use crate::events::run_events;
 pub use crate::kernel::Kernel;
 pub use crate::minutes::Entry;
-pub use janus_check::CheckFault;
-pub use janus_machine::{Fault, STEP_LIMIT};
 pub use janus_syntax::SyntaxFault;
 pub use janus_syntax::token::Span;
-pub use kernel_history::View;
-pub use kernel_loader::names_in_sight;
+pub use kernel_history::{View, names_in_sight};
 pub use kernel_machine::{
-    Begun, CellText, Event, Extent, Job, MINUTES_LIMIT, Outcome, Phase, PostFault, QUEUE_LIMIT,
-    Refusal, STEPS_OF_A_SLICE, Sliced, Told, TravelEnd,
+    Begun, CellText, CheckFault, Event, Extent, Fault, Job, MINUTES_LIMIT, Outcome, Phase,
+    PostFault, QUEUE_LIMIT, Refusal, STEP_LIMIT, STEPS_OF_A_SLICE, Sliced, Told, TravelEnd,
 };
 pub use machine_laws::laws;

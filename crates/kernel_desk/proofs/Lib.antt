@@ -1,1 +1,4 @@
 pub mod Reading
+-- Of kernel_hall, given again.
+pub use Rattle.kernel_hall.proofs.Crosses as HallCrosses
+pub use Rattle.kernel_hall.proofs.AuditCrosses

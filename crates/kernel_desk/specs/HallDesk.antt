@@ -1,17 +1,17 @@
 -- What a desk before a hall holds, and what each call leads to. What lies under the hall's lock when a call takes it can't be named, so an answer is said to be
 -- that of some legal kernel.
 use Rattle.std.specs.Prelude.{◌≡◌, ℕ, ◌+◌, ◌≤◌, ◌<◌, Bool, true, List, [], ◌++◌, ◌⊎◌, Option, Some, None, Result, Ok, Err, length}
-use Rattle.kernel_core.specs.Runs.{Machine, IsRefusal}
-use Rattle.kernel_core.specs.LegalMinutes.{IsLegalMachine}
-use Rattle.kernel_core.specs.post.PostFault.{PostFault}
-use Rattle.kernel_ask.specs.Answer.{IsAnswer}
-use Rattle.kernel_ask.specs.declared.answer.Ask.{Ask}
-use Rattle.kernel_ask.specs.declared.answer.Answer.{Answer}
-use Rattle.kernel_ask.specs.declared.answer.HallFault.{HallFault}
-use Rattle.kernel_ask.specs.declared.answer.HallFault.TheVariants.{Memory}
-use Rattle.kernel_ask.specs.declared.done.Done.{Done}
-use Rattle.kernel_audit.specs.Ends.{HasEnd}
-use Rattle.kernel_audit.specs.Passes.{PassOf, pass_of}
+use Rattle.kernel_hall.specs.Runs.{Machine, IsRefusal}
+use Rattle.kernel_hall.specs.LegalMinutes.{IsLegalMachine}
+use Rattle.kernel_hall.specs.post.PostFault.{PostFault}
+use Rattle.kernel_hall.specs.Answer.{IsAnswer}
+use Rattle.kernel_hall.specs.answer.Ask.{Ask}
+use Rattle.kernel_hall.specs.answer.Answer.{Answer}
+use Rattle.kernel_hall.specs.answer.HallFault.{HallFault}
+use Rattle.kernel_hall.specs.answer.HallFault.TheVariants.{Memory}
+use Rattle.kernel_hall.specs.done.Done.{Done}
+use Rattle.kernel_hall.specs.Ends.{HasEnd}
+use Rattle.kernel_hall.specs.Passes.{PassOf, pass_of}
 use Rattle.kernel_bell.specs.Seats.{RingerOf, ringer_seat, IsNeverLater}
 use Rattle.kernel_bell.specs.Views.{after_look, after_raise}
 use Rattle.kernel_board.specs.Frames.{Frames}

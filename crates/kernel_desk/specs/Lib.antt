@@ -1,2 +1,4 @@
 pub mod HallDesk
 pub mod Quiet
+-- Of kernel_hall, given again.
+pub use Rattle.kernel_hall.specs.limit

@@ -1,7 +1,7 @@
 -- A desk with nothing behind it.
 use Rattle.std.specs.Prelude.{◌≡◌, [], Err}
-use Rattle.kernel_core.specs.post.PostFault.TheVariants.{Closing}
-use Rattle.kernel_ask.specs.declared.answer.HallFault.TheVariants.{Memory}
+use Rattle.kernel_hall.specs.post.PostFault.TheVariants.{Closing}
+use Rattle.kernel_hall.specs.answer.HallFault.TheVariants.{Memory}
 use Rattle.kernel_session.specs.Call.{Call, Posted, Asked, Changed, Rang, Shut, Published, Kept, Dated}
 use Rattle.kernel_desk.specs.declared.quiet.QuietDesk.{QuietDesk}
 

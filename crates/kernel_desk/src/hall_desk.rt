@@ -4,8 +4,7 @@ ghost use Rattle.kernel_desk.specs.HallDesk.{AreRead};
 
 use kernel_bell::RingerSeat;
 use kernel_board::{BROADCASTS_OF_A_READ, BoardFault, Broadcast, KEPT_BROADCASTS, Place, Read};
-use kernel_core::{Job, PostFault};
-use kernel_hall::{Answer, Ask, CommChange, Done, Hall, HallFault, Pass, Wish};
+use kernel_hall::{Answer, Ask, CommChange, Done, Hall, HallFault, Job, Pass, PostFault, Wish};
 use kernel_iopub::Bulletin;
 use kernel_message::Stamp;
 use kernel_session::Desk;

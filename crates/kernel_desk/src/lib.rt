@@ -6,10 +6,16 @@
 //! its minutes, that an answer is that kernel's. [`QuietDesk`] is the desk of connections at which nothing is asked.
 //!
 //! No contract says that a waiting thread wakes.
+//!
+//! It gives again what a place of connections needs beside a desk: the hall with its worker, and the session that is served.
 #![tactic(auto)]
 
 mod hall_desk;
 mod quiet;
 
 pub use hall_desk::HallDesk;
+pub use kernel_hall::{
+    Comms, Done, Gate, Hall, Job, Kernel, Moment, PARTS_OF_POSTS, PostFault, work,
+};
+pub use kernel_session::{Desk, Socket, serve};
 pub use quiet::QuietDesk;

@@ -1,7 +1,6 @@
 //! The desk of connections at which nothing is asked.
-use kernel_ask::{Answer, Ask, CommChange, Done, HallFault, Wish};
 use kernel_board::Broadcast;
-use kernel_core::{Job, PostFault};
+use kernel_hall::{Answer, Ask, CommChange, Done, HallFault, Job, PostFault, Wish};
 use kernel_message::Stamp;
 use kernel_session::Desk;
 use std::alloc::{AllocError, Global};

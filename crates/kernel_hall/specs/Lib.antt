@@ -2,3 +2,14 @@
 pub use Rattle.hall_state.specs.Turns
 pub use Rattle.hall_state.specs.PendingResults
 pub use Rattle.hall_state.specs.declared.limit
+-- Of kernel_audit, given again.
+pub use Rattle.hall_state.specs.Ends
+pub use Rattle.hall_state.specs.Passes
+-- Of kernel_ask, given again.
+pub use Rattle.hall_state.specs.Answer
+pub use Rattle.hall_state.specs.answer
+pub use Rattle.hall_state.specs.done
+-- Of kernel_core, given again.
+pub use Rattle.hall_state.specs.Runs
+pub use Rattle.hall_state.specs.LegalMinutes
+pub use Rattle.hall_state.specs.post

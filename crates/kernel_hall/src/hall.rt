@@ -1,22 +1,22 @@
 //! The hall that threads share.
 ghost use Rattle.std.specs.Prelude.{◌≡◌, ℕ, ◌+◌, ◌-◌, ◌^◌, ◌≤◌, ◌↔◌, ◌⊎◌, [], List, IfOk, IfErr, length};
-ghost use Rattle.kernel_core.specs.Runs.{Machine, IsRefusal};
-ghost use Rattle.kernel_core.specs.LegalMinutes.{IsLegalMachine};
-ghost use Rattle.kernel_ask.specs.Answer.{IsAnswer};
-ghost use Rattle.kernel_audit.specs.Passes.{pass_of, ticket_of};
+ghost use Rattle.hall_state.specs.Runs.{Machine, IsRefusal};
+ghost use Rattle.hall_state.specs.LegalMinutes.{IsLegalMachine};
+ghost use Rattle.hall_state.specs.Answer.{IsAnswer};
+ghost use Rattle.hall_state.specs.Passes.{pass_of, ticket_of};
 ghost use Rattle.hall_state.specs.Turns.{IsTurn};
 ghost use Rattle.hall_state.specs.declared.limit.TheConstants.{PASSES, PARTS_OF_POSTS};
-ghost use Rattle.kernel_audit.specs.Ends.{HasEnd};
-ghost use Rattle.kernel_audit.specs.Audit.{Audited, IsAuditFault};
+ghost use Rattle.hall_state.specs.Ends.{HasEnd};
+ghost use Rattle.hall_state.specs.Audit.{Audited, IsAuditFault};
 
 use crate::ends::Ends;
 use crate::entrance::Entrance;
 use crate::spin::{LOOKS_FOR_POST, watch};
-use hall_state::{Minutes, State, Turn};
-use kernel_ask::{Answer, Ask, CommChange, Comms, Done, HallFault, Wish, judge};
-use kernel_audit::{AuditFault, Pass, Ticket};
+use hall_state::{
+    Answer, Ask, AuditFault, CommChange, Comms, Done, HallFault, Job, Kernel, Minutes, Pass,
+    PostFault, State, Ticket, Turn, Wish, judge,
+};
 use kernel_bell::{Bell, RunnerSeat};
-use kernel_core::{Job, Kernel, PostFault};
 use std::alloc::Global;
 use std::marker::Model;
 use std::sync::ledger::{Blank, Ledger};

@@ -6,6 +6,8 @@
 //!
 //! `hall` has the calls and `worker` the runner's thread; `entrance` is how frontends come to the lock, `ends` where they wait for their
 //! jobs, `spin` how one watches before one sleeps.
+//!
+//! It gives again what frontends hand in and come away with: the names of `kernel_audit`, `kernel_ask` and the kernel that its calls have.
 #![tactic(auto)]
 
 mod ends;
@@ -16,9 +18,8 @@ mod worker;
 
 pub use hall::Hall;
 pub use hall_state::{
-    Minutes, PARTS_OF_POSTS, PASSES, Passes, PendingResult, State, Turn, turn_on,
+    Answer, Ask, AuditFault, Begun, CellText, CommChange, Comms, Content, Done, HallFault, Job,
+    Kernel, Minutes, Outcome, PARTS_OF_POSTS, PASSES, Pass, Passes, PendingResult, PostFault,
+    Refusal, STEPS_OF_A_SLICE, Sliced, State, Ticket, Turn, Wish, ask_on, audit, comm_on, turn_on,
 };
-pub use kernel_ask::{Answer, Ask, CommChange, Comms, Done, HallFault, Wish, ask_on, comm_on};
-pub use kernel_audit::{AuditFault, Pass, Ticket, audit};
-pub use kernel_core::STEPS_OF_A_SLICE;
 pub use worker::{Gate, Moment, work};

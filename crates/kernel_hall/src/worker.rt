@@ -2,9 +2,8 @@
 ghost use Rattle.std.specs.Prelude.{◌≡◌};
 
 use crate::hall::Hall;
-use hall_state::Turn;
+use hall_state::{Begun, STEPS_OF_A_SLICE, Sliced, Turn};
 use kernel_bell::RunnerSeat;
-use kernel_core::{Begun, STEPS_OF_A_SLICE, Sliced};
 use std::sync::Wait;
 use std::sync::ledger::Ledger;
 

@@ -8,18 +8,18 @@ use Rattle.cell_tree.specs.Tree.{contents_of}
 use Rattle.cell_tree.specs.declared.node.Node.{Node}
 use Rattle.janus_meaning.specs.Syntax.{Name, Proc}
 use Rattle.janus_slots.specs.Slots.{procedure_in, procedures_in}
-use Rattle.janus_machine.specs.Bodies.{AreBelow, AreBodiesFrom}
-use Rattle.janus_machine.specs.Procedures.{kept_in}
-use Rattle.janus_machine.specs.declared.linked_procedure.LinkedProcedure.{LinkedProcedure}
-use Rattle.janus_machine.specs.declared.procedures.Procedures.{Procedures}
-use Rattle.janus_machine.proofs.Bodies.{onto_below}
-use Rattle.janus_machine.proofs.BodiesInEffect.{bodies_from_below, bodies_from_same}
+use Rattle.kernel_loader.specs.Bodies.{AreBelow, AreBodiesFrom}
+use Rattle.kernel_loader.specs.Procedures.{kept_in}
+use Rattle.kernel_loader.specs.linked_procedure.LinkedProcedure.{LinkedProcedure}
+use Rattle.kernel_loader.specs.procedures.Procedures.{Procedures}
+use Rattle.kernel_loader.proofs.Bodies.{onto_below}
+use Rattle.kernel_loader.proofs.BodiesInEffect.{bodies_from_below, bodies_from_same}
 use Rattle.kernel_machine.specs.State.{root, node_at}
 use Rattle.kernel_history.specs.Fields.{node_of, past_of}
 use Rattle.kernel_history.specs.Bodies.{IsCellAt, AreInOrder, bodies_over, bodies_up, bodies_at}
 use Rattle.kernel_machine.specs.Legal.{IsLegal}
-use Rattle.kernel_runner.specs.Program.{procedures_of, IsReady, with_bodies}
-use Rattle.kernel_runner.specs.declared.program.Program.{Program}
+use Rattle.kernel_loader.specs.Program.{procedures_of, IsReady, with_bodies}
+use Rattle.kernel_loader.specs.program.Program.{Program}
 use Rattle.kernel_history.specs.declared.tree.EndedCell.{EndedCell}
 use Rattle.kernel_history.specs.declared.tree.HistoryTree.{HistoryTree}
 use Rattle.kernel_history.proofs.Nodes.{count_of_nodes}

@@ -3,10 +3,10 @@ use Rattle.std.proofs.Common.{ℕ, Bool}
 use Rattle.kernel_history.specs.Fields.{past_of, job_of, state_of}
 use Rattle.kernel_machine.specs.State.{procedures_at}
 use Rattle.kernel_machine.specs.Slices.{IsSlice}
-use Rattle.kernel_runner.specs.Runner.{world_of}
+use Rattle.kernel_loader.specs.Runner.{world_of}
 use Rattle.kernel_history.specs.Kept.{Kept, IsKept}
 use Rattle.kernel_history.specs.declared.tree.HistoryTree.{HistoryTree}
-use Rattle.kernel_runner.specs.declared.runner.Runner.{Runner}
+use Rattle.kernel_loader.specs.runner.Runner.{Runner}
 use Rattle.kernel_history.specs.declared.job.Open.{Open}
 use Rattle.kernel_machine.specs.declared.outcome.Sliced.{Sliced}
 use Rattle.kernel_history.proofs.Indexed.{kept_in_time}

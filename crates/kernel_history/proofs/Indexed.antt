@@ -4,20 +4,20 @@ use Rattle.std.proofs.Common.{◌∙◌, subst, arith}
 use Rattle.std.specs.Prelude.{slice_get}
 use Rattle.std.proofs.lemmas.Bool.{cases_lt, eq-eqb, eqb-true}
 use Rattle.std.proofs.lemmas.Option.{slice_get_cases}
-use Rattle.janus_machine.specs.Bodies.{has_name, place_of_first, onto}
-use Rattle.janus_machine.specs.LinkedProcedure.{name_number_of}
-use Rattle.janus_machine.specs.Procedures.{kept_in}
-use Rattle.janus_machine.specs.declared.linked_procedure.LinkedProcedure.{LinkedProcedure}
-use Rattle.janus_machine.specs.declared.procedures.Procedures.{Procedures}
+use Rattle.kernel_loader.specs.Bodies.{has_name, place_of_first, onto}
+use Rattle.kernel_loader.specs.LinkedProcedure.{name_number_of}
+use Rattle.kernel_loader.specs.Procedures.{kept_in}
+use Rattle.kernel_loader.specs.linked_procedure.LinkedProcedure.{LinkedProcedure}
+use Rattle.kernel_loader.specs.procedures.Procedures.{Procedures}
 use Rattle.kernel_machine.specs.Legal.{IsLegal, IsInTimeAt}
 use Rattle.kernel_machine.specs.State.{node_at, ancestor}
 use Rattle.kernel_machine.specs.Travel.{next_way}
 use Rattle.kernel_machine.specs.declared.travel.Way.{Way}
 use Rattle.kernel_machine.specs.declared.travel.Way.TheVariants.{Up, Down}
 use Rattle.kernel_machine.proofs.Trees.{ancestor_of_parent}
-use Rattle.kernel_runner.specs.Program.{procedures_of, with_bodies}
-use Rattle.kernel_runner.specs.declared.program.Program.{Program}
-use Rattle.kernel_runner.specs.declared.runner.Runner.{Runner}
+use Rattle.kernel_loader.specs.Program.{procedures_of, with_bodies}
+use Rattle.kernel_loader.specs.program.Program.{Program}
+use Rattle.kernel_loader.specs.runner.Runner.{Runner}
 use Rattle.kernel_history.specs.Fields.{nodes_of, past_of, job_of}
 use Rattle.kernel_history.specs.Bodies.{IsCellAt, bodies_at, bodies_in}
 use Rattle.kernel_history.specs.Index.{HasName, Defines, DefinesNone, IsForward, IsEntered, EnteredDefinesNone, IsCellAbove, NearestDefines, NoneDefines, Tells}

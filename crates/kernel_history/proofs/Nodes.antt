@@ -20,8 +20,8 @@ use Rattle.kernel_machine.specs.declared.travel.Travel.{Travel}
 use Rattle.kernel_machine.specs.declared.travel.Aim.TheVariants.{Goto}
 use Rattle.kernel_machine.specs.declared.travel.Way.{Way}
 use Rattle.kernel_machine.specs.declared.travel.Way.TheVariants.{Up, Down}
-use Rattle.kernel_runner.specs.Program.{cell_of_program}
-use Rattle.kernel_runner.specs.declared.program.Program.{Program}
+use Rattle.kernel_loader.specs.Program.{cell_of_program}
+use Rattle.kernel_loader.specs.program.Program.{Program}
 use Rattle.kernel_history.specs.Fields.{node_of, nodes_of, past_of}
 use Rattle.kernel_machine.specs.Legal.{IsLegal, IsMeeting}
 use Rattle.kernel_history.specs.Bodies.{IsCellAt, IsProgramOf}

@@ -10,11 +10,11 @@ use Rattle.janus_syntax.specs.Tree.{procedure_view, procedures_view}
 use Rattle.janus_syntax.specs.View.{plain_procedure}
 use Rattle.janus_syntax.specs.declared.tree.Procedure.{Procedure}
 use Rattle.janus_slots.specs.Slots.{procedures_in}
-use Rattle.janus_machine.specs.Bodies.{AreBodies}
-use Rattle.janus_machine.specs.declared.linked_procedure.LinkedProcedure as kept
+use Rattle.kernel_loader.specs.Bodies.{AreBodies}
+use Rattle.kernel_loader.specs.linked_procedure.LinkedProcedure as kept
 use Rattle.kernel_loader.specs.Defined.{in_a_row}
-use Rattle.kernel_runner.specs.Runner.{ShownWorld, Shows, world_of}
-use Rattle.kernel_runner.specs.declared.runner.Runner.{Runner}
+use Rattle.kernel_loader.specs.Runner.{ShownWorld, Shows, world_of}
+use Rattle.kernel_loader.specs.runner.Runner.{Runner}
 use Rattle.kernel_machine.specs.State as state
 use Rattle.kernel_machine.specs.State.{Past, node_at, world_at, here, below, code_of}
 use Rattle.kernel_machine.specs.declared.travel.Travel.{Travel}

@@ -28,20 +28,20 @@ use Rattle.janus_slots.specs.Slots as slots
 use Rattle.janus_slots.specs.Slots.{names_in}
 use Rattle.janus_slots.specs.Law.{AreListed}
 use Rattle.janus_store.specs.StoreState.{StoreState, IsWhole, AreSlots, shown_store}
-use Rattle.janus_machine.specs.Bodies.{AreBelow, AreDefined, Define}
-use Rattle.janus_machine.specs.Procedures.{kept_in}
-use Rattle.janus_machine.proofs.BodiesInEffect.{forgotten_still_defined}
-use Rattle.janus_machine.specs.declared.linked_procedure.LinkedProcedure.{LinkedProcedure}
-use Rattle.janus_machine.specs.declared.procedures.Procedures.{Procedures}
-use Rattle.kernel_runner.specs.Program.{cell_of_program, procedures_of, IsReady, with_bodies}
-use Rattle.kernel_runner.specs.Runner.{ShownWorld, over, world_of, Becomes, Shows, Place, entry, inverse_entry, world_inside, start_at, Stands, Is, Between}
-use Rattle.kernel_runner.specs.Runner.{IsInside, CanEnter, CanReturn, CanLeave}
+use Rattle.kernel_loader.specs.Bodies.{AreBelow, AreDefined, Define}
+use Rattle.kernel_loader.specs.Procedures.{kept_in}
+use Rattle.kernel_loader.proofs.BodiesInEffect.{forgotten_still_defined}
+use Rattle.kernel_loader.specs.linked_procedure.LinkedProcedure.{LinkedProcedure}
+use Rattle.kernel_loader.specs.procedures.Procedures.{Procedures}
+use Rattle.kernel_loader.specs.Program.{cell_of_program, procedures_of, IsReady, with_bodies}
+use Rattle.kernel_loader.specs.Runner.{ShownWorld, over, world_of, Becomes, Shows, Place, entry, inverse_entry, world_inside, start_at, Stands, Is, Between}
+use Rattle.kernel_loader.specs.Runner.{IsInside, CanEnter, CanReturn, CanLeave}
 use Rattle.kernel_history.specs.Bodies.{IsCellAt, IsBefore, IsBehindNodes, CanRun, NodesAreReady, AreInOrder, bodies_at, bodies_in, IsProgramOf}
 use Rattle.kernel_history.specs.Bodies.{bodies_of_nodes, KeepsNoOther, KeepsNoOtherFor}
 use Rattle.kernel_history.specs.Standing.{is_back, shown_here, place_in, StandsIn, StandsAt}
 use Rattle.kernel_history.specs.Kept.{Kept, IsKept, HasRoom, HasPath, HasPathFor}
-use Rattle.kernel_runner.specs.declared.runner.Runner.{Runner}
-use Rattle.kernel_runner.specs.declared.program.Program.{Program}
+use Rattle.kernel_loader.specs.runner.Runner.{Runner}
+use Rattle.kernel_loader.specs.program.Program.{Program}
 use Rattle.kernel_history.specs.declared.tree.EndedCell.{EndedCell}
 use Rattle.kernel_history.specs.declared.tree.HistoryTree.{HistoryTree}
 use Rattle.kernel_machine.specs.declared.outcome.Sliced.{Sliced}
@@ -53,9 +53,9 @@ use Rattle.kernel_machine.specs.declared.heading.Heading.TheVariants.{GoesOn, Go
 use Rattle.kernel_history.specs.declared.job.Open.{Open}
 use Rattle.kernel_history.specs.declared.job.Open.TheVariants.{Idle, Border, Inside}
 use Rattle.kernel_machine.proofs.LanguageLaws.{part_none_forward, part_none_backward, exec_end, exec_some}
-use Rattle.kernel_runner.proofs.Growing.{same_more, ready_grows, defined_grow}
+use Rattle.kernel_loader.proofs.Growing.{same_more, ready_grows, defined_grow}
 use Rattle.janus_slots.proofs.Whole.{names_size}
-use Rattle.kernel_runner.proofs.Running.{stands_part}
+use Rattle.kernel_loader.proofs.Running.{stands_part}
 use Rattle.kernel_history.proofs.BodiesAt.{bodies_same, bodies_of_cell, bodies_new, bodies_below, cell_behind, ready_same, ready_less, ready_more}
 use Rattle.kernel_history.proofs.Nodes.{count_of_nodes, cell_there, same_program, contents_more, cell_kept, cell_added}
 use Rattle.kernel_history.proofs.WorldNames.{exec_names, names_below, world_kept, world_added, listed_still, listed_own}

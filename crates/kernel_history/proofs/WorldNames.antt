@@ -10,7 +10,7 @@ use Rattle.janus_names.specs.Numbers.{GoOn}
 use Rattle.janus_slots.specs.Slots.{names_in}
 use Rattle.janus_slots.specs.Law.{AreListed}
 use Rattle.janus_slots.proofs.Whole.{names_cleared}
-use Rattle.janus_machine.proofs.GoesOn.{number_goes_on}
+use Rattle.kernel_loader.proofs.GoesOn.{number_goes_on}
 use Rattle.kernel_machine.specs.Language.{Code, Forward, CodeExec, start_of, end_of}
 use Rattle.kernel_machine.specs.State as state
 use Rattle.kernel_machine.specs.State.{Past, node_at, world_at, here, worlds_from}

@@ -7,8 +7,8 @@ use Rattle.cell_tree.specs.declared.node.Node.{Node}
 use Rattle.janus_meaning.specs.Syntax.{Name, Proc}
 use Rattle.janus_slots.specs.Slots.{names_in}
 use Rattle.janus_slots.specs.Law.{AreListed}
-use Rattle.janus_machine.specs.Procedures.{kept_in}
-use Rattle.janus_machine.specs.declared.procedures.Procedures.{Procedures}
+use Rattle.kernel_loader.specs.Procedures.{kept_in}
+use Rattle.kernel_loader.specs.procedures.Procedures.{Procedures}
 use Rattle.janus_meaning.specs.World.{define}
 use Rattle.janus_syntax.specs.Tree.{procedures_view}
 use Rattle.janus_syntax.specs.View.{plain_procedure}
@@ -18,9 +18,9 @@ use Rattle.kernel_machine.specs.State.{here, below, code_of, world_at}
 use Rattle.kernel_machine.specs.declared.travel.Way.TheVariants.{Up, Down}
 use Rattle.kernel_machine.specs.Travel.{next_way}
 use Rattle.kernel_history.specs.Fields.{past_of, work_of}
-use Rattle.kernel_runner.specs.Program.{procedures_of, IsReady, with_bodies}
-use Rattle.kernel_runner.specs.declared.program.Program.{Program}
-use Rattle.kernel_runner.specs.declared.runner.Runner.{Runner}
+use Rattle.kernel_loader.specs.Program.{procedures_of, IsReady, with_bodies}
+use Rattle.kernel_loader.specs.program.Program.{Program}
+use Rattle.kernel_loader.specs.runner.Runner.{Runner}
 use Rattle.kernel_history.specs.declared.tree.HistoryTree.{HistoryTree}
 use Rattle.kernel_history.specs.declared.tree.EndedCell.{EndedCell}
 use Rattle.kernel_history.specs.declared.job.Work.{Work}

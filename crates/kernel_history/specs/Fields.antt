@@ -1,6 +1,6 @@
 -- How the fields of the code are a state of the machine: its words for the types of the code.
 use Rattle.std.specs.Prelude.{◌≡◌, List, [], ◌∷◌, map}
-use Rattle.kernel_runner.specs.Program.{cell_of_program}
+use Rattle.kernel_loader.specs.Program.{cell_of_program}
 use Rattle.kernel_machine.specs.State as state
 use Rattle.kernel_machine.specs.State.{Past, State, worlds_from}
 use Rattle.cell_tree.specs.declared.node.Node.{Node}

@@ -1,16 +1,16 @@
 -- What the index of bodies tells, in the words of the tree: for each name the body that the entered cell defines, where it was posted or a move goes
 -- down to it, else the one of the nearest node that defines it, on the way from the position up to the root, else none.
 use Rattle.std.specs.Prelude.{◌≡◌, ◌⊎◌, ℕ, zero, suc, ◌+◌, ◌<◌, ◌≤◌, Some, length, slice_get}
-use Rattle.janus_machine.specs.LinkedProcedure.{name_number_of}
-use Rattle.janus_machine.specs.Procedures.{kept_in, place_in_effect}
-use Rattle.janus_machine.specs.declared.linked_procedure.LinkedProcedure.{LinkedProcedure}
-use Rattle.janus_machine.specs.declared.procedures.Procedures.{Procedures}
+use Rattle.kernel_loader.specs.LinkedProcedure.{name_number_of}
+use Rattle.kernel_loader.specs.Procedures.{kept_in, place_in_effect}
+use Rattle.kernel_loader.specs.linked_procedure.LinkedProcedure.{LinkedProcedure}
+use Rattle.kernel_loader.specs.procedures.Procedures.{Procedures}
 use Rattle.kernel_machine.specs.State.{ancestor}
 use Rattle.kernel_machine.specs.Travel.{next_way}
 use Rattle.kernel_machine.specs.declared.travel.Way.TheVariants.{Down}
-use Rattle.kernel_runner.specs.Program.{procedures_of}
-use Rattle.kernel_runner.specs.declared.program.Program.{Program}
-use Rattle.kernel_runner.specs.declared.runner.Runner.{Runner}
+use Rattle.kernel_loader.specs.Program.{procedures_of}
+use Rattle.kernel_loader.specs.program.Program.{Program}
+use Rattle.kernel_loader.specs.runner.Runner.{Runner}
 use Rattle.kernel_history.specs.Fields.{nodes_of}
 use Rattle.kernel_history.specs.Bodies.{IsCellAt, IsProgramOf}
 use Rattle.kernel_history.specs.declared.tree.EndedCell.{EndedCell}

@@ -27,8 +27,8 @@ use Rattle.kernel_machine.specs.declared.travel.Aim.TheVariants.{Undo, Redo, Got
 use Rattle.kernel_machine.specs.declared.heading.Heading.TheVariants.{GoesOn}
 use Rattle.kernel_history.specs.Fields.{nodes_of, past_of, work_of, job_of}
 use Rattle.kernel_machine.specs.Legal.{IsLegal, IsPossibleAt, IsInTimeAt, IsCountedAt}
-use Rattle.kernel_runner.specs.Runner.{world_of}
-use Rattle.kernel_runner.specs.declared.runner.Runner.{Runner}
+use Rattle.kernel_loader.specs.Runner.{world_of}
+use Rattle.kernel_loader.specs.runner.Runner.{Runner}
 use Rattle.kernel_history.specs.declared.tree.HistoryTree.{HistoryTree}
 use Rattle.kernel_history.specs.declared.job.Work.{Work}
 use Rattle.kernel_history.specs.declared.job.Work.TheVariants.{Cell as RunCell, Move}

@@ -4,10 +4,10 @@ use Rattle.kernel_machine.specs.State.{here, code_of}
 use Rattle.kernel_machine.specs.declared.heading.Heading.{Heading}
 use Rattle.kernel_machine.specs.declared.heading.Heading.TheVariants.{GoesOn, GoesBack}
 use Rattle.kernel_history.specs.Fields.{past_of, work_of}
-use Rattle.kernel_runner.specs.Runner as model
-use Rattle.kernel_runner.specs.Runner.{ShownWorld, over, Place, Is, Between}
-use Rattle.kernel_runner.specs.declared.program.Program.{Program}
-use Rattle.kernel_runner.specs.declared.runner.Runner.{Runner}
+use Rattle.kernel_loader.specs.Runner as model
+use Rattle.kernel_loader.specs.Runner.{ShownWorld, over, Place, Is, Between}
+use Rattle.kernel_loader.specs.program.Program.{Program}
+use Rattle.kernel_loader.specs.runner.Runner.{Runner}
 use Rattle.kernel_history.specs.declared.tree.HistoryTree.{HistoryTree}
 use Rattle.kernel_history.specs.declared.job.Work.{Work}
 use Rattle.kernel_history.specs.declared.job.Open.{Open}

@@ -7,15 +7,15 @@ ghost use Rattle.kernel_loader.specs.Defined.{in_a_row};
 ghost use Rattle.kernel_history.specs.Fields.{past_of, job_of, work_of};
 ghost use Rattle.kernel_history.specs.Bodies.{over_here, procedures_in};
 ghost use Rattle.kernel_history.specs.Kept.{HasPathAt, HasPathFor};
-ghost use Rattle.kernel_runner.specs.Runner.{over, Is, Between};
+ghost use Rattle.kernel_loader.specs.Runner.{over, Is, Between};
 ghost use Rattle.kernel_machine.specs.Legal.{IsLegal, IsPossibleAt, IsPossibleWork};
 ghost use Rattle.kernel_machine.specs.State.{here, procedures_at};
 
 use crate::job::{Open, Work};
 use crate::tree::{HistoryTree, below};
 use janus_syntax::tree::Procedure;
+use kernel_loader::Runner;
 use kernel_machine::Way;
-use kernel_runner::Runner;
 use std::alloc::{AllocError, Global};
 use std::sync::ledger::Ledger;
 

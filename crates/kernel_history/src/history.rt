@@ -12,10 +12,10 @@ ghost use Rattle.janus_names.specs.Numbers.{GoOn};
 ghost use Rattle.janus_slots.specs.Slots.{names_in};
 ghost use Rattle.janus_slots.specs.Law.{AreListed};
 ghost use Rattle.janus_store.specs.StoreState.{IsWhole, KeepsSight, shown_store};
-ghost use Rattle.janus_machine.specs.Procedures.{kept_in};
+ghost use Rattle.kernel_loader.specs.Procedures.{kept_in};
 ghost use Rattle.kernel_machine.specs.Text.{Accepts, Refuses};
-ghost use Rattle.kernel_runner.specs.Program.{cell_of_program, procedures_of, IsReady};
-ghost use Rattle.kernel_runner.specs.Runner.{over, Becomes, Is, Between};
+ghost use Rattle.kernel_loader.specs.Program.{cell_of_program, procedures_of, IsReady};
+ghost use Rattle.kernel_loader.specs.Runner.{over, Becomes, Is, Between};
 ghost use Rattle.kernel_loader.specs.Keeping.{KeepsOlder};
 ghost use Rattle.kernel_loader.specs.Loading.{KeepsShown};
 ghost use Rattle.kernel_machine.specs.Extent.{IsExtent};
@@ -32,13 +32,11 @@ use crate::settle::{finished, slice_job};
 use crate::tree::{HistoryTree, below, can_go_down, can_go_up, find_way, is_full};
 use crate::view::View;
 use cell_tree::Tree as Cells;
-use janus_machine::{Store, Writes};
 use janus_syntax::tree::Cell;
-use kernel_loader::load;
+use kernel_loader::{Program, Runner, Store, Writes, load};
 use kernel_machine::{
     Aim, Begun, Extent, Heading, Outcome, Refusal, Sliced, Travel, TravelEnd, Way,
 };
-use kernel_runner::{Program, Runner};
 use std::alloc::{AllocError, Global};
 use std::marker::Model;
 use std::sync::ledger::Ledger;

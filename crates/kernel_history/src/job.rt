@@ -1,6 +1,6 @@
 //! The open job: what it does, and how far it is.
+use kernel_loader::Program;
 use kernel_machine::{Heading, Travel};
-use kernel_runner::Program;
 
 /// What runs inside a cell: a posted cell, or the next cell of a travel.
 #[derive(Drop)]

@@ -20,6 +20,8 @@
 //! - `Index`: what the index of bodies tells of the tree.
 //! - `Standing`: where the runner stands.
 //! - `Kept`: what a history keeps of its fields, with a map of it, what a slice leaves, and where a cell has come to its end.
+//!
+//! It gives again what `kernel_core` cites of the layers below: the store with its writes, and the procedures that are lent.
 #![tactic(auto)]
 
 mod defined;
@@ -33,3 +35,4 @@ mod view;
 pub use crate::history::History;
 pub use crate::job::Stage;
 pub use crate::view::View;
+pub use kernel_loader::{Store, Writes, names_in_sight};

@@ -7,11 +7,11 @@ ghost use Rattle.kernel_machine.specs.Travel.{next_way};
 ghost use Rattle.kernel_history.specs.Fields.{past_of, state_of, work_of, job_of};
 ghost use Rattle.kernel_machine.specs.Legal.{IsLegal, IsPossibleWork};
 ghost use Rattle.kernel_machine.specs.Slices.{finished as the_finished, turned as the_turned, Backs, cells, Arrives, Goes, IsSlice};
-ghost use Rattle.janus_machine.specs.Counts.{IsWritten};
+ghost use Rattle.janus_meaning.specs.Writes.{IsWritten};
 ghost use Rattle.kernel_machine.specs.StepsOfSlices.{steps_back, WritesOn, WritesOnSlice};
 ghost use Rattle.janus_names.specs.Numbers.{GoOn};
 ghost use Rattle.janus_store.specs.StoreState.{IsWhole};
-ghost use Rattle.kernel_runner.specs.Runner.{Is, Between};
+ghost use Rattle.kernel_loader.specs.Runner.{Is, Between};
 ghost use Rattle.kernel_history.specs.Bodies.{IsProgramOf, NodesAreReady, KeepsNoOther};
 ghost use Rattle.kernel_history.specs.Standing.{shown_here};
 ghost use Rattle.kernel_history.specs.Kept.{Kept, left_by, HasCome, HasComeAt, ComesToEnd, HasPathFor, SettlesFrom, SettlesAt};
@@ -19,9 +19,8 @@ ghost use Rattle.kernel_history.specs.Kept.{Kept, left_by, HasCome, HasComeAt, C
 use crate::job::{Entered, Open, Work};
 use crate::tree::{EndedCell, HistoryTree, below};
 use cell_tree::Node;
-use janus_machine::Writes;
+use kernel_loader::{Program, Runner, Writes};
 use kernel_machine::{Aim, Heading, Outcome, Progress, Sliced, Travel, TravelEnd, Way, Why};
-use kernel_runner::{Program, Runner};
 use std::mem;
 use std::sync::ledger::Ledger;
 

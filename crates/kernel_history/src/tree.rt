@@ -9,8 +9,8 @@ ghost use Rattle.kernel_machine.specs.Legal.{IsLegal, IsPossible, IsMeeting, can
 ghost use Rattle.kernel_history.specs.Kept.{HasPath};
 
 use cell_tree::{Route, Tree as Cells, TreeFault};
+use kernel_loader::Program;
 use kernel_machine::{Aim, Travel};
-use kernel_runner::Program;
 
 /// A cell that ended well, with the steps that it took: what a node of the tree holds.
 #[derive(Drop)]

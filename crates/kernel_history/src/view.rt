@@ -9,15 +9,14 @@ ghost use Rattle.kernel_machine.specs.State.{procedures_at};
 ghost use Rattle.kernel_history.specs.Fields.{past_of, job_of};
 ghost use Rattle.kernel_history.specs.Kept.{HasPathAt};
 ghost use Rattle.kernel_machine.specs.Legal.{IsLegal, IsPossibleAt};
-ghost use Rattle.kernel_runner.specs.Runner.{world_of};
+ghost use Rattle.kernel_loader.specs.Runner.{world_of};
 
 use crate::defined::{all_procedures, own_procedures};
 use crate::job::Open;
 use crate::tree::HistoryTree;
-use janus_machine::Store;
 use janus_store::ValueView;
 use janus_syntax::tree::Procedure;
-use kernel_runner::Runner;
+use kernel_loader::{Runner, Store};
 use std::alloc::{AllocError, Global};
 use std::marker::Model;
 use std::sync::ledger::Ledger;

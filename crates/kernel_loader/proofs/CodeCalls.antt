@@ -15,8 +15,8 @@ use Rattle.janus_code.specs.Flat.{ahead, block_at, built, tree_among, trees, tre
 use Rattle.janus_code.specs.CodeBlock.{code_tree, inner_block, code_block}
 use Rattle.janus_code.specs.Numbered.{HasItsNumber, StatementHasNumbers, HaveNumbers}
 use Rattle.janus_store.specs.StoreState.{AreSlots}
-use Rattle.janus_machine.specs.Bodies.{AreBodies}
-use Rattle.janus_machine.specs.declared.linked_procedure.LinkedProcedure.{LinkedProcedure}
+use Rattle.kernel_runner.specs.Bodies.{AreBodies}
+use Rattle.kernel_runner.specs.linked_procedure.LinkedProcedure.{LinkedProcedure}
 use Rattle.kernel_loader.proofs.Listed.{CallsIn, CallsOf, BodiesCall, IsSlot, block_met}
 
 -- each of these statements calls by slots

@@ -3,7 +3,7 @@ use Rattle.std.proofs.Common.{◌≡◌, ◌+◌, ◌<◌, ◌≤◌, ℕ, zero,
 use Rattle.std.specs.Prelude.{slice_get, Some}
 use Rattle.std.specs.Ordering.{nat_cmp, ord_max}
 use Rattle.std.proofs.lemmas.List.{length-map, map-append}
-use Rattle.janus_machine.proofs.BodiesInEffect.{bodies_from_before, bodies_from_more}
+use Rattle.kernel_runner.proofs.BodiesInEffect.{bodies_from_before, bodies_from_more}
 use Rattle.janus_meaning.specs.Limit.{parameter_limit}
 use Rattle.janus_meaning.specs.Syntax.{Name, Proc, names_of}
 use Rattle.janus_meaning.specs.Shape.{Heads}
@@ -20,10 +20,10 @@ use Rattle.janus_code.specs.Procedures.{param_of, params_of, proc_of, Parameters
 use Rattle.janus_code.specs.declared.code.FlatParameter.{FlatParameter}
 use Rattle.janus_code.specs.declared.code.FlatProcedure as flat
 use Rattle.janus_store.specs.Calls.{AreNamed}
-use Rattle.janus_machine.specs.Bodies.{numbers_of, IsBody, AreBodiesFrom}
-use Rattle.janus_machine.specs.Places.{block_in, BookHasNumbers}
-use Rattle.janus_machine.specs.declared.book.Direction.TheVariants.{Forward}
-use Rattle.janus_machine.specs.declared.linked_procedure.LinkedProcedure.{LinkedProcedure}
+use Rattle.kernel_runner.specs.Bodies.{numbers_of, IsBody, AreBodiesFrom}
+use Rattle.kernel_runner.specs.Places.{block_in, BookHasNumbers}
+use Rattle.kernel_runner.specs.book.Direction.TheVariants.{Forward}
+use Rattle.kernel_runner.specs.linked_procedure.LinkedProcedure.{LinkedProcedure}
 use Rattle.janus_code.specs.Width.{width_of_procedure}
 use Rattle.kernel_loader.specs.Keeping.{width_of_procedures}
 

@@ -19,12 +19,12 @@ use Rattle.janus_check.specs.WellFormed.{IsWellFormed, IsWellFormedOver}
 use Rattle.janus_check.proofs.SameHeads.{formed_same}
 use Rattle.janus_code.specs.Slotted.{HasEntries}
 use Rattle.janus_store.specs.StoreState.{StoreState, Caller, KeepsSight, AreSlots, shown_store, given_back}
-use Rattle.janus_machine.specs.Bodies.{AreBelow, AreBodies, AreBodiesFrom, AreDefined, Define}
-use Rattle.janus_machine.specs.Procedures.{kept_in}
-use Rattle.janus_machine.specs.Places.{block_in, BookHasNumbers}
-use Rattle.janus_machine.specs.declared.book.Direction.TheVariants.{Forward}
-use Rattle.janus_machine.specs.declared.linked_procedure.LinkedProcedure.{LinkedProcedure}
-use Rattle.janus_machine.specs.declared.procedures.Procedures.{Procedures}
+use Rattle.kernel_runner.specs.Bodies.{AreBelow, AreBodies, AreBodiesFrom, AreDefined, Define}
+use Rattle.kernel_runner.specs.Procedures.{kept_in}
+use Rattle.kernel_runner.specs.Places.{block_in, BookHasNumbers}
+use Rattle.kernel_runner.specs.book.Direction.TheVariants.{Forward}
+use Rattle.kernel_runner.specs.linked_procedure.LinkedProcedure.{LinkedProcedure}
+use Rattle.kernel_runner.specs.procedures.Procedures.{Procedures}
 use Rattle.kernel_runner.specs.Program.{cell_of_program, procedures_of, IsReady}
 use Rattle.kernel_runner.specs.Runner.{ShownWorld, Shows, Is, Between}
 use Rattle.kernel_runner.specs.declared.program.Program.{Program}

@@ -6,14 +6,14 @@ use Rattle.janus_meaning.specs.World.{Cell}
 use Rattle.janus_names.specs.Numbers.{IsNumbered}
 use Rattle.janus_code.specs.Width.{width_of, width_of_procedure}
 use Rattle.janus_store.specs.StoreState.{AreSlots}
-use Rattle.janus_machine.specs.Bodies.{AreDefined, AreBodiesFrom, IsBody}
-use Rattle.janus_machine.specs.LinkedProcedure.{name_number_of}
-use Rattle.janus_machine.specs.Places.{block_in, BookHasNumbers}
-use Rattle.janus_machine.specs.Procedures.{kept_in}
-use Rattle.janus_machine.specs.declared.book.Book.{Book}
-use Rattle.janus_machine.specs.declared.book.Direction.TheVariants.{Forward}
-use Rattle.janus_machine.specs.declared.linked_procedure.LinkedProcedure.{LinkedProcedure}
-use Rattle.janus_machine.specs.declared.procedures.Procedures.{Procedures}
+use Rattle.kernel_runner.specs.Bodies.{AreDefined, AreBodiesFrom, IsBody}
+use Rattle.kernel_runner.specs.LinkedProcedure.{name_number_of}
+use Rattle.kernel_runner.specs.Places.{block_in, BookHasNumbers}
+use Rattle.kernel_runner.specs.Procedures.{kept_in}
+use Rattle.kernel_runner.specs.book.Book.{Book}
+use Rattle.kernel_runner.specs.book.Direction.TheVariants.{Forward}
+use Rattle.kernel_runner.specs.linked_procedure.LinkedProcedure.{LinkedProcedure}
+use Rattle.kernel_runner.specs.procedures.Procedures.{Procedures}
 
 -- the book stands for the block, and each of its numbers is that of a slot
 pub record StandsFor (width : ℕ) (book : Book) (b : Blk) : Type 0 where

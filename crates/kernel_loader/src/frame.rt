@@ -1,10 +1,9 @@
 //! The names over which a cell runs.
 
 use janus_code::Statement;
-use janus_laying::FrameNames;
-use janus_machine::Store;
 use janus_store::ValueView;
 use janus_syntax::tree::Declaration;
+use kernel_runner::{FrameNames, Store};
 use std::alloc::{AllocError, Global};
 use std::sync::ledger::Ledger;
 

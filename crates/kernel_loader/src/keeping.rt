@@ -7,14 +7,14 @@ ghost use Rattle.janus_syntax.specs.View.{plain_procedure};
 ghost use Rattle.janus_check.specs.Sight.{heads_seen};
 ghost use Rattle.janus_code.specs.Slotted.{HasEntries};
 ghost use Rattle.janus_code.specs.Width.{width_of_procedure};
-ghost use Rattle.janus_machine.specs.Procedures.{kept_in};
+ghost use Rattle.kernel_runner.specs.Procedures.{kept_in};
 ghost use Rattle.kernel_loader.specs.Keeping.{IsKeptBehind, AreBodiesBehind, KeepsOlder, KeepsDefined, width_of_procedures};
 
 use janus_check::Sight;
 use janus_code::flatten_procedure;
-use janus_machine::{LinkedProcedure, Procedures};
 use janus_names::Names;
 use janus_syntax::tree::Procedure;
+use kernel_runner::{LinkedProcedure, Procedures};
 use std::alloc::{AllocError, Global};
 
 /// Keeps the bodies of procedures, one behind another, and gives how many slots they need; an error for want of memory, or for a body of more

@@ -12,8 +12,8 @@ ghost use Rattle.kernel_loader.specs.Known.{FindTheSame, IsFoundBehind};
 use crate::sight::names_in_sight;
 use janus_check::Env;
 use janus_check::parameter::kinds_of;
-use janus_machine::Store;
 use janus_syntax::tree::Procedure;
+use kernel_runner::Store;
 use std::alloc::{AllocError, Global};
 use std::sync::ledger::Ledger;
 

@@ -12,6 +12,8 @@
 //!
 //! The definitions are in specs/: `Kinds`, `Defined`, `Known` (what a cell is checked over), `Keeping` (its code, and the bodies that are kept) and
 //! `Loading` (what stays while a cell is loaded, and which names of procedures are new).
+//!
+//! It gives the names of `kernel_runner` and of `janus_machine` again that the history cites, since a runner and a loaded cell are what it works with.
 #![tactic(auto)]
 
 mod checking;
@@ -24,3 +26,4 @@ mod sight;
 
 pub use crate::loader::load;
 pub use crate::sight::names_in_sight;
+pub use kernel_runner::{Cursor, Procedures, Program, Runner, Store, Writes, slice};

@@ -8,8 +8,8 @@ ghost use Rattle.janus_store.specs.Values.{shown};
 ghost use Rattle.kernel_loader.specs.Kinds.{kind_in};
 
 use janus_check::{Env, Kind};
-use janus_machine::Store;
 use janus_store::ValueView;
+use kernel_runner::Store;
 use std::alloc::{AllocError, Global};
 use std::sync::ledger::Ledger;
 

@@ -6,3 +6,4 @@ pub mod Jobs
 pub mod Stays
 pub mod Posts
 pub mod Noted
+pub mod Crosses

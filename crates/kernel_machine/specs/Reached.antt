@@ -2,8 +2,8 @@
 use Rattle.std.specs.Prelude.{ℕ, ◌<◌, ◌≤◌}
 use Rattle.janus_meaning.specs.World.{World}
 use Rattle.kernel_machine.specs.Language.{Code, CodePart, CodeExec, CodeStop}
-use Rattle.janus_machine.specs.Faults.{fault_of}
-use Rattle.janus_machine.specs.declared.fault.Fault.{Fault}
+use Rattle.janus_meaning.specs.Faults.{fault_of}
+use Rattle.janus_meaning.specs.declared.fault.Fault.{Fault}
 -- how far: it went on, or ended after a number of steps, or met a fault after a number of them
 pub use Rattle.kernel_machine.specs.declared.progress.Progress.{Progress}
 pub use Rattle.kernel_machine.specs.declared.progress.Progress.TheVariants.{Went, Ended, Stopped}

@@ -1,7 +1,7 @@
 -- How many steps a slice takes or goes back, and that the store is written at most twice for each of them.
 use Rattle.std.specs.Prelude.{◌≡◌, ℕ, ◌+◌, ◌-◌, Bool, true, false, List, [], ◌∷◌}
 use Rattle.janus_meaning.specs.World.{World}
-use Rattle.janus_machine.specs.Counts.{IsWritten}
+use Rattle.janus_meaning.specs.Writes.{IsWritten}
 use Rattle.kernel_machine.specs.Reached.{Reaches, Progress, Went, Ended, Stopped}
 use Rattle.kernel_machine.specs.State.{Past, State, Work, Job, Idle, Border, Inside, here, code_of}
 use Rattle.kernel_machine.specs.Heading.{Heading, GoesOn, GoesBack}

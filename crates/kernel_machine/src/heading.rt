@@ -1,5 +1,5 @@
 //! Whether the steps of a cell are taken, or taken back.
-use janus_machine::Fault;
+use janus_meaning::Fault;
 
 /// Why a job goes back, and at which count it turned.
 #[derive(Clone, Copy)]

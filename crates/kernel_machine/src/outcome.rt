@@ -4,7 +4,7 @@ ghost use Rattle.kernel_machine.specs.Refusal.{number_of, name_of, span_of};
 ghost use Rattle.kernel_machine.specs.Text.{refused_by_syntax, refused_by_check};
 
 use janus_check::CheckFault;
-use janus_machine::Fault;
+use janus_meaning::Fault;
 use janus_syntax::SyntaxFault;
 use janus_syntax::token::Span;
 use thiserror::Error;

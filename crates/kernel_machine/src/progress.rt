@@ -1,5 +1,5 @@
 //! How far a run of steps came.
-use janus_machine::Fault;
+use janus_meaning::Fault;
 
 /// How far a run of steps came.
 #[derive(Clone, Copy)]

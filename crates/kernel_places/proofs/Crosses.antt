@@ -10,7 +10,7 @@ use Rattle.circular_buffer.proofs.cells.Cells.TheSendSync.{the_send as cells_sen
 use Rattle.circular_buffer.proofs.cells.Deed.TheSendSync.{the_send as deed_send}
 use Rattle.kernel_board.specs.contracts.broadcast.Broadcast as Broadcast
 use Rattle.kernel_board.specs.contracts.log.BroadcastLog as BroadcastLog
-use Rattle.kernel_hall.proofs.Crosses.{Hall-sync}
+use Rattle.kernel_desk.proofs.HallCrosses.{Hall-sync}
 use Rattle.kernel_iopub.specs.contracts.bulletin.Bulletin as Bulletin
 use Rattle.kernel_sockets.specs.contracts.connections.Connections as Connections
 use Rattle.kernel_sockets.specs.contracts.listener.Listener as Listener

@@ -5,7 +5,7 @@ ghost use Rattle.kernel_sockets.specs.declared.shares.TheConstants.{READ_OCTETS}
 
 use crate::sockets::{is_answered, is_signed};
 use crate::time::{INTERRUPTIONS, clock_of, handshake_end, milliseconds};
-use kernel_session::Socket;
+use kernel_desk::Socket;
 use kernel_sockets::{
     Allowance, ConnectionInput, OWN_OCTETS, Presence, READ_OCTETS, Share, Strangers,
 };

@@ -7,7 +7,7 @@ ghost use Rattle.zmtp_peer.specs.Pings.{ping};
 
 use crate::sockets::is_signed;
 use crate::time::{INTERRUPTIONS, milliseconds};
-use kernel_session::Socket;
+use kernel_desk::Socket;
 use kernel_sockets::{MESSAGE_MILLISECONDS, Patience, Presence};
 use std::io;
 use std::io::{ErrorKind, Write};

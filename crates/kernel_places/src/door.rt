@@ -1,7 +1,7 @@
 //! The door of a socket: where a connection that was accepted waits for a place.
 ghost use Rattle.std.specs.Prelude.{◌≡◌, ◌<◌, ◌↔◌, IsTrue, false, true, None, Some};
 
-use kernel_session::Socket;
+use kernel_desk::Socket;
 use std::net::TcpStream;
 use std::sync::{Condvar, Mutex, Wait};
 use std::time::{Clock, Duration};

@@ -32,6 +32,8 @@
 //! `places` has the places and the listeners, `requests` serves it on shell, control, stdin and heartbeat, `publishing` on iopub; `arrivals`
 //! is what comes on it, `departures` what goes out, `sockets` and `time` have the rules of each socket and its times. `task` is what a thread
 //! does, `worker` runs the cells, `latch` is what all threads look at, `service` has all that they share, and `start` starts and ends them.
+//!
+//! It gives again what a program needs to start it: the kernel, the hall and the comms that it makes.
 #![tactic(auto)]
 
 mod arrivals;
@@ -49,6 +51,7 @@ mod time;
 mod usher;
 mod worker;
 
+pub use kernel_desk::{Comms, Hall, Kernel, PARTS_OF_POSTS};
 pub use places::{ALL_PLACES, Listeners, PLACES};
 pub use service::Service;
 pub use start::{Seats, serve_all};

@@ -1,5 +1,5 @@
 //! The places of a socket.
-use kernel_session::Socket;
+use kernel_desk::Socket;
 use kernel_sockets::{Listener, Stream};
 use std::alloc::Global;
 use std::net::TcpStream;

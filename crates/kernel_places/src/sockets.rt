@@ -1,5 +1,5 @@
 //! How each of the five sockets tells whether its peer is active.
-use kernel_session::Socket;
+use kernel_desk::Socket;
 use kernel_sockets::STAY_MILLISECONDS;
 
 /// How long a ready connection of iopub, stdin or heartbeat may be silent before it has to make room for another one.

@@ -4,7 +4,7 @@ use crate::places::{Listeners, PLACES, Place};
 use crate::service::Service;
 use crate::sockets::silence;
 use crate::time::milliseconds;
-use kernel_session::Socket;
+use kernel_desk::Socket;
 use kernel_sockets::{Connections, Listener};
 use std::net::TcpStream;
 use std::sync::Wait;

@@ -3,7 +3,7 @@ ghost use Rattle.std.specs.Prelude.{◌≡◌};
 
 use crate::latch::Latch;
 use kernel_bell::RunnerSeat;
-use kernel_hall::{Gate, Hall, Moment, work};
+use kernel_desk::{Gate, Hall, Moment, work};
 use std::sync::Wait;
 use std::sync::ledger::Ledger;
 

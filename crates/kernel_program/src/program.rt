@@ -2,7 +2,7 @@
 ghost use Rattle.std.specs.Prelude.{◌≡◌, ◌≢◌, ◌<◌, IfOk, All};
 ghost use Rattle.clap.specs.Values.{kind_of};
 ghost use Rattle.program_words.specs.Status.{status_of};
-ghost use Rattle.kernel_hall.specs.limit.TheConstants.{PARTS_OF_POSTS};
+ghost use Rattle.kernel_places.specs.hall_limit.TheConstants.{PARTS_OF_POSTS};
 
 use crate::fault::ProgramFault;
 use crate::opening::{connection_of, listeners_of};
@@ -10,11 +10,10 @@ use crate::words::file_of;
 use clap::Error;
 use clap::error::ErrorKind as ClapErrorKind;
 use jupyter_msg::Key;
-use kernel_ask::Comms;
 use kernel_bell::{Bell, RINGERS};
-use kernel_core::Kernel;
-use kernel_hall::{Hall, PARTS_OF_POSTS};
-use kernel_places::{ALL_PLACES, Listeners, PLACES, Seats, Service, serve_all};
+use kernel_places::{
+    ALL_PLACES, Comms, Hall, Kernel, Listeners, PARTS_OF_POSTS, PLACES, Seats, Service, serve_all,
+};
 use program_words::{send_unread_words, unread_words_status, words_status};
 use rand::make_rng;
 use rand::rngs::StdRng;

@@ -14,7 +14,7 @@ use Rattle.serde_json.specs.Data.{Data, Members, no_members, member, put}
 use Rattle.serde_json.specs.Find.{get_member}
 use Rattle.serde_json.proofs.Views.{get_member-put}
 use Rattle.kernel_ask.specs.declared.done.NamedValue.{NamedValue}
-use Rattle.kernel_text.proofs.NameSets.{contains_first, contains_later, contains_none, contains_cases}
+use Rattle.kernel_ask.proofs.NameSets.{contains_first, contains_later, contains_none, contains_cases}
 use Rattle.kernel_reply.specs.Comms.{comm_shown, with_comms}
 use Rattle.kernel_reply.specs.Execution.{value_shown, with_values}
 use Rattle.kernel_reply.specs.Laws.{names_of, ListsEachWithItsTarget, TellsValuesByName}

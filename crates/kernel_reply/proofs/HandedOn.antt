@@ -5,7 +5,7 @@ use Rattle.jupyter_msg.specs.declared.request.RequestContent.TheVariants as requ
 use Rattle.kernel_ask.specs.declared.answer.Content.{Content}
 use Rattle.kernel_ask.specs.declared.answer.Content.TheVariants as content
 use Rattle.kernel_ask.specs.declared.answer.KernelState.{KernelState}
-use Rattle.kernel_core.specs.post.PostFault.{PostFault}
+use Rattle.kernel_ask.specs.post.PostFault.{PostFault}
 use Rattle.kernel_reply.specs.Answers.{unposted_says, unposted_says_with}
 use Rattle.kernel_reply.specs.Laws.{own_text, JobsSayTheSame, RefusalsSayTheSame}
 

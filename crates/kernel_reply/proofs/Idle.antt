@@ -11,7 +11,7 @@ use Rattle.jupyter_msg.specs.declared.history.HistoryAccess.{HistoryAccess}
 use Rattle.jupyter_msg.specs.declared.history.HistoryAccess.TheVariants.{Range, Tail, Search}
 use Rattle.jupyter_msg.specs.declared.request.RequestContent.{RequestContent}
 use Rattle.jupyter_msg.specs.declared.request.RequestContent.TheVariants as request
-use Rattle.kernel_core.specs.post.PostFault.{PostFault}
+use Rattle.kernel_ask.specs.post.PostFault.{PostFault}
 use Rattle.kernel_ask.specs.declared.done.Done.{Done}
 use Rattle.kernel_ask.specs.declared.answer.Content.{Content}
 use Rattle.kernel_ask.specs.declared.answer.Content.TheVariants as content

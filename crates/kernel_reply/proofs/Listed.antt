@@ -10,9 +10,9 @@ use Rattle.std.specs.List.Sorted.{IsStrictlySortedBy}
 use Rattle.std.proofs.lemmas.Cmp.{nat_list_cmp_total}
 use Rattle.serde_json.specs.Data.{Data, Members, no_members, member, put}
 use Rattle.kernel_ask.specs.declared.done.NamedValue.{NamedValue}
-use Rattle.kernel_text.specs.NameSets.{with_name}
+use Rattle.kernel_ask.specs.NameSets.{with_name}
 use Rattle.kernel_ask.specs.Added.{with_match, with_matches}
-use Rattle.kernel_text.proofs.NameSets.{contains_none}
+use Rattle.kernel_ask.proofs.NameSets.{contains_none}
 use Rattle.kernel_ask.proofs.Added.{matches_from, matches_there}
 use Rattle.kernel_reply.specs.Comms.{comm_shown, with_comms}
 use Rattle.kernel_reply.specs.Execution.{value_shown, with_values}

@@ -10,9 +10,9 @@ use Rattle.jupyter_msg.specs.declared.history.HistoryAccess.TheVariants.{Range, 
 use Rattle.jupyter_msg.specs.declared.comm.CommAsk.{CommAsk}
 use Rattle.jupyter_msg.specs.declared.comm.CommAsk.TheVariants as ask
 use Rattle.jupyter_msg.specs.declared.comm.CommOpen.{CommOpen}
-use Rattle.kernel_core.specs.outcome.Outcome.{Outcome}
-use Rattle.kernel_core.specs.outcome.Outcome.TheVariants.{Ran, Failed, Interrupted, Undid, Redid, Went, Refused}
-use Rattle.kernel_core.specs.post.PostFault.{PostFault}
+use Rattle.kernel_ask.specs.outcome.Outcome.{Outcome}
+use Rattle.kernel_ask.specs.outcome.Outcome.TheVariants.{Ran, Failed, Interrupted, Undid, Redid, Went, Refused}
+use Rattle.kernel_ask.specs.post.PostFault.{PostFault}
 use Rattle.kernel_ask.specs.declared.done.Done.{Done}
 use Rattle.kernel_ask.specs.declared.answer.Content.{Content}
 use Rattle.kernel_ask.specs.declared.answer.Content.TheVariants as content

@@ -3,13 +3,13 @@ use Rattle.std.specs.Prelude.{ℕ, List, [], ◌∷◌, codes, Option, Some, Non
 use Rattle.serde_json.specs.Data.{Data}
 use Rattle.jupyter_msg.specs.declared.comm.CommAsk.{CommAsk}
 use Rattle.jupyter_msg.specs.declared.comm.CommAsk.TheVariants.{Undo, Redo, Goto, State, Other}
-use Rattle.kernel_core.specs.Refusal as refusal
-use Rattle.kernel_core.specs.PostFault as post_fault
-use Rattle.kernel_core.specs.outcome.TravelEnd.{TravelEnd}
-use Rattle.kernel_core.specs.outcome.TravelEnd.TheVariants.{All, Asked, NoMemory}
-use Rattle.kernel_core.specs.outcome.Outcome.{Outcome}
-use Rattle.kernel_core.specs.outcome.Outcome.TheVariants.{Ran, Failed, Interrupted, Undid, Redid, Went, Refused}
-use Rattle.kernel_core.specs.post.PostFault.{PostFault}
+use Rattle.kernel_ask.specs.Refusal as refusal
+use Rattle.kernel_ask.specs.PostFault as post_fault
+use Rattle.kernel_ask.specs.outcome.TravelEnd.{TravelEnd}
+use Rattle.kernel_ask.specs.outcome.TravelEnd.TheVariants.{All, Asked, NoMemory}
+use Rattle.kernel_ask.specs.outcome.Outcome.{Outcome}
+use Rattle.kernel_ask.specs.outcome.Outcome.TheVariants.{Ran, Failed, Interrupted, Undid, Redid, Went, Refused}
+use Rattle.kernel_ask.specs.post.PostFault.{PostFault}
 use Rattle.kernel_message.specs.Json.{record_of, text, count}
 use Rattle.kernel_reply.specs.Status.{ok}
 

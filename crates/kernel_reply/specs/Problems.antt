@@ -1,12 +1,12 @@
 -- What went wrong with a cell, a post or an expression: its name, and the line that tells it.
 use Rattle.std.specs.Prelude.{ℕ, List, codes, Option, Some, None}
-use Rattle.janus_machine.specs.Faults as fault
-use Rattle.kernel_core.specs.Refusal as refusal
-use Rattle.kernel_core.specs.PostFault as post_fault
-use Rattle.kernel_core.specs.outcome.Outcome.{Outcome}
-use Rattle.kernel_core.specs.outcome.Outcome.TheVariants.{Ran, Failed, Interrupted, Undid, Redid, Went, Refused}
-use Rattle.kernel_core.specs.post.PostFault.{PostFault}
-use Rattle.kernel_text.specs.Lines.{outcome_line, post_fault_line}
+use Rattle.janus_meaning.specs.Faults as fault
+use Rattle.kernel_ask.specs.Refusal as refusal
+use Rattle.kernel_ask.specs.PostFault as post_fault
+use Rattle.kernel_ask.specs.outcome.Outcome.{Outcome}
+use Rattle.kernel_ask.specs.outcome.Outcome.TheVariants.{Ran, Failed, Interrupted, Undid, Redid, Went, Refused}
+use Rattle.kernel_ask.specs.post.PostFault.{PostFault}
+use Rattle.kernel_ask.specs.TextLines.{outcome_line, post_fault_line}
 use Rattle.kernel_ask.specs.Lines.{exp_fault_line}
 use Rattle.kernel_ask.specs.declared.done.ExpFault.{ExpFault}
 use Rattle.kernel_ask.specs.declared.done.ExpFault.TheVariants as exp

@@ -8,8 +8,7 @@ ghost use Rattle.kernel_reply.specs.Answers.{job_says_with, ask_says, refusal_sa
 use crate::status::busy;
 use crate::tables::{ask_drafts, job_drafts, refusal_drafts};
 use jupyter_msg::{Message, MsgFault, Request};
-use kernel_ask::{Answer, Done};
-use kernel_core::PostFault;
+use kernel_ask::{Answer, Done, PostFault};
 use kernel_message::{Outgoing, Publication, Stamp, broadcast_of, send};
 use std::alloc::Global;
 

@@ -8,6 +8,8 @@
 //!
 //! The contents are those of the Jupyter messaging page (version 5.4); on comms of the target `janus.undo` cells are undone and redone.
 //! Lines are those of `kernel_text`, answers those of `kernel_ask`.
+//!
+//! It gives the names of `kernel_ask` and of the kernel again that a session cites: what is asked and what is answered.
 #![tactic(auto)]
 
 mod answering;
@@ -23,4 +25,9 @@ mod tables;
 
 pub use crate::answering::{answer, answer_ask, opening, opening_by_header, refuse};
 pub use crate::comms::{COMM_TARGET, asks_target};
+pub use kernel_ask::{
+    Answer, Ask, Begun, CellText, CommChange, Comms, Completeness, Content, Done, HallFault,
+    HistoryAsk, Job, Kernel, NamedValue, Outcome, PostFault, Refusal, Sliced, TravelEnd, Wish,
+    ask_on, is_settled, shown_of_node, stands_at_end,
+};
 pub use kernel_message::{Outgoing, Publication, Stamp};

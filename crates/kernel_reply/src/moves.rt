@@ -7,7 +7,7 @@ ghost use Rattle.kernel_reply.specs.Moves as table;
 
 use crate::comms::comm_msg;
 use jupyter_msg::CommAsk;
-use kernel_core::{Outcome, PostFault, TravelEnd};
+use kernel_ask::{Outcome, PostFault, TravelEnd};
 use kernel_message::{Draft, put_count, put_text};
 use serde_json::{Map, Value};
 use std::alloc::{AllocError, Global};

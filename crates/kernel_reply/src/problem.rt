@@ -3,8 +3,7 @@ ghost use Rattle.std.specs.Prelude.{◌≡◌, IfOk, option_map};
 ghost use Rattle.kernel_reply.specs.Problems as table;
 ghost use Rattle.kernel_reply.specs.Told.{told};
 
-use kernel_ask::{ExpFault, exp_fault_line, outcome_line, post_fault_line};
-use kernel_core::{Outcome, PostFault};
+use kernel_ask::{ExpFault, Outcome, PostFault, exp_fault_line, outcome_line, post_fault_line};
 use std::alloc::{AllocError, Global};
 
 /// What went wrong: its name, and the line that tells it.

@@ -15,8 +15,7 @@ use crate::replies::{
 };
 use crate::status::idle;
 use jupyter_msg::{CommAsk, CommMessage, CommOpen, HistoryAccess, HistoryRequest, RequestContent};
-use kernel_ask::{Content, Done, KernelState};
-use kernel_core::{Outcome, PostFault};
+use kernel_ask::{Content, Done, KernelState, Outcome, PostFault};
 use kernel_message::{Draft, Drafts};
 use std::alloc::{AllocError, Global};
 

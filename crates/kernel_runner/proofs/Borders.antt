@@ -20,8 +20,8 @@ use Rattle.janus_meaning.proofs.Worlds.{worlds_reverse, entered_is_good}
 use Rattle.janus_meaning.proofs.FormedWorlds.{shape_declared, entered_formed}
 use Rattle.janus_names.specs.Numbers.{GoOn}
 use Rattle.janus_store.specs.StoreState.{StoreState, Caller, IsWhole, AreSlots, shown_store, live_stacks, stacks_lent, own_names}
-use Rattle.janus_linear.specs.Open.{locals_in}
-use Rattle.janus_linear.specs.Within.{within}
+use Rattle.janus_machine.specs.LinearOpen.{locals_in}
+use Rattle.janus_machine.specs.Within.{within}
 use Rattle.janus_machine.specs.Bodies.{AreDefined, AreBodiesFrom, Define, onto}
 use Rattle.janus_machine.specs.Procedures.{kept_in}
 use Rattle.janus_machine.specs.Cursors.{outside_of, place_in, place_of, IsStanding}

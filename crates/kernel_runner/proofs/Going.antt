@@ -10,16 +10,17 @@ use Rattle.janus_slots.specs.Law.{RunsTheSame}
 use Rattle.janus_slots.proofs.Laws.{runs_are_the_same}
 use Rattle.janus_store.specs.StoreState.{StoreState, AreSlots}
 use Rattle.janus_machine.specs.Bodies.{AreInEffect, Define}
-use Rattle.janus_machine.specs.Counts.{counted, Counts, IsWritten}
+use Rattle.janus_machine.specs.Counts.{counted, Counts}
+use Rattle.janus_meaning.specs.Writes.{IsWritten}
 use Rattle.janus_machine.specs.Cursors.{IsStanding, has_ended}
-use Rattle.janus_machine.specs.Faults.{fault_of}
+use Rattle.janus_meaning.specs.Faults.{fault_of}
 use Rattle.janus_machine.specs.Law.{RunMeans, BackMeans}
 use Rattle.janus_machine.specs.Open.{Agrees}
 use Rattle.janus_machine.specs.Steps.{AreSteps, next_of, NoneBroken, IsSafeAhead, KeepsMet, SliceEndsBy}
 use Rattle.janus_machine.specs.declared.machine.End as ends
 use Rattle.janus_machine.specs.declared.machine.End.TheVariants as end
 use Rattle.janus_machine.specs.declared.cursor.Cursor.{Cursor}
-use Rattle.janus_machine.specs.declared.fault.Fault as machine
+use Rattle.janus_meaning.specs.declared.fault.Fault as machine
 use Rattle.janus_machine.proofs.BodiesInEffect.{defined_in_effect}
 use Rattle.janus_machine.proofs.Courses.{runs_mean, backs_mean}
 use Rattle.kernel_machine.specs.Language.{CodeStop, run_block}

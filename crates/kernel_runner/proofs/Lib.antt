@@ -4,3 +4,8 @@ pub mod Declaring
 pub mod Growing
 pub mod Running
 pub mod Slotted
+pub mod Crosses
+-- Of janus_machine, given again.
+pub use Rattle.janus_machine.proofs.Bodies
+pub use Rattle.janus_machine.proofs.BodiesInEffect
+pub use Rattle.janus_machine.proofs.GoesOn

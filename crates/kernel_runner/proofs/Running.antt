@@ -20,8 +20,8 @@ use Rattle.janus_machine.specs.Cursors.{place_of, has_ended, IsStanding}
 use Rattle.janus_machine.specs.Cursor.{calls_of, are_no_calls}
 use Rattle.janus_machine.specs.Steps.{Refuses}
 use Rattle.janus_machine.specs.Law.{seen_at}
-use Rattle.janus_machine.specs.Faults.{fault_of}
-use Rattle.janus_machine.specs.declared.fault.Fault as machine
+use Rattle.janus_meaning.specs.Faults.{fault_of}
+use Rattle.janus_meaning.specs.declared.fault.Fault as machine
 use Rattle.janus_machine.specs.declared.book.Book.{Book}
 use Rattle.janus_machine.specs.declared.book.Direction.{Direction}
 use Rattle.janus_machine.specs.declared.cursor.Call.{Call}

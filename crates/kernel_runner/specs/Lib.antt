@@ -3,3 +3,11 @@
 pub mod Program
 pub mod Declarable
 pub mod Runner
+-- Of janus_machine, given again.
+pub use Rattle.janus_machine.specs.Procedures
+pub use Rattle.janus_machine.specs.Bodies
+pub use Rattle.janus_machine.specs.declared.linked_procedure
+pub use Rattle.janus_machine.specs.declared.procedures
+pub use Rattle.janus_machine.specs.LinkedProcedure
+pub use Rattle.janus_machine.specs.Places
+pub use Rattle.janus_machine.specs.declared.book

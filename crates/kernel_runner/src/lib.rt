@@ -9,6 +9,8 @@
 //!
 //! The definitions are in specs/: `Program` (the cell that a program is), `Declarable` (what a store has room for) and `Runner` (the model of a
 //! runner, and what each call does to it).
+//!
+//! It gives the names of `janus_machine` again that the loader and the history cite: its books, procedures, store and writes.
 #![tactic(auto)]
 
 mod program;
@@ -16,3 +18,6 @@ mod runner;
 
 pub use crate::program::Program;
 pub use crate::runner::Runner;
+pub use janus_machine::{
+    Book, Cursor, FrameNames, LinkedProcedure, Procedures, Store, Writes, slice,
+};

@@ -13,7 +13,7 @@ ghost use Rattle.kernel_runner.specs.Program.{cell_of_program};
 ghost use Rattle.janus_names.specs.Numbers.{GoOn, IsUnmet};
 ghost use Rattle.janus_store.specs.StoreState.{IsWhole, shown_store};
 ghost use Rattle.janus_machine.specs.Procedures.{kept_in};
-ghost use Rattle.janus_machine.specs.Counts.{IsWritten};
+ghost use Rattle.janus_meaning.specs.Writes.{IsWritten};
 ghost use Rattle.kernel_runner.specs.Runner.{ShownWorld, over, Becomes, IsDeclaredOver, count_of, Is, Between, IsInside};
 ghost use Rattle.kernel_runner.specs.Runner.{CanEnter, CanReturn, CanLeave, Enters, EntersInverse, Runs, Turns, GoesBack, Leaves};
 ghost use Rattle.kernel_machine.specs.StepsOfSlices.{steps_on, steps_back};

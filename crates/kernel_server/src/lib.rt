@@ -10,6 +10,8 @@
 //!
 //! In reading order: `slice` and `lane` (what a lone kernel is given), `finish` (a job from its post to its end), `values` (of user expressions),
 //! `job` (a job with what is told of it), `lone` (the desk), `session` (a connection to it), `laws`.
+//!
+//! It gives again what a caller hands in and is answered: names of `kernel_session`, `kernel_ask` and the kernel.
 #![tactic(auto)]
 
 mod finish;
@@ -21,6 +23,10 @@ mod session;
 mod slice;
 mod values;
 
+pub use kernel_ask::{
+    Answer, Ask, CommChange, Comms, Content, Done, HallFault, HistoryAsk, Wish, is_complete,
+};
+pub use kernel_core::{Job, Kernel, PostFault};
 pub use kernel_session::{Desk, ServeFault, Socket, serve};
 pub use lone::LoneDesk;
 pub use session::serve_lone;

@@ -10,11 +10,11 @@ use Rattle.jupyter_msg.specs.declared.history.HistoryAccess.TheVariants.{Range, 
 use Rattle.jupyter_msg.specs.declared.comm.CommAsk.{CommAsk}
 use Rattle.jupyter_msg.specs.declared.comm.CommAsk.TheVariants as comm
 use Rattle.zmtp_peer.specs.Events.{Event}
-use Rattle.kernel_core.specs.Request.{Request, Undo, Redo, Goto}
-use Rattle.kernel_core.specs.post.PostFault.{PostFault}
-use Rattle.kernel_ask.specs.declared.done.Done.{Done}
-use Rattle.kernel_ask.specs.declared.answer.Answer.{Answer}
-use Rattle.kernel_ask.specs.declared.answer.HallFault.{HallFault}
+use Rattle.kernel_reply.specs.Request.{Request, Undo, Redo, Goto}
+use Rattle.kernel_reply.specs.post.PostFault.{PostFault}
+use Rattle.kernel_reply.specs.done.Done.{Done}
+use Rattle.kernel_reply.specs.answer.Answer.{Answer}
+use Rattle.kernel_reply.specs.answer.HallFault.{HallFault}
 use Rattle.kernel_message.specs.Message.{asker_of}
 use Rattle.kernel_message.specs.declared.stamp.Stamp.{Stamp}
 use Rattle.kernel_reply.specs.Laws.{EndsIdle}

@@ -1,12 +1,12 @@
 -- What a request has the desk do, from what was said to it.
 use Rattle.std.proofs.Common.{◌≡◌, ℕ, Bool, true, false, List, [], ◌∷◌, Option, Some, Result, Ok, Err, IfOk, refl, sym, subst, if◌then◌else◌}
 use Rattle.std.specs.Str.{bytes_eq}
-use Rattle.kernel_core.specs.post.PostFault.{PostFault}
-use Rattle.kernel_core.specs.post.PostFault.TheVariants as post_fault
-use Rattle.kernel_ask.specs.declared.done.Done.{Done}
-use Rattle.kernel_ask.specs.declared.answer.Answer.{Answer}
-use Rattle.kernel_ask.specs.declared.answer.HallFault.{HallFault}
-use Rattle.kernel_ask.specs.declared.answer.HallFault.TheVariants as hall_fault
+use Rattle.kernel_reply.specs.post.PostFault.{PostFault}
+use Rattle.kernel_reply.specs.post.PostFault.TheVariants as post_fault
+use Rattle.kernel_reply.specs.done.Done.{Done}
+use Rattle.kernel_reply.specs.answer.Answer.{Answer}
+use Rattle.kernel_reply.specs.answer.HallFault.{HallFault}
+use Rattle.kernel_reply.specs.answer.HallFault.TheVariants as hall_fault
 use Rattle.kernel_session.specs.declared.talk.Consulted.{Consulted}
 use Rattle.kernel_session.specs.declared.talk.DeskReply.{DeskReply}
 use Rattle.kernel_session.specs.declared.talk.DeskReply.TheVariants.{Answered}

@@ -1,10 +1,10 @@
 -- The calls that a connection makes of its desk, each with its answer.
 use Rattle.std.specs.Prelude.{◌≡◌, ℕ, Bool, List, [], ◌∷◌, Result}
-use Rattle.kernel_core.specs.Request.{Request}
-use Rattle.kernel_core.specs.post.PostFault.{PostFault}
-use Rattle.kernel_ask.specs.declared.done.Done.{Done}
-use Rattle.kernel_ask.specs.declared.answer.Answer.{Answer}
-use Rattle.kernel_ask.specs.declared.answer.HallFault.{HallFault}
+use Rattle.kernel_reply.specs.Request.{Request}
+use Rattle.kernel_reply.specs.post.PostFault.{PostFault}
+use Rattle.kernel_reply.specs.done.Done.{Done}
+use Rattle.kernel_reply.specs.answer.Answer.{Answer}
+use Rattle.kernel_reply.specs.answer.HallFault.{HallFault}
 use Rattle.kernel_board.specs.Frames.{Frames}
 use Rattle.kernel_session.specs.Question.{Question, Change, Wishes}
 

@@ -11,12 +11,12 @@ use Rattle.jupyter_msg.specs.declared.comm.CommAsk.{CommAsk}
 use Rattle.jupyter_msg.specs.declared.comm.CommAsk.TheVariants as comm
 use Rattle.jupyter_msg.specs.Requests.{expressions_of}
 use Rattle.zmtp_peer.specs.Events.{Event}
-use Rattle.kernel_core.specs.Request.{Request, RunCell, Undo, Redo, Goto}
-use Rattle.kernel_core.specs.post.PostFault.{PostFault}
-use Rattle.kernel_ask.specs.declared.inputs.HistoryAsk.TheVariants as inputs
-use Rattle.kernel_ask.specs.declared.done.Done.{Done}
-use Rattle.kernel_ask.specs.declared.answer.Answer.{Answer}
-use Rattle.kernel_ask.specs.declared.answer.HallFault.{HallFault}
+use Rattle.kernel_reply.specs.Request.{Request, RunCell, Undo, Redo, Goto}
+use Rattle.kernel_reply.specs.post.PostFault.{PostFault}
+use Rattle.kernel_reply.specs.inputs.HistoryAsk.TheVariants as inputs
+use Rattle.kernel_reply.specs.done.Done.{Done}
+use Rattle.kernel_reply.specs.answer.Answer.{Answer}
+use Rattle.kernel_reply.specs.answer.HallFault.{HallFault}
 use Rattle.kernel_message.specs.Message.{asker_of}
 use Rattle.kernel_message.specs.Said.{Says}
 use Rattle.kernel_message.specs.declared.stamp.Stamp.{Stamp}

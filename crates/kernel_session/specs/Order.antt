@@ -1,6 +1,6 @@
 -- What a request orders of its desk: its calls without their answers.
 use Rattle.std.specs.Prelude.{◌≡◌, List, map, Option, Some, None}
-use Rattle.kernel_core.specs.Request.{Request}
+use Rattle.kernel_reply.specs.Request.{Request}
 use Rattle.kernel_session.specs.Question.{Question, Change, Wishes}
 use Rattle.kernel_session.specs.Call as call
 use Rattle.kernel_session.specs.Call.{Call}

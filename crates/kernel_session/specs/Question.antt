@@ -1,11 +1,11 @@
 -- What a connection asks of its desk, without where it lies in memory.
 use Rattle.std.specs.Prelude.{ℕ, List, Option, map, string_bytes}
-use Rattle.kernel_ask.specs.declared.inputs.HistoryAsk.{HistoryAsk}
-use Rattle.kernel_ask.specs.declared.answer.Ask.{Ask}
-use Rattle.kernel_ask.specs.declared.answer.Ask.TheVariants as ask
-use Rattle.kernel_ask.specs.Wishes.{WishOf}
-use Rattle.kernel_ask.specs.declared.comm_change.CommChange.{CommChange}
-use Rattle.kernel_ask.specs.declared.comm_change.CommChange.TheVariants as comm
+use Rattle.kernel_reply.specs.inputs.HistoryAsk.{HistoryAsk}
+use Rattle.kernel_reply.specs.answer.Ask.{Ask}
+use Rattle.kernel_reply.specs.answer.Ask.TheVariants as ask
+use Rattle.kernel_reply.specs.Wishes.{WishOf}
+use Rattle.kernel_reply.specs.comm_change.CommChange.{CommChange}
+use Rattle.kernel_reply.specs.comm_change.CommChange.TheVariants as comm
 
 -- a question, with its texts as octets
 pub data Question : Type 0 where

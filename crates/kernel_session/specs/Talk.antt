@@ -9,14 +9,14 @@ use Rattle.jupyter_msg.specs.declared.history.HistoryAccess.TheVariants.{Range, 
 use Rattle.jupyter_msg.specs.declared.comm.CommAsk.{CommAsk}
 use Rattle.jupyter_msg.specs.declared.comm.CommAsk.TheVariants as comm
 use Rattle.jupyter_msg.specs.Requests.{expressions_of}
-use Rattle.kernel_core.specs.Request.{Request, RunCell, Undo, Redo, Goto}
-use Rattle.kernel_core.specs.post.PostFault.{PostFault}
-use Rattle.kernel_ask.specs.declared.inputs.HistoryAsk.TheVariants as asked
-use Rattle.kernel_ask.specs.declared.done.Done.{Done}
-use Rattle.kernel_ask.specs.declared.answer.Answer.{Answer}
-use Rattle.kernel_ask.specs.declared.answer.Content.{Content}
-use Rattle.kernel_ask.specs.declared.answer.Content.TheVariants as content
-use Rattle.kernel_ask.specs.declared.answer.HallFault.{HallFault}
+use Rattle.kernel_reply.specs.Request.{Request, RunCell, Undo, Redo, Goto}
+use Rattle.kernel_reply.specs.post.PostFault.{PostFault}
+use Rattle.kernel_reply.specs.inputs.HistoryAsk.TheVariants as asked
+use Rattle.kernel_reply.specs.done.Done.{Done}
+use Rattle.kernel_reply.specs.answer.Answer.{Answer}
+use Rattle.kernel_reply.specs.answer.Content.{Content}
+use Rattle.kernel_reply.specs.answer.Content.TheVariants as content
+use Rattle.kernel_reply.specs.answer.HallFault.{HallFault}
 use Rattle.kernel_message.specs.Said.{Says}
 use Rattle.kernel_reply.specs.Answers.{job_says, job_says_with, ask_says, refusal_says, refusal_says_with}
 use Rattle.kernel_reply.specs.Comms.{asks_target, target as undo_target}

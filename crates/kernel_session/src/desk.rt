@@ -1,13 +1,12 @@
 //! What a connection asks of the kernel behind it.
 ghost use Rattle.std.specs.Prelude.{◌≡◌, IfOk, OnErr};
-ghost use Rattle.kernel_core.specs.Request.{request_of};
+ghost use Rattle.kernel_reply.specs.Request.{request_of};
 ghost use Rattle.kernel_session.specs.Question.{question_of, change_of, wishes_of};
 ghost use Rattle.kernel_session.specs.Session.{IsDated};
 
-use kernel_ask::{Answer, Ask, CommChange, Done, HallFault, Wish};
 use kernel_board::Broadcast;
-use kernel_core::{Job, PostFault};
 use kernel_message::Stamp;
+use kernel_reply::{Answer, Ask, CommChange, Done, HallFault, Job, PostFault, Wish};
 use std::alloc::{AllocError, Global};
 
 /// The calls that a connection makes. What they mean is the relation `leads`: each call with its answer leads from one desk to the

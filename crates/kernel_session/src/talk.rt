@@ -2,11 +2,11 @@
 ghost use Rattle.std.specs.Prelude.{◌≡◌, ◌++◌, ◌∷◌, [], Bool, IfOk, OnOk, OnErr, Result, option_map, string_bytes};
 ghost use Rattle.std.specs.Str.{bytes_eq};
 ghost use Rattle.jupyter_msg.specs.Requests.{expressions_of};
-ghost use Rattle.kernel_core.specs.Request.{request_of, RunCell};
-ghost use Rattle.kernel_core.specs.post.PostFault.{PostFault};
-ghost use Rattle.kernel_ask.specs.declared.done.Done.{Done};
-ghost use Rattle.kernel_ask.specs.declared.answer.Answer.{Answer};
-ghost use Rattle.kernel_ask.specs.declared.answer.HallFault.{HallFault};
+ghost use Rattle.kernel_reply.specs.Request.{request_of, RunCell};
+ghost use Rattle.kernel_reply.specs.post.PostFault.{PostFault};
+ghost use Rattle.kernel_reply.specs.done.Done.{Done};
+ghost use Rattle.kernel_reply.specs.answer.Answer.{Answer};
+ghost use Rattle.kernel_reply.specs.answer.HallFault.{HallFault};
 ghost use Rattle.kernel_session.specs.Question.{question_of, wishes_of, Complete, Inspect, IsComplete};
 ghost use Rattle.kernel_reply.specs.Comms.{target as undo_target};
 ghost use Rattle.kernel_session.specs.Call.{Rang, Shut};
@@ -21,9 +21,10 @@ use jupyter_msg::{
     CommAsk, CommOpen, CompleteRequest, ExecuteRequest, HistoryAccess, HistoryRequest,
     InspectRequest, IsCompleteRequest, RequestContent, UserExpression,
 };
-use kernel_ask::{Answer, Ask, CommChange, Content, Done, HallFault, HistoryAsk, Wish};
-use kernel_core::{CellText, Job, PostFault};
-use kernel_reply::{COMM_TARGET, asks_target};
+use kernel_reply::{
+    Answer, Ask, COMM_TARGET, CellText, CommChange, Content, Done, HallFault, HistoryAsk, Job,
+    PostFault, Wish, asks_target,
+};
 use std::alloc::{AllocError, Global};
 use std::mem;
 

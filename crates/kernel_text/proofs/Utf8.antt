@@ -8,10 +8,10 @@ use Rattle.std.specs.Str.{IsUtf8}
 use Rattle.std.proofs.lemmas.Bool.{lt-ltb, ltb-true}
 use Rattle.std.proofs.lemmas.Str.{IsUtf8-append, IsUtf8-from_ascii, IsUtf8-nil}
 use Rattle.janus_meaning.specs.Store.{Val, Num, Arr, Stk, Lent}
-use Rattle.janus_machine.specs.Faults as fault
-use Rattle.janus_machine.specs.declared.fault.Fault.{Fault}
-use Rattle.janus_machine.specs.declared.fault.Fault.TheVariants.{FiAssertion, EntryAssertion, LoopAssertion, DelocalMismatch, PopNotZero, PopEmpty, TopEmpty}
-use Rattle.janus_machine.specs.declared.fault.Fault.TheVariants.{DivisionByZero, IndexRange, StackFull, TooDeep, TooManyStacks, StepLimit}
+use Rattle.janus_meaning.specs.Faults as fault
+use Rattle.janus_meaning.specs.declared.fault.Fault.{Fault}
+use Rattle.janus_meaning.specs.declared.fault.Fault.TheVariants.{FiAssertion, EntryAssertion, LoopAssertion, DelocalMismatch, PopNotZero, PopEmpty, TopEmpty}
+use Rattle.janus_meaning.specs.declared.fault.Fault.TheVariants.{DivisionByZero, IndexRange, StackFull, TooDeep, TooManyStacks, StepLimit}
 use Rattle.janus_syntax.specs.Fault as syntax
 use Rattle.janus_syntax.specs.declared.fault.SyntaxFault.{SyntaxFault}
 use Rattle.janus_syntax.specs.declared.fault.SyntaxFault.TheVariants as s

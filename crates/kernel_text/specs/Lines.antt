@@ -1,7 +1,7 @@
 -- The lines in which outcomes, faults and refusals are told, without their LF.
 use Rattle.std.specs.Prelude.{ℕ, List, [], ◌++◌, Option, Some, None, codes, decimal}
-use Rattle.janus_machine.specs.Faults as fault
-use Rattle.janus_machine.specs.declared.fault.Fault.{Fault}
+use Rattle.janus_meaning.specs.Faults as fault
+use Rattle.janus_meaning.specs.declared.fault.Fault.{Fault}
 use Rattle.janus_syntax.specs.declared.token.Span.{Span}
 use Rattle.kernel_core.specs.Refusal as refusal
 use Rattle.kernel_core.specs.PostFault as post_fault

@@ -7,6 +7,8 @@
 //! Programs that write lines and messages that tell errors say the same words, since both take them from here (specs/: `Lines`,
 //! `ValueTexts`, `ProcedureTexts`, `Procedures`, and `NameSets`, the order of names that are told). [`laws`] says that a procedure has one text,
 //! however its tree is placed.
+//!
+//! It gives the names of `kernel_core` again that `kernel_ask` cites: texts are of what a kernel tells, so who names them names both.
 #![tactic(auto)]
 
 pub mod laws;
@@ -23,3 +25,7 @@ pub use crate::procedures::{newest_of, procedure_text};
 pub use crate::values::{SHOWN_VALUES, send_value, value_text};
 pub use crate::writing::send_counted;
 pub use exact_write::{WriteFailed, send};
+pub use kernel_core::{
+    Begun, CellText, CheckFault, Entry, Fault, Job, Kernel, Outcome, Phase, PostFault, Refusal,
+    STEPS_OF_A_SLICE, Sliced, SyntaxFault, TravelEnd, names_in_sight,
+};

@@ -4,9 +4,9 @@ use Rattle.std.proofs.Common.{◌≡◌, ℕ, ◌+◌, ◌-◌, ◌<◌, ◌≤�
 use Rattle.std.proofs.Common.{Err}
 use Rattle.janus_meaning.specs.Fault as meaning
 use Rattle.janus_meaning.specs.World.{World, Cell}
-use Rattle.janus_machine.specs.Faults.{fault_of}
-use Rattle.janus_machine.specs.declared.fault.Fault.{Fault}
-use Rattle.janus_machine.specs.declared.fault.Fault.TheVariants as fault
+use Rattle.janus_meaning.specs.Faults.{fault_of}
+use Rattle.janus_meaning.specs.declared.fault.Fault.{Fault}
+use Rattle.janus_meaning.specs.declared.fault.Fault.TheVariants as fault
 use Rattle.kernel_machine.specs.Language.{Code, CodePart}
 use Rattle.kernel_machine.specs.Reached.{Reaches}
 use Rattle.kernel_machine.specs.declared.progress.Progress.{Progress}

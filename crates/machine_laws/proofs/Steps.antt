@@ -3,7 +3,7 @@ use Rattle.std.specs.Prelude.{Bool, true, false}
 use Rattle.std.proofs.Common.{◌≡◌, ℕ, ◌+◌, ◌-◌, ◌<◌, ◌≤◌, zero, suc, sym, ap, ◌∙◌, subst, arith, inl, inr}
 use Rattle.std.proofs.lemmas.Bool.{cases_lt}
 use Rattle.janus_meaning.specs.World.{World}
-use Rattle.janus_machine.specs.Faults.{fault_of}
+use Rattle.janus_meaning.specs.Faults.{fault_of}
 use Rattle.kernel_machine.specs.Language.{CodePart}
 use Rattle.kernel_machine.specs.Reached.{Reaches}
 use Rattle.kernel_machine.specs.declared.progress.Progress.{Progress}

@@ -27,7 +27,7 @@ use Rattle.kernel_machine.specs.declared.events.Event.{Event}
 use Rattle.kernel_machine.specs.declared.events.Event.TheVariants as event
 use Rattle.kernel_machine.specs.declared.events.Told.{Told}
 use Rattle.kernel_machine.specs.declared.events.Told.TheVariants as told
-use Rattle.janus_machine.specs.declared.fault.Fault.{Fault}
+use Rattle.janus_meaning.specs.declared.fault.Fault.{Fault}
 use Rattle.machine_laws.specs.Theorems.{EndsAs}
 
 -- ---- where a travel leads

@@ -3,14 +3,10 @@
 //! refused.
 ghost use Rattle.std.specs.Prelude.{◌≡◌, ◌<◌, IfOk};
 
-use kernel_ask::{Comms, Done};
 use kernel_bell::{Bell, RingerSeat};
 use kernel_board::Broadcast;
-use kernel_core::{Job, Kernel, PostFault};
-use kernel_desk::HallDesk;
-use kernel_hall::Hall;
+use kernel_desk::{Comms, Desk, Done, Hall, HallDesk, Job, Kernel, PostFault};
 use kernel_iopub::Bulletin;
-use kernel_session::Desk;
 use std::alloc::{AllocError, Global};
 use std::marker::Brand;
 use std::str;

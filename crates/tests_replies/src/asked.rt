@@ -4,8 +4,7 @@ use crate::report::{Report, answered};
 use jupyter_msg::{
     CommAsk, ExecuteRequest, HistoryAccess, HistoryRequest, RequestContent, UserExpression,
 };
-use kernel_ask::{Ask, Comms, HistoryAsk};
-use kernel_core::{Job, Kernel};
+use kernel_reply::{Ask, Comms, HistoryAsk, Job, Kernel};
 use std::alloc::{AllocError, Global};
 use std::sync::ledger::Ledger;
 

@@ -3,10 +3,8 @@ ghost use Rattle.jupyter_msg.specs.Opened.{IsRead};
 
 use crate::report::{Report, told_of};
 use jupyter_msg::{Key, Message, MsgFault, Opened, Request, RequestContent, open, seal};
-use kernel_ask::Comms;
-use kernel_core::Kernel;
 use kernel_message::{Outgoing, Stamp};
-use kernel_reply::{answer, answer_ask, opening, refuse};
+use kernel_reply::{Comms, Kernel, answer, answer_ask, opening, refuse};
 use std::alloc::{AllocError, Global};
 use std::sync::ledger::Ledger;
 use tests_rows::{Sheet, frames_shown};

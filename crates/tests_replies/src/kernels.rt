@@ -1,7 +1,9 @@
 //! Jobs of a kernel, run to their ends.
 use jupyter_msg::UserExpression;
-use kernel_ask::{Done, NamedValue, Wish, is_settled, shown_of_node, stands_at_end};
-use kernel_core::{Begun, CellText, Job, Kernel, Outcome, Sliced};
+use kernel_reply::{
+    Begun, CellText, Done, Job, Kernel, NamedValue, Outcome, Sliced, Wish, is_settled,
+    shown_of_node, stands_at_end,
+};
 use std::alloc::{AllocError, Global};
 use std::sync::ledger::Ledger;
 

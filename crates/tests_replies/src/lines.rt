@@ -1,8 +1,7 @@
 //! Lines before a request, with a semicolon between them: cells, and `%undo 1`, `%redo 1`, `%goto 1`, `%shut`, `%post CELL` for a cell
 //! that waits, and `%open ID` for a comm.
 use crate::kernels::{SLICES, cell_of, post, run};
-use kernel_ask::Comms;
-use kernel_core::{Job, Kernel, Outcome, Refusal};
+use kernel_reply::{Comms, Job, Kernel, Outcome, Refusal};
 use std::alloc::{AllocError, Global};
 use std::sync::ledger::Ledger;
 use tests_rows::{Sheet, cut, unescaped};

@@ -5,8 +5,10 @@
 use crate::asked::asked;
 use crate::kernels::{SLICES, done};
 use jupyter_msg::RequestContent;
-use kernel_ask::{Answer, Ask, Comms, Completeness, Content, Done, NamedValue, ask_on};
-use kernel_core::{Kernel, Outcome, PostFault, TravelEnd};
+use kernel_reply::{
+    Answer, Ask, Comms, Completeness, Content, Done, Kernel, NamedValue, Outcome, PostFault,
+    TravelEnd, ask_on,
+};
 use std::alloc::{AllocError, Global};
 use std::sync::ledger::Ledger;
 use tests_rows::cut;

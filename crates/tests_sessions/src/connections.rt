@@ -5,7 +5,7 @@ use crate::streams::{LimitedWriter, Pieces};
 use jupyter_msg::Key;
 use kernel_board::Broadcast;
 use kernel_message::Stamp;
-use kernel_session::{ServeFault, Socket, serve};
+use kernel_server::{ServeFault, Socket, serve};
 use std::sync::atomic::AtomicUsize;
 use tests_rows::Sheet;
 

@@ -1,11 +1,10 @@
 //! A desk that has no kernel behind it: it judges code, takes down what it is called for, keeps what is published, and refuses jobs.
-use kernel_ask::{
-    Answer, Ask, CommChange, Content, Done, HallFault, HistoryAsk, Wish, is_complete,
-};
 use kernel_board::Broadcast;
-use kernel_core::{Job, PostFault};
 use kernel_message::Stamp;
-use kernel_session::Desk;
+use kernel_server::{
+    Answer, Ask, CommChange, Content, Desk, Done, HallFault, HistoryAsk, Job, PostFault, Wish,
+    is_complete,
+};
 use std::alloc::{AllocError, Global};
 use tests_rows::Sheet;
 

@@ -3,10 +3,10 @@
 ghost use Rattle.std.specs.Prelude.{◌≡◌, ◌<◌};
 
 use crate::lines::note;
-use kernel_ask::Comms;
 use kernel_bell::{Bell, RingerSeat, RunnerSeat};
-use kernel_core::{Begun, Kernel, Outcome, Sliced};
-use kernel_hall::{Gate, Hall, STEPS_OF_A_SLICE, Turn, work};
+use kernel_hall::{
+    Begun, Comms, Gate, Hall, Kernel, Outcome, STEPS_OF_A_SLICE, Sliced, Turn, work,
+};
 use std::alloc::{AllocError, Global};
 use std::sync::Wait;
 use std::sync::ledger::{Blank, Ledger};

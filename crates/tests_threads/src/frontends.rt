@@ -10,9 +10,10 @@
 //! `lose` loses the last pass, which it gives. `first` (a ticket) puts a ticket to the front of the others. `claim` (three numbers, and a code)
 //! claims a ticket of a cell. `alter` gives the outcome of the last end, and puts another one in its place.
 use crate::lines::note;
-use kernel_ask::{Answer, Ask, Content, Done, HallFault, Wish};
-use kernel_core::{CellText, Job, Outcome, PostFault};
-use kernel_hall::{CommChange, Hall, Pass, Ticket};
+use kernel_hall::{
+    Answer, Ask, CellText, CommChange, Content, Done, Hall, HallFault, Job, Outcome, Pass,
+    PostFault, Ticket, Wish,
+};
 use std::alloc::{AllocError, Global};
 use std::sync::Wait;
 use std::sync::ledger::Ledger;

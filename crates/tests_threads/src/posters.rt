@@ -3,9 +3,7 @@
 //! steps.
 use crate::frontends::{Away, job_of};
 use crate::lines::note;
-use kernel_ask::{Done, HallFault};
-use kernel_core::{Outcome, PostFault, Refusal};
-use kernel_hall::{Hall, Pass, Ticket};
+use kernel_hall::{Done, Hall, HallFault, Outcome, Pass, PostFault, Refusal, Ticket};
 use std::alloc::Global;
 use std::sync::ledger::Ledger;
 use std::sync::{Mutex, Wait};

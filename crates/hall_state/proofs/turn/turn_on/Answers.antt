@@ -1,5 +1,5 @@
 use Rattle.std.proofs.Common.{length, ap}
-use Rattle.kernel_core.proofs.Posts.{begin_keeps_posts, slice_keeps_posts}
+use Rattle.kernel_audit.proofs.Posts.{begin_keeps_posts, slice_keeps_posts}
 use Rattle.hall_state.proofs.turn.turn_on.Goals as goal
 
 pub returns-in-Inside-clause-posts : goal.returns-in-Inside-clause-posts

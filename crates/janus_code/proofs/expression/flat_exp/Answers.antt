@@ -2,7 +2,7 @@ use Rattle.std.proofs.Common.{◌∙◌, arith}
 use Rattle.janus_meaning.specs.Syntax.{names_of}
 use Rattle.janus_syntax.specs.View.{exp_of as plain}
 use Rattle.janus_check.specs.Sight.{in_sight}
-use Rattle.janus_slots.proofs.Stores.{length_names}
+use Rattle.janus_check.proofs.Stores.{length_names}
 use Rattle.janus_code.specs.Slotted.{all_slots}
 use Rattle.janus_code.proofs.Flattened.{if_ok}
 use Rattle.janus_code.proofs.Seeing.{exp_seen}

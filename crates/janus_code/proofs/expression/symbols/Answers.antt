@@ -1,7 +1,7 @@
 use Rattle.std.proofs.Common.{List, map, take, ◌∷◌, ◌++◌, [], ap, ◌∙◌, sym, subst}
 use Rattle.std.proofs.lemmas.List.{map-append}
 use Rattle.janus_meaning.specs.Syntax.{names_of}
-use Rattle.janus_slots.specs.Slots.{slot_in, slots_in}
+use Rattle.janus_check.specs.Slots.{slot_in, slots_in}
 use Rattle.janus_syntax.specs.Tree.{name_view, names_view}
 use Rattle.janus_syntax.specs.View.{text_of}
 use Rattle.janus_check.specs.Sight.{in_sight}

@@ -1,6 +1,6 @@
 use Rattle.std.proofs.Common.{◌≡◌, map, take}
 use Rattle.janus_meaning.specs.Syntax.{names_of}
-use Rattle.janus_slots.specs.Slots.{slots_in}
+use Rattle.janus_check.specs.Slots.{slots_in}
 use Rattle.janus_syntax.specs.Tree.{names_view}
 use Rattle.janus_syntax.specs.View.{text_of}
 use Rattle.janus_check.specs.Sight.{in_sight}

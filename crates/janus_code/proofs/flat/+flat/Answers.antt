@@ -10,7 +10,7 @@ use Rattle.janus_code.proofs.Flattened.{local_int_flat, local_stack_flat}
 use Rattle.janus_code.proofs.Seeing.{block_weight, one_seen, one_lighter}
 use Rattle.janus_check.specs.Sight.{in_sight}
 use Rattle.janus_meaning.specs.Syntax.{ANumber, AStack, names_of}
-use Rattle.janus_slots.specs.Slots.{stm_in, block_in}
+use Rattle.janus_check.specs.Slots.{stm_in, block_in}
 use Rattle.janus_code.specs.Seen.{SeesBlk}
 use Rattle.janus_code.specs.Slotted.{all_slots}
 use Rattle.janus_code.proofs.Slotting.{symbols_more, exp_more, fits}

@@ -8,7 +8,7 @@ use Rattle.janus_code.specs.Grown.{Grows}
 use Rattle.janus_code.specs.Numbered.{HaveNumbers}
 use Rattle.janus_check.specs.Sight.{in_sight}
 use Rattle.janus_meaning.specs.Syntax.{Name, names_of}
-use Rattle.janus_slots.specs.Slots.{stm_in}
+use Rattle.janus_check.specs.Slots.{stm_in}
 use Rattle.janus_code.specs.Slotted.{all_slots}
 use Rattle.janus_code.specs.Width.{open_in_block}
 use Rattle.janus_code.proofs.flat.+flat.Given as goal

@@ -1,6 +1,6 @@
 use Rattle.std.proofs.Common.{◌≡◌, ℕ, List, ◌≤◌, length, ◌∙◌, sym, subst, arith}
 use Rattle.janus_meaning.specs.Syntax.{names_of}
-use Rattle.janus_slots.specs.Slots.{block_in}
+use Rattle.janus_check.specs.Slots.{block_in}
 use Rattle.janus_syntax.specs.View.{block_of}
 use Rattle.janus_check.specs.Sight.{in_sight}
 use Rattle.janus_code.specs.Flat.{block_at, tree_at}

@@ -1,8 +1,8 @@
 use Rattle.std.proofs.Common.{◌≡◌, ◌∙◌, length, ap, sym}
 use Rattle.janus_meaning.specs.Syntax.{names_of}
-use Rattle.janus_slots.specs.Slots.{slot}
+use Rattle.janus_check.specs.Slots.{slot}
 use Rattle.janus_check.specs.Sight.{in_sight}
-use Rattle.janus_slots.proofs.Stores.{length_names}
+use Rattle.janus_check.proofs.Stores.{length_names}
 use Rattle.janus_code.proofs.flat.local.Goals as goal
 
 pub returns-clause-name : goal.returns-clause-name

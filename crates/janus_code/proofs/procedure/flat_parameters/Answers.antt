@@ -1,6 +1,6 @@
 use Rattle.std.proofs.Common.{◌≡◌, ◌<◌, List, map, drop, ◌∷◌, ◌++◌, ◌+◌, [], length, ap, ◌∙◌, sym, subst, arith}
 use Rattle.std.proofs.lemmas.List.{map-append, length-drop}
-use Rattle.janus_slots.specs.Slots.{slot, stacked}
+use Rattle.janus_check.specs.Slots.{slot, stacked}
 use Rattle.janus_syntax.specs.Tree.{parameter_view, parameters_view}
 use Rattle.janus_syntax.specs.View.{plain_parameter}
 use Rattle.janus_check.specs.Names.{meant_kind}

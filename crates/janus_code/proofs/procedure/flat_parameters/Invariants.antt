@@ -1,5 +1,5 @@
 use Rattle.std.proofs.Common.{◌≡◌, ◌++◌, drop, length, map}
-use Rattle.janus_slots.specs.Slots.{stacked}
+use Rattle.janus_check.specs.Slots.{stacked}
 use Rattle.janus_syntax.specs.Tree.{parameters_view}
 use Rattle.janus_syntax.specs.View.{plain_parameter}
 use Rattle.janus_code.specs.Procedures.{params_of, ParametersHaveNumbers}

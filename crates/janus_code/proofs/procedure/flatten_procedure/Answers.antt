@@ -1,7 +1,7 @@
 use Rattle.std.proofs.Common.{◌≡◌, ◌≤◌, map, length, ap, ◌∙◌, sym, subst, arith}
 use Rattle.janus_meaning.specs.Syntax.{names_of}
 use Rattle.janus_meaning.specs.Shape.{Shape}
-use Rattle.janus_slots.specs.Slots.{stacked, block_in}
+use Rattle.janus_check.specs.Slots.{stacked, block_in}
 use Rattle.janus_syntax.specs.Tree.{parameters_view}
 use Rattle.janus_syntax.specs.View.{plain_parameter, block_of}
 use Rattle.janus_check.specs.Check.{body_sight}

@@ -1,7 +1,7 @@
 use Rattle.std.proofs.Common.{ap, sym, subst}
 use Rattle.janus_meaning.specs.Moves.{drop_int, drop_stack}
 use Rattle.janus_code.specs.Expressions.{exp_of, symbol_name}
-use Rattle.janus_machine.specs.Faults.{IsDone}
+use Rattle.janus_meaning.specs.Faults.{IsDone}
 use Rattle.janus_machine.specs.Statements.{closed_of}
 use Rattle.janus_machine.proofs.local.close.Goals as goal
 

@@ -2,7 +2,7 @@ use Rattle.std.proofs.Common.{ap, sym, subst}
 use Rattle.janus_code.specs.Expressions.{exp_of, symbol_name}
 use Rattle.janus_evaluation.specs.Locals.{number_opened, stack_opened}
 use Rattle.janus_store.specs.StoreState.{live_stacks}
-use Rattle.janus_machine.specs.Faults.{IsDone}
+use Rattle.janus_meaning.specs.Faults.{IsDone}
 use Rattle.janus_machine.specs.Statements.{opened_of}
 use Rattle.janus_machine.proofs.local.open.Goals as goal
 

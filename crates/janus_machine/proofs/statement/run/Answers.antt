@@ -5,7 +5,7 @@ use Rattle.janus_store.specs.StoreState.{values_lent}
 use Rattle.janus_syntax.specs.View.{update_of}
 use Rattle.janus_code.specs.Expressions.{exp_of, symbol_name}
 use Rattle.janus_code.specs.Numbered.{StatementHasNumbers}
-use Rattle.janus_machine.specs.Faults.{IsDone}
+use Rattle.janus_meaning.specs.Faults.{IsDone}
 use Rattle.janus_machine.specs.Statements.{run_of}
 use Rattle.janus_machine.proofs.statement.run.Goals as goal
 

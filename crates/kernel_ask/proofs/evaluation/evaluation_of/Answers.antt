@@ -7,8 +7,8 @@ use Rattle.janus_syntax.specs.declared.fault.SyntaxFault.{SyntaxFault}
 use Rattle.janus_syntax.specs.declared.fault.SyntaxFault.TheVariants as fault
 use Rattle.janus_meaning.specs.Shape.{AreDistinct, shape_of}
 use Rattle.janus_meaning.specs.FormedWorld.{HaveValues}
-use Rattle.kernel_core.specs.Text.{refused_by_syntax}
-use Rattle.kernel_core.specs.outcome.Refusal.{Refusal}
+use Rattle.kernel_text.specs.Text.{refused_by_syntax}
+use Rattle.kernel_text.specs.outcome.Refusal.{Refusal}
 use Rattle.kernel_ask.specs.declared.done.ExpFault.TheVariants.{Refused}
 use Rattle.kernel_ask.specs.Evaluation.{IsEvaluated}
 use Rattle.kernel_ask.proofs.evaluation.evaluation_of.Goals as goal

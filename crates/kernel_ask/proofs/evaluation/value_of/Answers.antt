@@ -14,8 +14,8 @@ use Rattle.janus_check.specs.Fault.{IsFirst}
 use Rattle.janus_check.specs.declared.fault.CheckFault.{CheckFault}
 use Rattle.janus_check.specs.declared.fault.CheckFault.TheVariants as fault
 use Rattle.janus_store.specs.StoreState.{shown_store}
-use Rattle.kernel_core.specs.Text.{refused_by_check}
-use Rattle.kernel_core.specs.outcome.Refusal.{Refusal}
+use Rattle.kernel_text.specs.Text.{refused_by_check}
+use Rattle.kernel_text.specs.outcome.Refusal.{Refusal}
 use Rattle.kernel_ask.specs.declared.done.ExpFault.TheVariants.{Refused}
 use Rattle.kernel_ask.specs.Evaluation.{HasValue, IsEvaluated}
 use Rattle.kernel_ask.proofs.Sound.{not_broken}

@@ -1,6 +1,6 @@
 use Rattle.std.proofs.Common.{map, sym, ap, ◌∙◌}
 use Rattle.std.proofs.lemmas.Result.{IfOk-weaker}
-use Rattle.kernel_core.specs.Written.{entry_of}
+use Rattle.kernel_text.specs.Written.{entry_of}
 use Rattle.kernel_ask.specs.History.{inputs, told}
 use Rattle.kernel_ask.proofs.Walk.{last_inputs}
 use Rattle.kernel_ask.proofs.input_history.history_of.Goals as goal

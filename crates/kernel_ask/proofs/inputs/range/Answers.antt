@@ -1,6 +1,6 @@
 use Rattle.std.proofs.Common.{◌≡◌, ◌≤◌, [], ◌∷◌, length, take, map, sym, ap, ◌∙◌, arith}
 use Rattle.std.specs.List.{filter}
-use Rattle.kernel_core.specs.Written.{entry_of}
+use Rattle.kernel_text.specs.Written.{entry_of}
 use Rattle.kernel_ask.specs.History.{texts_in, numbered, is_within, input_of}
 use Rattle.kernel_ask.proofs.Counted.{texts, number_more, told_more, full_more}
 use Rattle.kernel_ask.proofs.inputs.range.Goals as goal

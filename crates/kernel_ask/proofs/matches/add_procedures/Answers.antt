@@ -1,5 +1,5 @@
 use Rattle.std.proofs.Common.{ℕ, [], ◌∷◌, ◌++◌, List, take, map, sym, ap, ◌∙◌, add-one, string_bytes}
-use Rattle.kernel_core.specs.Defined.{in_a_row}
+use Rattle.kernel_text.specs.Defined.{in_a_row}
 use Rattle.kernel_ask.specs.Added.{with_match, with_matches}
 use Rattle.kernel_text.specs.Procedures.{procedure_names}
 use Rattle.kernel_ask.proofs.Added.{with_matches_more}

@@ -1,5 +1,5 @@
 use Rattle.std.proofs.Common.{◌≡◌, map, take, string_bytes}
-use Rattle.kernel_core.specs.Defined.{in_a_row}
+use Rattle.kernel_text.specs.Defined.{in_a_row}
 use Rattle.kernel_ask.specs.Added.{with_matches}
 use Rattle.kernel_text.specs.Procedures.{procedure_names}
 use Rattle.kernel_ask.proofs.matches.add_procedures.Given as goal

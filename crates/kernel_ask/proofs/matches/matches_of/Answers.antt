@@ -1,6 +1,6 @@
 use Rattle.std.proofs.Common.{◌≡◌, ℕ, List, map, ap, ◌∙◌, Result, Ok, Err, String, Vec, string_bytes, IfOk}
 use Rattle.janus_meaning.specs.World.{World}
-use Rattle.kernel_core.specs.Defined.{in_a_row}
+use Rattle.kernel_text.specs.Defined.{in_a_row}
 use Rattle.std.specs.declared.alloc.Global.{Global}
 use Rattle.std.specs.declared.alloc.AllocError.{AllocError}
 use Rattle.std.specs.List.Sorted.{IsStrictlySortedBy}

@@ -1,6 +1,6 @@
 use Rattle.std.proofs.Common.{◌≡◌, ◌≤◌, ℕ, ◌*◌, ◌+◌, map, length, sym, ap, arith}
 use Rattle.std.proofs.lemmas.List.{length-map}
-use Rattle.kernel_core.specs.Written.{entry_of}
+use Rattle.kernel_text.specs.Written.{entry_of}
 use Rattle.kernel_ask.specs.Tail.{counted_in}
 use Rattle.kernel_ask.proofs.Walk.{told_by, counted_by}
 use Rattle.kernel_ask.proofs.tail.counted.Goals as goal

@@ -1,9 +1,9 @@
 use Rattle.std.proofs.Common.{◌≡◌, ◌<◌, ℕ, ◌+◌, ◌-◌, List, length, map, sym, ap, ◌∙◌, arith}
 use Rattle.std.specs.Int.{from_bool}
-use Rattle.kernel_core.specs.Minutes.{Entry, Posted, Ended, Post, posts_of, posted_in}
-use Rattle.kernel_core.specs.Counters.{counted_to}
-use Rattle.kernel_core.specs.Request.{request_of, raised, is_counted}
-use Rattle.kernel_core.specs.Written.{entry_of}
+use Rattle.kernel_text.specs.Minutes.{Entry, Posted, Ended, Post, posts_of, posted_in}
+use Rattle.kernel_text.specs.Counters.{counted_to}
+use Rattle.kernel_text.specs.Request.{request_of, raised, is_counted}
+use Rattle.kernel_text.specs.Written.{entry_of}
 use Rattle.kernel_ask.specs.Tail.{counted_in}
 use Rattle.kernel_ask.proofs.Walk.{mapped, counted_post, counted_end, counted_all, first_posts, posts_end, raised_by, one_at_most}
 use Rattle.kernel_ask.proofs.tail.counted_last.Goals as goal

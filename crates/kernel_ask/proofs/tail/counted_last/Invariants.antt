@@ -1,7 +1,7 @@
 use Rattle.std.proofs.Common.{◌≡◌, ◌+◌, ◌-◌, ◌≤◌, map, length}
-use Rattle.kernel_core.specs.Minutes.{posts_of, posted_in}
-use Rattle.kernel_core.specs.Counters.{counted_to}
-use Rattle.kernel_core.specs.Written.{entry_of}
+use Rattle.kernel_text.specs.Minutes.{posts_of, posted_in}
+use Rattle.kernel_text.specs.Counters.{counted_to}
+use Rattle.kernel_text.specs.Written.{entry_of}
 use Rattle.kernel_ask.specs.Tail.{counted_in}
 use Rattle.kernel_ask.proofs.tail.counted_last.Given as goal
 

@@ -1,7 +1,7 @@
 use Rattle.std.proofs.Common.{map, sym, ap, ◌∙◌}
-use Rattle.kernel_core.specs.Minutes.{Posted, Ended}
-use Rattle.kernel_core.specs.Request.{request_of}
-use Rattle.kernel_core.specs.Written.{entry_of}
+use Rattle.kernel_text.specs.Minutes.{Posted, Ended}
+use Rattle.kernel_text.specs.Request.{request_of}
+use Rattle.kernel_text.specs.Written.{entry_of}
 use Rattle.kernel_ask.specs.Tail.{last_end}
 use Rattle.kernel_ask.proofs.Walk.{mapped, end_behind, post_behind}
 use Rattle.kernel_ask.proofs.tail.last_end.Goals as goal

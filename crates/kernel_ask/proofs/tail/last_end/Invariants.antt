@@ -1,5 +1,5 @@
 use Rattle.std.proofs.Common.{◌≡◌, map, length}
-use Rattle.kernel_core.specs.Written.{entry_of}
+use Rattle.kernel_text.specs.Written.{entry_of}
 use Rattle.kernel_ask.specs.Tail.{last_end}
 use Rattle.kernel_ask.proofs.tail.last_end.Given as goal
 

@@ -1,5 +1,5 @@
 use Rattle.std.proofs.Common.{◌≡◌, ◌≤◌, ◌<◌, suc, [], ◌∷◌, ◌++◌, refl, map, drop, reverse, sym, ap, ◌∙◌, arith}
-use Rattle.kernel_core.specs.Written.{entry_of}
+use Rattle.kernel_text.specs.Written.{entry_of}
 use Rattle.kernel_ask.specs.History.{inputs, input_of}
 use Rattle.kernel_ask.specs.Tail.{counted_in}
 use Rattle.kernel_ask.proofs.Walk.{mapped, counted_text, begun_behind, waiting_behind, none_counted, none_left, told_before}

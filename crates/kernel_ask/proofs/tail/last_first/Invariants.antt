@@ -1,5 +1,5 @@
 use Rattle.std.proofs.Common.{◌≡◌, ◌≤◌, ◌++◌, map, length, drop, reverse}
-use Rattle.kernel_core.specs.Written.{entry_of}
+use Rattle.kernel_text.specs.Written.{entry_of}
 use Rattle.kernel_ask.specs.History.{inputs, input_of}
 use Rattle.kernel_ask.specs.Tail.{counted_in}
 use Rattle.kernel_ask.proofs.tail.last_first.Given as goal

@@ -1,5 +1,5 @@
 use Rattle.std.proofs.Common.{map, drop, ap, ◌∙◌}
-use Rattle.kernel_core.specs.Written.{entry_of}
+use Rattle.kernel_text.specs.Written.{entry_of}
 use Rattle.kernel_ask.specs.History.{inputs, input_of}
 use Rattle.kernel_ask.proofs.Walk.{map_reverse}
 use Rattle.kernel_ask.proofs.tail.tail.Goals as goal

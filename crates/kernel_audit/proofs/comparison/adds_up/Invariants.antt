@@ -1,6 +1,6 @@
 use Rattle.std.proofs.Common.{◌≡◌, ◌+◌, drop, map, sum_by}
-use Rattle.kernel_core.specs.Minutes.{posted_in}
-use Rattle.kernel_core.specs.Written.{entry_of}
+use Rattle.kernel_ask.specs.Minutes.{posted_in}
+use Rattle.kernel_ask.specs.Written.{entry_of}
 use Rattle.kernel_audit.specs.Passes.{PassOf}
 use Rattle.kernel_audit.proofs.comparison.adds_up.Given as goal
 

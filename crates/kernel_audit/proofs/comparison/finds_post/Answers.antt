@@ -1,4 +1,4 @@
-use Rattle.kernel_core.specs.Request.{request_of}
+use Rattle.kernel_ask.specs.Request.{request_of}
 use Rattle.kernel_audit.proofs.Numbered.{posted_iff, posted_none}
 use Rattle.kernel_audit.proofs.comparison.finds_post.Goals as goal
 

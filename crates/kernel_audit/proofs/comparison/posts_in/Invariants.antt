@@ -1,6 +1,6 @@
 use Rattle.std.proofs.Common.{◌≡◌, ◌+◌, ◌≤◌, drop, map}
-use Rattle.kernel_core.specs.Minutes.{posted_in}
-use Rattle.kernel_core.specs.Written.{entry_of}
+use Rattle.kernel_ask.specs.Minutes.{posted_in}
+use Rattle.kernel_ask.specs.Written.{entry_of}
 use Rattle.kernel_audit.proofs.comparison.posts_in.Given as goal
 
 abbrev pub invariant-loop-entry : goal.invariant-loop-entry

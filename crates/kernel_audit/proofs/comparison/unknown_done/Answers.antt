@@ -2,7 +2,7 @@ use Rattle.std.proofs.Common.{List, All, map, refl, sym, subst}
 use Rattle.std.proofs.lemmas.List.{take_all}
 use Rattle.std.proofs.lemmas.List.Elements.{All-more}
 use Rattle.kernel_ask.specs.declared.done.Done.{Done}
-use Rattle.kernel_core.specs.Written.{entry_of}
+use Rattle.kernel_ask.specs.Written.{entry_of}
 use Rattle.kernel_audit.specs.Ends.{HasEnd}
 use Rattle.kernel_audit.proofs.Numbered.{not_so}
 use Rattle.kernel_audit.proofs.comparison.unknown_done.Goals as goal

@@ -1,5 +1,5 @@
 use Rattle.std.proofs.Common.{All, take, map}
-use Rattle.kernel_core.specs.Written.{entry_of}
+use Rattle.kernel_ask.specs.Written.{entry_of}
 use Rattle.kernel_audit.specs.declared.mark.Kind.TheVariants.{End}
 use Rattle.kernel_audit.specs.Ends.{HasEnd}
 use Rattle.kernel_audit.specs.Marks.{IsMark}

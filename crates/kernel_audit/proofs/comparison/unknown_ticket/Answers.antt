@@ -2,7 +2,7 @@ use Rattle.std.proofs.Common.{List, All, map, refl, sym, subst}
 use Rattle.std.proofs.lemmas.List.{take_all}
 use Rattle.std.proofs.lemmas.List.Elements.{All-more}
 use Rattle.kernel_audit.specs.declared.pass.Ticket.{Ticket}
-use Rattle.kernel_core.specs.Written.{entry_of}
+use Rattle.kernel_ask.specs.Written.{entry_of}
 use Rattle.kernel_audit.specs.Audit.{IsPosted}
 use Rattle.kernel_audit.proofs.Numbered.{not_so}
 use Rattle.kernel_audit.proofs.comparison.unknown_ticket.Goals as goal

@@ -1,5 +1,5 @@
 use Rattle.std.proofs.Common.{All, take, map}
-use Rattle.kernel_core.specs.Written.{entry_of}
+use Rattle.kernel_ask.specs.Written.{entry_of}
 use Rattle.kernel_audit.specs.declared.mark.Kind.TheVariants.{Post}
 use Rattle.kernel_audit.specs.Audit.{IsPosted}
 use Rattle.kernel_audit.specs.Marks.{IsMark}

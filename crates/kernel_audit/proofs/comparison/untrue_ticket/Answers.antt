@@ -1,7 +1,7 @@
 use Rattle.std.proofs.Common.{map}
 use Rattle.std.proofs.lemmas.List.Sorted.{IsPermutation-trans}
 use Rattle.std.proofs.lemmas.Option.{IfSome_then}
-use Rattle.kernel_core.specs.Written.{entry_of}
+use Rattle.kernel_ask.specs.Written.{entry_of}
 use Rattle.kernel_audit.proofs.Tickets.{no_posts, no_order, all_true, if_none}
 use Rattle.kernel_audit.proofs.comparison.untrue_ticket.Goals as goal
 

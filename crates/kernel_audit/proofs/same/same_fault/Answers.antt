@@ -1,6 +1,6 @@
 use Rattle.std.proofs.Common.{rules, sym, ◌∙◌}
 use denote.Enum.Bare.{same_true, true_same}
-use Rattle.janus_machine.specs.contracts.fault.Fault.{the_type}
+use Rattle.janus_meaning.specs.contracts.fault.Fault.{the_type}
 use Rattle.kernel_audit.proofs.same.same_fault.Goals as goal
 
 pub returns : goal.returns

@@ -1,5 +1,5 @@
 use Rattle.std.proofs.Common.{◌≡◌, [], length, ap, sym, ◌∙◌, rules}
-use Rattle.janus_machine.specs.Procedures.{kept_in}
+use Rattle.kernel_loader.specs.Procedures.{kept_in}
 use Rattle.kernel_history.specs.Fields.{past_of}
 use Rattle.kernel_machine.specs.State.{here}
 use Rattle.kernel_loader.specs.Defined.{in_a_row}

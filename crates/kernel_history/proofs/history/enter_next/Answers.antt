@@ -1,9 +1,9 @@
 use Rattle.std.proofs.Common.{sym, ◌∙◌, ap}
 use Rattle.kernel_history.specs.Standing.{shown_here}
 use Rattle.janus_store.specs.StoreState.{StoreState}
-use Rattle.janus_machine.specs.Procedures.{kept_in}
-use Rattle.janus_machine.specs.declared.procedures.Procedures.{Procedures}
-use Rattle.kernel_runner.proofs.Growing.{same_more}
+use Rattle.kernel_loader.specs.Procedures.{kept_in}
+use Rattle.kernel_loader.specs.procedures.Procedures.{Procedures}
+use Rattle.kernel_loader.proofs.Growing.{same_more}
 use Rattle.kernel_history.proofs.Standing.{below_there, next_down, can_go_down_to, stands_next_down, next_up, can_go_up_from, stands_next_up, declares_next}
 use Rattle.kernel_history.proofs.Standing.{ok_map}
 use Rattle.kernel_history.proofs.history.enter_next.Goals as goal

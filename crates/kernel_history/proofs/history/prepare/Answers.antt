@@ -5,8 +5,8 @@ use Rattle.janus_meaning.specs.World.{World, declare}
 use Rattle.kernel_machine.specs.State.{here}
 use Rattle.kernel_machine.specs.Text.{Accepts, Refuses}
 use Rattle.janus_slots.specs.Slots.{names_in}
-use Rattle.kernel_runner.specs.Program.{IsReady, cell_of_program, declarations_of}
-use Rattle.kernel_runner.specs.Runner.{world_of}
+use Rattle.kernel_loader.specs.Program.{IsReady, cell_of_program, declarations_of}
+use Rattle.kernel_loader.specs.Runner.{world_of}
 use Rattle.kernel_loader.specs.Defined.{in_a_row}
 use Rattle.kernel_history.specs.Fields.{past_of}
 use Rattle.kernel_history.proofs.Standing.{if_ok_map}

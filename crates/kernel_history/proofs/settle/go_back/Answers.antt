@@ -1,15 +1,15 @@
 use Rattle.std.proofs.Common.{◌≡◌, ℕ, ◌-◌, true, refl, sym, ap, ◌∙◌, subst}
-use Rattle.janus_machine.specs.Procedures.{kept_in}
-use Rattle.janus_machine.specs.Counts.{IsWritten}
-use Rattle.janus_machine.specs.declared.procedures.Procedures.{Procedures}
+use Rattle.kernel_loader.specs.Procedures.{kept_in}
+use Rattle.janus_meaning.specs.Writes.{IsWritten}
+use Rattle.kernel_loader.specs.procedures.Procedures.{Procedures}
 use Rattle.kernel_machine.specs.StepsOfSlices.{steps_back}
 use Rattle.kernel_history.specs.Standing.{place_in}
 use Rattle.kernel_history.specs.Kept.{Kept}
-use Rattle.kernel_runner.specs.Runner.{Stands}
+use Rattle.kernel_loader.specs.Runner.{Stands}
 use Rattle.kernel_machine.specs.declared.heading.Heading.TheVariants.{GoesBack}
 use Rattle.kernel_history.specs.declared.job.Open.TheVariants.{Inside}
-use Rattle.kernel_runner.proofs.Growing.{same_more}
-use Rattle.kernel_runner.proofs.Running.{whole_at_start}
+use Rattle.kernel_loader.proofs.Growing.{same_more}
+use Rattle.kernel_loader.proofs.Running.{whole_at_start}
 use Rattle.kernel_history.proofs.Standing.{stands_with, inside_with, kept_at, kept_idle}
 use Rattle.kernel_history.proofs.settle.go_back.Goals as goal
 

@@ -1,12 +1,12 @@
 use Rattle.std.proofs.Common.{ap, sym, ◌∙◌, ◌≡◌, ◌-◌, ◌+◌, ℕ, false, refl, subst, arith}
-use Rattle.janus_machine.specs.Procedures.{kept_in}
-use Rattle.janus_machine.specs.declared.procedures.Procedures.{Procedures}
+use Rattle.kernel_loader.specs.Procedures.{kept_in}
+use Rattle.kernel_loader.specs.procedures.Procedures.{Procedures}
 use Rattle.kernel_machine.specs.Language.{start_of}
-use Rattle.janus_machine.specs.Counts.{IsWritten}
+use Rattle.janus_meaning.specs.Writes.{IsWritten}
 use Rattle.kernel_history.specs.Bodies.{IsProgramOf}
 use Rattle.kernel_history.specs.Standing.{StandsIn}
-use Rattle.kernel_runner.specs.declared.runner.Runner.{Runner}
-use Rattle.kernel_runner.specs.declared.program.Program.{Program}
+use Rattle.kernel_loader.specs.runner.Runner.{Runner}
+use Rattle.kernel_loader.specs.program.Program.{Program}
 use Rattle.kernel_history.specs.declared.tree.HistoryTree.{HistoryTree}
 use Rattle.kernel_history.specs.declared.job.Work.{Work}
 use Rattle.kernel_machine.specs.State.{here, code_of}
@@ -18,9 +18,9 @@ use Rattle.kernel_history.specs.declared.job.Entered.{Entered}
 use Rattle.kernel_history.specs.declared.job.Open.TheVariants.{Inside}
 use Rattle.kernel_history.specs.Fields.{past_of, work_of, state_of}
 use Rattle.kernel_machine.specs.Slices.{Backs}
-use Rattle.kernel_runner.specs.Runner.{world_of}
+use Rattle.kernel_loader.specs.Runner.{world_of}
 use Rattle.kernel_machine.specs.declared.progress.Progress.TheVariants.{Went, Stopped, Ended}
-use Rattle.kernel_runner.proofs.Growing.{same_more}
+use Rattle.kernel_loader.proofs.Growing.{same_more}
 use Rattle.kernel_history.proofs.Standing.{stands_with, inside_with, kept_at}
 use Rattle.kernel_history.proofs.settle.go_on.Goals as goal
 

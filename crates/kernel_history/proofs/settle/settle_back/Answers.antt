@@ -2,7 +2,7 @@ use Rattle.std.proofs.Common.{refl, sym, ap, ◌∙◌}
 use Rattle.kernel_history.specs.Fields.{past_of, work_of}
 use Rattle.kernel_history.specs.Bodies.{bodies_at}
 use Rattle.kernel_history.specs.Standing.{shown_here}
-use Rattle.kernel_runner.proofs.Growing.{no_more, same_more}
+use Rattle.kernel_loader.proofs.Growing.{no_more, same_more}
 use Rattle.kernel_history.proofs.Standing.{work_possible, below_there, cell_of_down, can_leave_cell, can_leave_down, shows_up, below_posted, nodes_forgotten}
 use Rattle.kernel_history.proofs.Standing.{no_other_forgotten, no_other_back, nodes_ready, shows_forgotten}
 use Rattle.kernel_history.proofs.settle.settle_back.Goals as goal

@@ -4,8 +4,8 @@ use Rattle.kernel_machine.specs.State.{Past, here}
 use Rattle.kernel_machine.specs.Language.{Forward, start_of}
 use Rattle.kernel_history.specs.Fields.{past_of}
 use Rattle.kernel_history.specs.declared.tree.HistoryTree.{HistoryTree}
-use Rattle.kernel_runner.specs.Program.{cell_of_program}
-use Rattle.kernel_runner.specs.Runner.{world_of}
+use Rattle.kernel_loader.specs.Program.{cell_of_program}
+use Rattle.kernel_loader.specs.Runner.{world_of}
 use Rattle.kernel_machine.specs.declared.outcome.Outcome.TheVariants as outcome
 use Rattle.kernel_machine.specs.declared.outcome.Sliced.TheVariants as sliced
 use Rattle.kernel_history.proofs.Nodes.{child_added, number_added, nodes_added, favourites_added, one_more}

@@ -5,7 +5,7 @@ use Rattle.kernel_machine.specs.State.{here, code_of}
 use Rattle.kernel_machine.specs.Language.{start_of}
 use Rattle.kernel_history.specs.Fields.{past_of, state_of}
 use Rattle.kernel_machine.specs.Slices.{Arrives, cells as cells_left}
-use Rattle.kernel_runner.specs.Runner.{world_of}
+use Rattle.kernel_loader.specs.Runner.{world_of}
 use Rattle.kernel_machine.specs.declared.travel.Travel.{Travel}
 use Rattle.kernel_history.specs.declared.tree.EndedCell.{EndedCell}
 use Rattle.kernel_history.specs.declared.tree.HistoryTree.{HistoryTree}

@@ -7,8 +7,8 @@ use Rattle.kernel_history.specs.Fields.{past_of, state_of}
 use Rattle.kernel_history.specs.Bodies.{IsCellAt}
 use Rattle.kernel_machine.specs.Slices.{Arrives, cells}
 use Rattle.kernel_machine.specs.declared.travel.Travel.{Travel}
-use Rattle.kernel_runner.specs.Runner.{world_of}
-use Rattle.kernel_runner.proofs.Growing.{same_more}
+use Rattle.kernel_loader.specs.Runner.{world_of}
+use Rattle.kernel_loader.proofs.Growing.{same_more}
 use Rattle.kernel_history.proofs.Nodes.{parent_there}
 use Rattle.kernel_history.proofs.Standing.{kept_up, up_names, settled_up, nodes_ready, no_other_same, can_leave_up}
 use Rattle.kernel_machine.proofs.Trees.{up_possible}

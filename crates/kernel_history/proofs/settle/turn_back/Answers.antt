@@ -1,9 +1,9 @@
 use Rattle.std.proofs.Common.{false, ap}
 use Rattle.janus_store.specs.StoreState.{StoreState}
-use Rattle.janus_machine.specs.Procedures.{kept_in}
-use Rattle.janus_machine.specs.declared.procedures.Procedures.{Procedures}
+use Rattle.kernel_loader.specs.Procedures.{kept_in}
+use Rattle.kernel_loader.specs.procedures.Procedures.{Procedures}
 use Rattle.kernel_machine.specs.declared.heading.Heading.TheVariants.{GoesOn, GoesBack}
-use Rattle.kernel_runner.proofs.Growing.{same_more}
+use Rattle.kernel_loader.proofs.Growing.{same_more}
 use Rattle.kernel_history.proofs.Standing.{stands_with, inside_with, kept_at}
 use Rattle.kernel_history.proofs.settle.turn_back.Goals as goal
 

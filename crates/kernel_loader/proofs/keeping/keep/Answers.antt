@@ -5,7 +5,7 @@ use Rattle.janus_store.specs.StoreState.{AreSlots}
 use Rattle.janus_syntax.specs.Tree.{procedure_view}
 use Rattle.janus_syntax.specs.View.{plain_procedure}
 use Rattle.janus_names.specs.Numbers.{IsNumbered}
-use Rattle.janus_machine.specs.Bodies.{IsBody}
+use Rattle.kernel_runner.specs.Bodies.{IsBody}
 use Rattle.kernel_loader.proofs.Kept.{body_of_flat, few_slots}
 use Rattle.kernel_loader.proofs.keeping.keep.Goals as goal
 

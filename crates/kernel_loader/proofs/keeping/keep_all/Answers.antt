@@ -1,6 +1,6 @@
 use Rattle.std.proofs.Common.{sym, arith}
 use Rattle.janus_check.specs.Sight.{heads_seen}
-use Rattle.janus_machine.specs.Procedures.{kept_in}
+use Rattle.kernel_runner.specs.Procedures.{kept_in}
 use Rattle.kernel_loader.proofs.Kept.{formed_at, kept_more, bodies_more, width_more, larger_is}
 use Rattle.kernel_loader.proofs.keeping.keep_all.Goals as goal
 

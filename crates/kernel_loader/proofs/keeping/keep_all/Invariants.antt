@@ -4,8 +4,8 @@ use Rattle.janus_slots.specs.Slots.{procedures_in}
 use Rattle.janus_syntax.specs.Tree.{procedures_view}
 use Rattle.janus_syntax.specs.View.{plain_procedure}
 use Rattle.janus_store.specs.StoreState.{AreSlots}
-use Rattle.janus_machine.specs.Bodies.{AreDefined, AreBodiesFrom}
-use Rattle.janus_machine.specs.Procedures.{kept_in}
+use Rattle.kernel_runner.specs.Bodies.{AreDefined, AreBodiesFrom}
+use Rattle.kernel_runner.specs.Procedures.{kept_in}
 use Rattle.kernel_loader.specs.Keeping.{width_of_procedures}
 use Rattle.kernel_loader.proofs.keeping.keep_all.Given as goal
 

@@ -11,8 +11,8 @@ use Rattle.janus_check.specs.Checked.{cell_in}
 use Rattle.janus_check.specs.Names.{shape_in, over}
 use Rattle.janus_slots.proofs.Stores.{length_names}
 use Rattle.janus_store.specs.StoreState.{shown_store}
-use Rattle.janus_machine.specs.Bodies.{AreBelow}
-use Rattle.janus_machine.specs.Procedures.{kept_in}
+use Rattle.kernel_runner.specs.Bodies.{AreBelow}
+use Rattle.kernel_runner.specs.Procedures.{kept_in}
 use Rattle.kernel_runner.specs.declared.program.Program.{Program}
 use Rattle.kernel_loader.proofs.Sighted.{names_here, entries_here}
 use Rattle.kernel_loader.proofs.Made.{keeps_same, all_kept, shows_more, bodies_within, ready_made}

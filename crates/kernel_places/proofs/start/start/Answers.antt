@@ -2,7 +2,9 @@
 use denote.Param.{param}
 use denote.Param.Send.{sendable}
 use Rattle.std.proofs.Crossing.{crosses}
-use Rattle.kernel_hall.proofs.Crosses.{Hall-sync, Pass-send, RingerSeat-send}
+use Rattle.kernel_bell.proofs.Crosses.{RingerSeat-send}
+use Rattle.kernel_desk.proofs.AuditCrosses.{Pass-send}
+use Rattle.kernel_desk.proofs.HallCrosses.{Hall-sync}
 use Rattle.kernel_places.proofs.Crosses.{Bulletin-sync, Listeners-sync, Service-sync}
 use Rattle.kernel_places.proofs.start.start.Goals as goal
 

@@ -2,7 +2,8 @@
 use denote.Param.{param}
 use denote.Param.Send.{sendable}
 use Rattle.std.proofs.Crossing.{crosses}
-use Rattle.kernel_hall.proofs.Crosses.{Hall-sync, RunnerSeat-send}
+use Rattle.kernel_bell.proofs.Crosses.{RunnerSeat-send}
+use Rattle.kernel_desk.proofs.HallCrosses.{Hall-sync}
 use Rattle.kernel_places.proofs.Crosses.{Service-sync}
 use Rattle.kernel_places.proofs.start.start_worker.Goals as goal
 

@@ -1,7 +1,7 @@
 use Rattle.std.proofs.Common.{ℕ, List, [], ◌∷◌, Some, option_map, refl, ap, subst, string_bytes}
 use Rattle.jupyter_msg.specs.Requests.{expressions_of}
 use Rattle.jupyter_msg.specs.declared.request.RequestContent.TheVariants as request
-use Rattle.kernel_core.specs.Request.{RunCell}
+use Rattle.kernel_reply.specs.Request.{RunCell}
 use Rattle.kernel_session.specs.declared.talk.DeskReply.TheVariants.{Answered}
 use Rattle.kernel_session.specs.Question.{Complete, Inspect, IsComplete}
 use Rattle.kernel_session.specs.Call.{Rang, Shut}

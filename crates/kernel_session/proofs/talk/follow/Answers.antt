@@ -1,7 +1,7 @@
 use Rattle.std.proofs.Common.{List, Some, refl, sym, ap, subst}
 use Rattle.jupyter_msg.specs.declared.comm.CommAsk.{CommAsk}
-use Rattle.kernel_ask.specs.Wishes.{WishOf}
-use Rattle.kernel_core.specs.Request.{Undo, Redo, Goto}
+use Rattle.kernel_reply.specs.Wishes.{WishOf}
+use Rattle.kernel_reply.specs.Request.{Undo, Redo, Goto}
 use Rattle.kernel_session.specs.declared.talk.DeskReply.TheVariants.{Answered}
 use Rattle.kernel_session.specs.Question.{wishes_of}
 use Rattle.kernel_session.specs.Talk.{IsHeld, post, follow}

@@ -1,9 +1,9 @@
 use Rattle.std.proofs.Common.{◌≡◌, ℕ, ap, ◌∙◌, sym, subst, arith, length, ◌++◌, ◌∷◌, []}
 use Rattle.std.proofs.lemmas.List.{length-map}
-use Rattle.kernel_core.specs.Request.{request_of}
-use Rattle.kernel_core.specs.Minutes.{posted_in}
-use Rattle.kernel_core.specs.Runs.{Machine}
-use Rattle.kernel_core.specs.Written.{entry_of}
+use Rattle.kernel_audit.specs.Request.{request_of}
+use Rattle.kernel_audit.specs.Minutes.{posted_in}
+use Rattle.kernel_audit.specs.Runs.{Machine}
+use Rattle.kernel_audit.specs.Written.{entry_of}
 use Rattle.hall_state.specs.PendingResults.{IsNewPending}
 use Rattle.hall_state.proofs.Posts.{one_more}
 use Rattle.hall_state.proofs.state.State.queue.Goals as goal

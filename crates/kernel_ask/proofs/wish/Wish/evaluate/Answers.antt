@@ -1,6 +1,6 @@
 use Rattle.std.proofs.Common.{◌≡◌, ℕ, List, ap, subst, string_bytes}
 use Rattle.janus_meaning.specs.Store.{Store}
-use Rattle.kernel_core.specs.State.{here}
+use Rattle.kernel_text.specs.State.{here}
 use Rattle.kernel_ask.specs.Wishes.{WishOf}
 use Rattle.kernel_ask.specs.Evaluation.{IsEvaluated}
 use Rattle.kernel_ask.proofs.wish.Wish.evaluate.Goals as goal

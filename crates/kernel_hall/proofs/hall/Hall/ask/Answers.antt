@@ -1,7 +1,7 @@
 use Rattle.std.proofs.Common.{arith, ◌≤◌, [], length, sym, subst}
 use Rattle.std.proofs.lemmas.Grind.{common_steps}
-use Rattle.kernel_ask.specs.Answer.{IsAnswer}
-use Rattle.kernel_ask.specs.declared.answer.Ask.{Ask}
+use Rattle.hall_state.specs.Answer.{IsAnswer}
+use Rattle.hall_state.specs.answer.Ask.{Ask}
 use Rattle.kernel_hall.proofs.hall.Hall.ask.Goals as goal
 
 pub returns-in-IsComplete-clause-answer : goal.returns-in-IsComplete-clause-answer

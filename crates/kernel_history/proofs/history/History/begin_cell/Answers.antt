@@ -9,21 +9,21 @@ use Rattle.kernel_history.specs.declared.tree.HistoryTree.{HistoryTree}
 use Rattle.kernel_machine.specs.Begins.{TakesCell}
 use Rattle.kernel_machine.specs.declared.heading.Heading.TheVariants.{GoesOn}
 use Rattle.kernel_machine.specs.declared.outcome.Begun.TheVariants as begun
-use Rattle.kernel_runner.specs.Program.{cell_of_program}
-use Rattle.kernel_runner.specs.Runner.{CanEnter}
+use Rattle.kernel_loader.specs.Program.{cell_of_program}
+use Rattle.kernel_loader.specs.Runner.{CanEnter}
 use Rattle.kernel_history.specs.Standing.{shown_here}
 use Rattle.kernel_history.specs.Kept.{Kept, IsKept}
 use Rattle.kernel_history.specs.declared.job.Open.{Open}
 use Rattle.kernel_history.specs.declared.job.Open.TheVariants.{Idle}
 use Rattle.kernel_machine.proofs.Texts.{accepted_formed}
-use Rattle.kernel_runner.proofs.Growing.{more_yet, same_more}
+use Rattle.kernel_loader.proofs.Growing.{more_yet, same_more}
 use Rattle.kernel_history.proofs.Standing.{ok_fact, err_fact, kept_begun, kept_idle, idle_in_time, here_sound, idle_job, nodes_more, nodes_ready, no_other_same}
 use Rattle.kernel_history.proofs.Standing.{posted_behind, behind_stack, shows_still, IsUnentered, kept_dropped}
 use Rattle.kernel_history.proofs.history.History.begin_cell.Goals as goal
 use Rattle.kernel_history.proofs.history.History.begin_cell.Goals.{then-is_err-via-then-is_err, then-is_err-via-else-is_err+then-is_err-2}
-use Rattle.janus_machine.specs.Procedures.{kept_in}
-use Rattle.janus_machine.specs.declared.linked_procedure.LinkedProcedure.{LinkedProcedure}
-use Rattle.janus_machine.specs.declared.procedures.Procedures.{Procedures}
+use Rattle.kernel_loader.specs.Procedures.{kept_in}
+use Rattle.kernel_loader.specs.linked_procedure.LinkedProcedure.{LinkedProcedure}
+use Rattle.kernel_loader.specs.procedures.Procedures.{Procedures}
 
 pub prepare-requires-clause-legal : goal.prepare-requires-clause-legal
 prepare-requires-clause-legal g c =

@@ -2,7 +2,8 @@
 use denote.Param.{param}
 use denote.Param.Send.{IsSend, IsSync, param_send, sendable}
 use Rattle.std.proofs.Crossing.{crosses}
-use Rattle.kernel_hall.proofs.Crosses.{Hall-sync, RunnerSeat-send}
+use Rattle.kernel_bell.proofs.Crosses.{RunnerSeat-send}
+use Rattle.kernel_hall.proofs.Crosses.{Hall-sync}
 use Rattle.tests_threads.proofs.hall.fn.tell_beside.scope.Goals as goal
 
 pub spawn-started-requires-send-F : goal.spawn-started-requires-send-F

@@ -2,7 +2,9 @@
 use denote.Param.{param}
 use denote.Param.Send.{IsSend, IsSync, param_send, sendable}
 use Rattle.std.proofs.Crossing.{crosses}
-use Rattle.kernel_hall.proofs.Crosses.{Hall-sync, Pass-send, Ticket-send, Done-send}
+use Rattle.kernel_hall.proofs.AskCrosses.{Done-send}
+use Rattle.kernel_hall.proofs.AuditCrosses.{Pass-send, Ticket-send}
+use Rattle.kernel_hall.proofs.Crosses.{Hall-sync}
 use Rattle.tests_threads.proofs.posters.fn.posted_by_threads.scope.Goals as goal
 
 pub spawn-started-requires-send-F : goal.spawn-started-requires-send-F

@@ -2,10 +2,10 @@
 use Rattle.std.specs.Prelude.{◌≡◌, ℕ, List, Result, Ok, Err, codes}
 use Rattle.janus_meaning.specs.Fault as fault
 use Rattle.janus_meaning.specs.Store.{Store}
-use Rattle.janus_machine.specs.declared.fault.Fault.{Fault}
-use Rattle.janus_machine.specs.declared.fault.Fault.TheVariants.{FiAssertion, EntryAssertion, LoopAssertion, DelocalMismatch}
-use Rattle.janus_machine.specs.declared.fault.Fault.TheVariants.{PopNotZero, PopEmpty, TopEmpty, DivisionByZero, IndexRange}
-use Rattle.janus_machine.specs.declared.fault.Fault.TheVariants.{StackFull, TooDeep, TooManyStacks, StepLimit}
+use Rattle.janus_meaning.specs.declared.fault.Fault.{Fault}
+use Rattle.janus_meaning.specs.declared.fault.Fault.TheVariants.{FiAssertion, EntryAssertion, LoopAssertion, DelocalMismatch}
+use Rattle.janus_meaning.specs.declared.fault.Fault.TheVariants.{PopNotZero, PopEmpty, TopEmpty, DivisionByZero, IndexRange}
+use Rattle.janus_meaning.specs.declared.fault.Fault.TheVariants.{StackFull, TooDeep, TooManyStacks, StepLimit}
 
 abbrev pub fault_of : Fault → fault.Fault
 fault_of FiAssertion = fault.FiAssertion

@@ -1,0 +1,25 @@
+-- What lies under the lock may go to other threads, where the types of the ledgers may.
+use denote.RattleType.{RattleType}
+use Rattle.std.specs.declared.sync.ledger.Ledger as Ledger
+use denote.Param.Send.{IsSend, sendable}
+use Rattle.std.proofs.Crossing.{crosses}
+use Rattle.std.proofs.MapsCrossing.{crosses as maps}
+use Rattle.std.proofs.sync.ledger.Book.TheSendSync.{the_send as book_send}
+use Rattle.std.proofs.sync.ledger.Share.TheSendSync.{the_send as share_send}
+use Rattle.kernel_audit.proofs.CoreCrosses.{Kernel-send}
+use Rattle.kernel_audit.proofs.AskCrosses.{Comms-send, NamedValue-send, Wish-send}
+use Rattle.hall_state.specs.contracts.pending_result.PendingResult as PendingResult
+use Rattle.hall_state.specs.contracts.passes.Passes as Passes
+use Rattle.hall_state.specs.contracts.state.State as State
+
+PendingResult-send : IsSend (PendingResult.the_field).row
+PendingResult-send = search (crosses, maps, NamedValue-send, Wish-send, sendable) depth 60 fits 20000
+
+module _ (W : RattleType) (w : Ledger.Ghosts W.Denot) where
+  Passes-send : IsSend W → IsSend (Passes.the_field W w).row
+  Passes-send s = search (crosses, share_send, sendable) depth 60 fits 20000
+
+module _ (W L : RattleType) (w : Ledger.Ghosts W.Denot) (l : Ledger.Ghosts L.Denot) where
+  pub State-send : IsSend W → IsSend L → IsSend (State.the_field W L w l).row
+  State-send s t = let a = Kernel-send W w s in let b = Passes-send L l t in
+      search (crosses, book_send, Comms-send, PendingResult-send, sendable) depth 60 fits 20000
