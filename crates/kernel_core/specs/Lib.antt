@@ -29,6 +29,7 @@ pub use Rattle.machine_laws.specs.Travels
 pub use Rattle.machine_laws.specs.CountedSteps
 pub use Rattle.machine_laws.specs.Counters
 pub use Rattle.machine_laws.specs.Determined
+pub use Rattle.machine_laws.specs.OverTime
 -- The machine's plain types.
 pub use Rattle.kernel_machine.specs.declared.events
 pub use Rattle.kernel_machine.specs.declared.outcome

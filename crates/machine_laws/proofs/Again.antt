@@ -75,11 +75,11 @@ redo_goes_down_far s k (suc j) =
     ∙ ap (λ (x : Past). moved x (left_of aim.Redo 0 left.0 0 left.1)) (redo_goes_down_far s k j)
     ∙ redo_step (record s { position = descendant s.favourites s.position j }) left.0 0 left.1
 
-moved_nodes : (s : Past) (t : Travel) (up : ℕ) → t.up ≡ up → (moved s t).nodes ≡ s.nodes
+pub moved_nodes : (s : Past) (t : Travel) (up : ℕ) → t.up ≡ up → (moved s t).nodes ≡ s.nodes
 moved_nodes s t zero e = rw e refl
 moved_nodes s t (suc up) e = rw e refl
 
-moved_worlds : (s : Past) (t : Travel) (up : ℕ) → t.up ≡ up → (moved s t).worlds ≡ s.worlds
+pub moved_worlds : (s : Past) (t : Travel) (up : ℕ) → t.up ≡ up → (moved s t).worlds ≡ s.worlds
 moved_worlds s t zero e = rw e refl
 moved_worlds s t (suc up) e = rw e refl
 
@@ -141,7 +141,7 @@ there_and_back s k g can =
     ∙ ap (λ (n : ℕ). record s { position = n }) (back_down s k g (λ j l. all_above s.nodes s.position k j can l))
 
 -- a whole undo, and a whole redo
-undid_all : (s : Past) (t : Travel) (k : ℕ) (can : Bool) (new : State) → cells t ≡ k → MoveEnds s t can (outcome.Undid k All) new →
+pub undid_all : (s : Past) (t : Travel) (k : ℕ) (can : Bool) (new : State) → cells t ≡ k → MoveEnds s t can (outcome.Undid k All) new →
     ((j : ℕ) (end : TravelEnd) → finished (after t j) end ≡ outcome.Undid k All → end ≡ All) →
     (new ≡ record { past = gone s t k; job = Idle }) × (can ≡ true)
 undid_all s t k false new size m only = absurd (let e = m.0 in cc)
@@ -150,7 +150,7 @@ undid_all s t k true new size m only =
     let j : m.0 ≡ k = m.2.all.0 end ∙ size in
     (m.2.stands ∙ ap (λ (n : ℕ). record { past = gone s t n; job = Idle }) j, refl)
 
-redid_all : (s : Past) (t : Travel) (k : ℕ) (can : Bool) (new : State) → cells t ≡ k → MoveEnds s t can (outcome.Redid k All) new →
+pub redid_all : (s : Past) (t : Travel) (k : ℕ) (can : Bool) (new : State) → cells t ≡ k → MoveEnds s t can (outcome.Redid k All) new →
     ((j : ℕ) (end : TravelEnd) → finished (after t j) end ≡ outcome.Redid k All → end ≡ All) →
     new ≡ record { past = gone s t k; job = Idle }
 redid_all s t k false new size m only = absurd (let e = m.0 in cc)
@@ -159,13 +159,13 @@ redid_all s t k true new size m only =
     let j : m.0 ≡ k = m.2.all.0 end ∙ size in
     m.2.stands ∙ ap (λ (n : ℕ). record { past = gone s t n; job = Idle }) j
 
-end_of_outcome : Outcome → TravelEnd
+unfoldable pub end_of_outcome : Outcome → TravelEnd
 end_of_outcome (outcome.Undid j end) = end
 end_of_outcome (outcome.Redid j end) = end
 end_of_outcome (outcome.Went i j end) = end
 end_of_outcome o = All
 
-end_told : (t : Travel) (end : TravelEnd) → end_of_outcome (finished t end) ≡ end
+pub end_told : (t : Travel) (end : TravelEnd) → end_of_outcome (finished t end) ≡ end
 unfolding end_of_outcome
 end_told t end = by_aim t.aim t.went_up t.went_down end
   where
@@ -175,12 +175,12 @@ end_told t end = by_aim t.aim t.went_up t.went_down end
     by_aim (aim.Goto n) i j end = refl
 
 -- what ended otherwise than by a refusal was taken before a shutdown
-undone_open : (closing : Bool) (s : Past) (k : ℕ) (new : State) → EndsUnless closing s (Undo k) (outcome.Undid k All) new →
+pub undone_open : (closing : Bool) (s : Past) (k : ℕ) (new : State) → EndsUnless closing s (Undo k) (outcome.Undid k All) new →
     MoveEnds s (travel_to aim.Undo k 0) (can_undo s.nodes s.position k) (outcome.Undid k All) new
 undone_open false s k new h = h
 undone_open true s k new h = absurd (let e = h.0 in cc)
 
-redone_open : (closing : Bool) (s : Past) (k : ℕ) (new : State) → EndsUnless closing s (Redo k) (outcome.Redid k All) new →
+pub redone_open : (closing : Bool) (s : Past) (k : ℕ) (new : State) → EndsUnless closing s (Redo k) (outcome.Redid k All) new →
     MoveEnds s (travel_to aim.Redo 0 k) (can_redo s.favourites s.position k) (outcome.Redid k All) new
 redone_open false s k new h = h
 redone_open true s k new h = absurd (let e = h.0 in cc)

@@ -1,6 +1,6 @@
 -- After a shutdown each post is refused.
 use Rattle.std.proofs.Common.{◌≡◌, true, List, [], ◌∷◌, refl, sym, ap, ◌∙◌, Ok, Err}
-use Rattle.kernel_machine.specs.Minutes.{Post, posts_of}
+use Rattle.kernel_machine.specs.Minutes.{posts_of}
 use Rattle.kernel_machine.specs.Runs.{Machine, shut, Run}
 use Rattle.machine_laws.specs.Theorems.{AllPostsRefused, ShutRefusesJobs}
 use Rattle.kernel_machine.specs.declared.post.PostFault.{PostFault}

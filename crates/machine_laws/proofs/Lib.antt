@@ -12,3 +12,4 @@ pub mod Closing
 pub mod KeptMinutes
 pub mod Counting
 pub mod OneAccount
+pub mod OverTime

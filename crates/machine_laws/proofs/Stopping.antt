@@ -4,10 +4,7 @@ use Rattle.std.proofs.Common.{◌≡◌, ◌≢◌, ℕ, ◌+◌, ◌-◌, ◌<�
 use Rattle.janus_meaning.specs.World.{World}
 use Rattle.kernel_machine.specs.declared.travel.Aim.{Aim}
 use Rattle.kernel_machine.specs.declared.travel.Aim.TheVariants as aim
-use Rattle.kernel_machine.specs.Travel.{next_way}
 use Rattle.kernel_machine.specs.declared.travel.Travel.{Travel}
-use Rattle.kernel_machine.specs.declared.travel.Way.{Way}
-use Rattle.kernel_machine.specs.declared.travel.Way.TheVariants.{Up, Down}
 use Rattle.kernel_machine.specs.declared.heading.Why.{Why}
 use Rattle.kernel_machine.specs.declared.heading.Why.TheVariants.{WasAsked, Faulted}
 use Rattle.kernel_machine.specs.declared.heading.Heading.{Heading}

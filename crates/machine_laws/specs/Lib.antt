@@ -4,3 +4,4 @@ pub mod Travels
 pub mod CountedSteps
 pub mod Counters
 pub mod Determined
+pub mod OverTime

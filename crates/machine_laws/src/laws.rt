@@ -5,6 +5,7 @@ ghost use Rattle.machine_laws.specs.Theorems.{NewIsLegal, StaysLegal, GoesBackFo
 ghost use Rattle.machine_laws.specs.Theorems.{KeepsLegalMinutes, OneAccount};
 ghost use Rattle.machine_laws.specs.Travels.{UndoGoesUp, RedoGoesDown, GotoGoesThere, RedoGivesBack, SettlesOnTime, NeverFaults};
 ghost use Rattle.machine_laws.specs.Travels.{IsMirrored, PathGivesWorld, UndoGoesUpThePath, RedoGoesDownFavourites};
+ghost use Rattle.machine_laws.specs.OverTime.{NodesStay, SameNodeSameWorld, UndoGivesBack, RedoGivesBackWorld, GotoGivesBack};
 ghost use Rattle.machine_laws.specs.CountedSteps.{TakesOneNumber, StepsAreCounted};
 ghost use Rattle.machine_laws.specs.Counters.{EndTellsCounted, CounterNeverFalls, CountedIsNext, NoCounterTwice, CounterIsOfBegun, EndsWithinCounter};
 
@@ -61,6 +62,22 @@ pub fn goto_goes_there_law()
 /// A redo of `k` cells that follows an undo of `k` cells, both to the end, gives all back.
 pub fn redo_gives_back_law()
     ensures { RedoGivesBack }
+{}
+
+/// Nodes stay: through any run, whatever posts, interrupts, faults and shutdowns come, each node that there was has the same parent, cell, steps
+/// and world. So where a machine that stood idle at a node stands idle there again, it shows the same world, as a whole value.
+pub fn nodes_stay_law()
+    ensures stay { NodesStay }
+    ensures same { SameNodeSameWorld }
+{}
+
+/// What a travel gives back, over time. A machine stood idle at a node, and whatever came since: an undo of `k` cells that is taken where
+/// that node is the `k`-th above and ends as `All` shows the world that was shown then, each name, value and procedure of it. So does a redo
+/// of `k` cells where it is the `k`-th favourite below, and a goto to it.
+pub fn undo_gives_back_law()
+    ensures undo { UndoGivesBack }
+    ensures redo { RedoGivesBackWorld }
+    ensures goto { GotoGivesBack }
 {}
 
 /// The code of an undo or a redo leads to the world due, in exactly as many steps as the cell took. In every legal state in

@@ -3,6 +3,7 @@
 //!
 //! - `Theorems`: each state that is reached is legal, how jobs end, what stops one, what a shutdown does, and that the minutes give the tree,
 //!   the position and the counter. `Travels`: where undo, redo and goto lead and in how many steps, and that a node has the world of its path.
+//! - `OverTime`: nodes stay as they are through any run, so an undo, a redo or a goto back to a node gives the world of then.
 //! - `CountedSteps`: the counts of the open job tell how many steps a slice takes. `Counters`: the execution counter numbers the cells.
 //! - `Determined`: want of memory aside each answer is the only one, and a state shows one world.
 //!
