@@ -7,6 +7,8 @@
 //! Yokoyama and Glück (2007), "A reversible programming language and its invertible self-interpreter", in the definitions of `janus_meaning`.
 #![tactic(auto)]
 
+ghost use Rattle.janus_invert.specs.InvertedBlock.{InvertedStandsForInverse};
+
 mod turned;
 
 pub use crate::turned::invert_code;
@@ -14,3 +16,9 @@ pub use janus_code::{
     Block, Code, FlatExp, FlatParameter, FlatProcedure, InvertFault, Statement, Symbol, flat_exp,
     flatten, flatten_procedure, invert,
 };
+
+/// Law: where code stands for a block with slots in place of names, as what `flatten` gives does, what `invert_code` gives of it stands for the
+/// inverted block, as the flat code of the inverted cell does.
+pub fn inverted_stands_for_inverse_law()
+    ensures { InvertedStandsForInverse }
+{}
