@@ -310,6 +310,15 @@ def run_all_stops(stage):
     stands(page, 6, 6)
 
 
+def run_all_goes_on(stage):
+    """Behind a cell that is marked as failing."""
+    page = stage.page
+    page.js('var it = Jupyter.notebook.get_cell(3); it.set_text("n += 1 / 0"); it.metadata.tags = ["raises-exception"]')
+    run_all(page)
+    comes('Run All goes on behind a cell that is to fail', lambda: page.cells()[4]['prompt'] == 4)
+    stands(page, 3, 3)
+
+
 def run_all_interrupted(stage):
     page = stage.page
     page.js('Jupyter.notebook.get_cell(2).set_text(arguments[0])', ENDLESS)
@@ -484,5 +493,5 @@ def no_errors(stage):
 
 
 SCENES = [highlighting, buttons, clicks, refused_moves, refusals, interrupt, waiting, second_frontend, late_join, reload_page, restart, earlier_run,
-          run_all_stops, run_all_interrupted, keyboard, screen_reader, slider, slider_on_branch, backwards, no_errors]
+          run_all_stops, run_all_goes_on, run_all_interrupted, keyboard, screen_reader, slider, slider_on_branch, backwards, no_errors]
 LAST = [other_language]         # behind it a server may take a minute to end the kernel of Python
