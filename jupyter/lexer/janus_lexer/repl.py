@@ -64,15 +64,14 @@ class Desk:
         self.client.wait_for_ready(timeout=30)
         self.send('comm_open', {'comm_id': self.comm, 'target_name': 'janus.undo', 'data': {}})
 
-    def wait(self, work, *given, patience=None):
+    def wait(self, work, *given):
         """What the work answers. Ctrl-C meanwhile interrupts what the kernel runs."""
-        future, until = self.thread.submit(work, *given), patience and time.monotonic() + patience
+        future = self.thread.submit(work, *given)
         while True:
             try:
                 return future.result(.2)
             except NotYet:
-                if until and time.monotonic() > until:
-                    raise
+                continue
             except KeyboardInterrupt:
                 self.client.control_channel.send(self.client.session.msg('interrupt_request', {}))
 
@@ -189,12 +188,11 @@ class Console:
             return None
         if document.text_after_cursor.strip():
             return ''
-        if re.search(r'\bprocedure\b', text) and '\n' in text.rstrip(' ') and text.rstrip(' ').endswith('\n'):
-            return None
         found = self.desk.wait(self.desk.reply, 'is_complete_request', {'code': text})
         if found.get('status') == 'incomplete':
             return found.get('indent', '')
-        return '    ' if re.search(r'\bprocedure\b', text) else None
+        is_ended = text.rstrip(' ').endswith('\n') or not re.search(r'\bprocedure\b', text)
+        return None if is_ended else '    '
 
     def line(self, text):
         found = COMMAND.match(text.strip())
