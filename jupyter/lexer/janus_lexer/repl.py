@@ -33,7 +33,7 @@ from janus_lexer.tree import Tree
 HELP = '''%undo [K]   take K cells back, the newest first      %goto N   go to node N, 0 for the start
 %redo [K]   redo K cells along the ways last gone    %show     the values here
 %tree       all cells that ran, and where we are     %help     this
-Ctrl-C stops the cell that runs, which is then taken back; Ctrl-D leaves.'''
+Alt-Enter begins a new line of the same cell. Ctrl-C stops the cell that runs, which is then taken back; Ctrl-D leaves.'''
 COMMAND = re.compile(r'%(undo|redo|goto|show|tree|help)(?:\s+(\d{1,10}))?\s*$')
 REFUSED = re.compile(r'refused (\d+) \w+(?: at (\d+)\.\.(\d+))?$')
 FAULT = re.compile(r'fault (\d+) \w+ after \d+$')
@@ -179,6 +179,9 @@ class Console:
                 buffer.validate_and_handle()
             else:
                 buffer.insert_text('\n' + indent)
+        @keys.add('escape', 'enter')
+        def _(event):
+            event.current_buffer.insert_text('\n')
         return keys
 
     def goes_on(self, document):
