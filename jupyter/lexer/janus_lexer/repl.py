@@ -18,17 +18,20 @@ from queue import Empty
 
 sys.path[0] = os.path.dirname(os.path.dirname(os.path.realpath(__file__)))
 
-from jupyter_client import BlockingKernelClient, KernelManager
-from jupyter_core.paths import jupyter_runtime_dir
-from prompt_toolkit import PromptSession, print_formatted_text
-from prompt_toolkit.completion import Completer, Completion
-from prompt_toolkit.formatted_text import FormattedText
-from prompt_toolkit.key_binding import KeyBindings
-from prompt_toolkit.lexers import PygmentsLexer
+try:
+    from jupyter_client import BlockingKernelClient, KernelManager
+    from jupyter_core.paths import jupyter_runtime_dir
+    from prompt_toolkit import PromptSession, print_formatted_text
+    from prompt_toolkit.completion import Completer, Completion
+    from prompt_toolkit.formatted_text import FormattedText
+    from prompt_toolkit.key_binding import KeyBindings
+    from prompt_toolkit.lexers import PygmentsLexer
 
-from janus_lexer import JanusLexer
-from janus_lexer.refusals import REFUSALS
-from janus_lexer.tree import Tree
+    from janus_lexer import JanusLexer
+    from janus_lexer.refusals import REFUSALS
+    from janus_lexer.tree import Tree
+except ImportError as missing:
+    sys.exit(f"janus-repl: {missing}; Debian's jupyter-console brings what it needs")
 
 HELP = '''%undo [K]   take K cells back, the newest first      %goto N   go to node N, 0 for the start
 %redo [K]   redo K cells along the ways last gone    %show     the values here
