@@ -183,6 +183,7 @@ class Console:
             else:
                 buffer.insert_text('\n' + indent)
         @keys.add('escape', 'enter')
+        @keys.add('escape', 'c-j')                                        # as it comes where it was typed before the prompt stood
         def _(event):
             event.current_buffer.insert_text('\n')
         return keys
