@@ -62,7 +62,8 @@ class Turns {
             const cell = this.waiting.shift().cell;
             if (Jupyter.notebook.find_cell_index(cell) === null) continue;           // it was deleted meanwhile
             const came = await run(cell);
-            if (came.status !== 'ok') this.stop(came);
+            const is_meant = came.status === 'error' && ((cell.metadata || {}).tags || []).indexOf('raises-exception') >= 0;
+            if (came.status !== 'ok' && !is_meant) this.stop(came);
         }
         this.running = false;
     }

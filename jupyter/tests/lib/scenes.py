@@ -129,7 +129,7 @@ def refusals(stage):
     page.run(cell)
     place = 'return Jupyter.notebook.get_cell(arguments[0]).element.find(".janus-place").text()'
     comes('the place of a refusal is underlined', lambda: page.js(place, cell) == 'the')
-    wanted = 'Line 3, column 11: something else has to stand here, as \'then\' behind the test of an \'if\' (31 Expected). Nothing has run.'
+    wanted = 'Line 3, column 11: the test ends here, so \'then\' has to stand here, or an operator is missing (31 Expected). Nothing has run.'
     check(words_below(page, cell) == wanted, 'what to do stands below, with line and column', words_below(page, cell))
     page.js('Jupyter.notebook.get_cell(arguments[0]).set_text("x1 += 7 / (n - 4)")', cell)
     check(page.js(place, cell) == '' and words_below(page, cell) == '', 'both are gone once the text is changed')
@@ -310,6 +310,15 @@ def run_all_stops(stage):
     stands(page, 6, 6)
 
 
+def run_all_goes_on(stage):
+    """Behind a cell that is marked as failing."""
+    page = stage.page
+    page.js('''var it = Jupyter.notebook.get_cell(3); it.set_text("n += 1 / 0"); it.metadata.tags = ["raises-exception"];
+        Jupyter.notebook.get_cell(4).set_text("n += 1")''')
+    run_all(page)
+    stands(page, 3, 3, ['x1 = 0', 'x2 = 0', 'n = 5'], 'Run All goes on after a cell that is to fail')
+
+
 def run_all_interrupted(stage):
     page = stage.page
     page.js('Jupyter.notebook.get_cell(2).set_text(arguments[0])', ENDLESS)
@@ -484,5 +493,5 @@ def no_errors(stage):
 
 
 SCENES = [highlighting, buttons, clicks, refused_moves, refusals, interrupt, waiting, second_frontend, late_join, reload_page, restart, earlier_run,
-          run_all_stops, run_all_interrupted, keyboard, screen_reader, slider, slider_on_branch, backwards, no_errors]
+          run_all_stops, run_all_goes_on, run_all_interrupted, keyboard, screen_reader, slider, slider_on_branch, backwards, no_errors]
 LAST = [other_language]         # behind it a server may take a minute to end the kernel of Python
