@@ -1,0 +1,112 @@
+/* How threads wait at the hall: two frontends, each of which runs two jobs and asks behind each, the worker, and a shutdown that may come at any time or never.
+   A frontend that is refused goes away. Each job ends after at most two slices, or at its begin.
+
+   Claims: nobody is left asleep as all others are done (no invalid end state); and `answered`: who waits for the end of a job gets it, where each
+   thread that can go on does so in the end (weak fairness).
+   Spoiled: a post wakes nobody, so that a worker that sleeps is not told of it. */
+#include "waiting.h"
+
+#define FRONTENDS 2
+#define JOBS      2
+#define PLACES    2
+#define PLACE(n)  ends[(n) % PLACES]
+
+bool lock;                      /* Hall::state */
+byte moved;                     /* Hall::moved */
+byte ends[PLACES];              /* Ends::places, of which the hall has 16 */
+byte posted, ended;             /* the minutes: posts and ends, both numbered from 1 */
+bool is_inside, is_closing;     /* the kernel */
+byte slices;
+bool waits[FRONTENDS];          /* whose job was posted and whose end was not told yet */
+
+#define IS_IDLE  (!is_inside && posted == ended)
+
+proctype Frontend(byte me) {
+    byte posts, number;
+    do
+    :: posts == JOBS -> break
+    :: posts < JOBS ->
+        LOCK(lock);                                     /* Hall::run: Entrance::enter */
+        if
+        :: is_closing -> UNLOCK(lock); goto gone        /* State::take: Kernel::post_fault */
+        :: !is_closing ->
+            atomic { posted++; posts++; number = posted; waits[me] = true };    /* State::queue */
+            UNLOCK(lock)
+        fi;
+#ifndef SPOILED
+        WAKE_ALL(moved);                                /* Hall::run: moved.notify_all */
+#endif
+        LOCK(lock);                                     /* Hall::end_of: the first look */
+        if
+        :: ended >= number -> UNLOCK(lock)              /* State::done */
+        :: ended < number ->
+            UNLOCK(lock);                               /* Ends::watch: it may give up at once */
+            LOCK(lock);
+            do
+            :: ended >= number -> break
+            :: ended < number -> SLEEP(lock, PLACE(number))     /* Ends::wait */
+            od;
+            UNLOCK(lock)
+        fi;
+        waits[me] = false;
+        LOCK(lock);                                     /* Hall::ask: enter_behind */
+        do
+        :: posted + ended >= posts -> break             /* State::has_seen */
+        :: posted + ended < posts -> SLEEP(lock, moved)
+        od;
+        UNLOCK(lock)
+    od;
+gone:
+    skip
+}
+
+proctype Worker(byte me) {
+    byte number;
+    do
+    :: true ->
+        if
+        :: is_inside -> skip                            /* worker::work keeps whether it is inside a cell */
+        :: !is_inside ->
+            UNDER(lock, skip);                          /* Hall::wait_for_work: is_at_rest, and watch */
+            LOCK(lock);
+            do
+            :: !IS_IDLE -> break
+            :: IS_IDLE && is_closing -> UNLOCK(lock); goto rested
+            :: IS_IDLE && !is_closing ->
+                FALL_ASLEEP(lock, moved);
+end_of_work:                                            /* it may sleep for ever where nothing is posted */
+                WAKE_UP(lock, moved)
+            od;
+            UNLOCK(lock)
+        fi;
+        LOCK(lock);                                     /* Hall::turn */
+        number = 0;
+        if
+        :: is_inside && slices > 0 -> slices--          /* Kernel::slice goes on */
+        :: is_inside -> atomic { is_inside = false; ended++; number = ended }       /* or ends the job */
+        :: !is_inside && !is_closing -> atomic { is_inside = true; slices = 1 }     /* Kernel::begin enters a cell */
+        :: !is_inside -> atomic { ended++; number = ended }                         /* or refuses the job */
+        fi;
+        UNLOCK(lock);
+        if
+        :: number > 0 -> WAKE_ALL(PLACE(number))        /* Ends::wake, with the lock free */
+        :: number == 0 -> skip                          /* Hall::give_way: it waits for nobody for ever */
+        fi
+    od;
+rested:
+    skip
+}
+
+proctype Closer() {
+    if
+    :: skip                                             /* the kernel goes on */
+    :: UNDER(lock, is_closing = true);                  /* Hall::shut */
+       WAKE_ALL(moved)
+    fi
+}
+
+init {
+    atomic { run Frontend(0); run Frontend(1); run Worker(2); run Closer() }
+}
+
+ltl answered { [] ((waits[0] -> <> !waits[0]) && (waits[1] -> <> !waits[1])) }
