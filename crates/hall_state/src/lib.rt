@@ -8,7 +8,7 @@
 //! `state` has all of it. `turn` is what the runner does with the kernel and the bell, `pending_result` what stands beside a post,
 //! `passes` who may post, `minutes` what is left at the end.
 //!
-//! It gives the names of `kernel_audit`, `kernel_ask` and the kernel again that the hall hands out.
+//! It gives the names of `kernel_audit`, `kernel_ask` and the kernel again that the hall's calls have.
 #![tactic(auto)]
 
 mod limit;

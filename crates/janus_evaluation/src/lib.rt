@@ -6,7 +6,8 @@
 //! in two's complement; operators are those of Janus (Yokoyama, Axelsen and Glück 2008), division truncates towards zero as
 //! in C.
 //!
-//! It gives again what `janus_flat` cites of the store that it works on: `Values` and `Stores` of `janus_store`.
+//! It gives again what `janus_flat` cites of the store that it works on: `Values`, `Stores` and the lemma on lone writes of
+//! `janus_store`.
 #![tactic(auto)]
 
 mod assignment;

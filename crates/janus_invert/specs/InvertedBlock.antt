@@ -5,11 +5,12 @@ use Rattle.janus_slots.specs.Slots.{block_in}
 use Rattle.janus_code.specs.declared.code.Code.{Code}
 use Rattle.janus_code.specs.CodeBlock.{code_block}
 
--- Read over a table of slots, the code stands for the block of a cell, with slots in place of names.
+-- read over a table of names, the code stands for this block with slots in place of names
 abbrev pub StandsFor : List Name → Code → List Name → List Name → Blk → Type 0
 StandsFor xs code entries names b = code_block xs code ≡ block_in entries names b
 
--- So its inverse, read over the same table, stands for the block of the inverted cell: to make code flat and to invert it may come in either order.
+-- So its inverse, read over the same table, stands for the inverted block: as far as what the code stands for, to make code flat and to invert it may
+-- come in either order.
 abbrev pub InvertedStandsForInverse : Type 0
 InvertedStandsForInverse =
     (xs entries names : List Name) (code inverse : Code) (b : Blk) →

@@ -12,7 +12,6 @@
 //! - `book`: the code of a cell or of a body, both ways, and what is laid of its rows.
 //! - `linked_procedure`, `procedures`: a procedure as it runs, and all bodies with those that are in effect.
 //! - `cursor`, `running`, `row`: a place in code with the open calls and the count of steps, and the book in whose row it stands.
-//! - `fault`: why a step is not taken.
 //! - `statement`, `local`, `act`: what a statement, a local and an instruction do to the store.
 //! - `call`: the first and the last step of a call.
 //! - `machine`: `step` and `slice`, which take the steps; `slice` runs whole statements where just the names of a laid row are in sight.
@@ -22,14 +21,14 @@
 //!
 //! - `BlocksOver`: that two codes stand for the same over each table of names holds no data. Code names a variable by its slot, so what it
 //!   stands for is told over a table of names: that of the store, or any other.
-//! - `Faults`, `Statements`, `Acts`: faults, and what statements and instructions do to a store.
+//! - `Statements`, `Acts`: what statements and instructions do to a store. Faults are those of `janus_meaning`.
 //! - `LinkedProcedure`, `Procedures`, `Bodies`: what contracts see of bodies, and which of them are in effect.
 //! - `Cursor`, `Counts`, `Places`, `Nested`, `Cursors`: a cursor's fields and its count, and which place of the meaning it is.
 //! - `Mirrored`, `Turns`: the other code, and what turning a cursor round does. `Open`: which locals stand in the store at a cursor.
 //! - `Moved`, `Calls`, `Steps`, `Law`: a step within a row, a call's steps, steps and slices, and the laws.
 //!
-//! It gives again what runners cite with it: `Store` and `Writes` of `janus_store`, `Fault` and the limit on steps of `janus_meaning`, `FrameNames`, and
-//! `Open` and `Within` of `janus_linear`.
+//! It gives again `Store` and `Writes` of `janus_store`, `Fault` and the limit on steps of `janus_meaning`, which its calls tell; and what runners cite with
+//! it: `FrameNames`, and `Open` and `Within` of `janus_linear`.
 #![tactic(auto)]
 
 mod act;

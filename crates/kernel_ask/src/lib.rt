@@ -11,7 +11,7 @@
 //! `completion`, `inspection`, `judgement`, `inputs`, `tail` and `input_history`, `standing` (the state). Then what is told of a job that ended:
 //! `done`, `shown`, `wish` and `evaluation`, `lines`. `comms` and `comm_change` are the open comms, `limit` what several crates test, `laws` the laws.
 //!
-//! It gives again what the layers above cite of `kernel_text` and of `kernel_core`, so that they name this crate alone.
+//! It gives again what the layers above cite of `kernel_text` and of `kernel_core`, so that most of them name this crate alone.
 #![tactic(auto)]
 
 mod answer;

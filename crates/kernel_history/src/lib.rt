@@ -21,7 +21,7 @@
 //! - `Standing`: where the runner stands.
 //! - `Kept`: what a history keeps of its fields, with a map of it, what a slice leaves, and where a cell has come to its end.
 //!
-//! It gives again what `kernel_core` cites of the layers below: the store with its writes, and the procedures that are lent.
+//! It gives again what `kernel_core` cites of the layers below: the store with its writes, the procedures that are lent, and the names in sight.
 #![tactic(auto)]
 
 mod defined;

@@ -8,6 +8,8 @@
 //! - The plain types of its events and answers, which the definitions cite.
 //!
 //! The layer above proves that its code runs this machine. The laws of its runs are those of `machine_laws`.
+//!
+//! It gives `CheckFault` of `janus_check`, and `Fault` and the limit on steps of `janus_meaning`, again: outcomes tell them.
 #![tactic(auto)]
 
 mod cell_text;

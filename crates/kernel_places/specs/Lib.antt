@@ -1,4 +1,2 @@
 -- Of kernel_hall, given again.
 pub use Rattle.kernel_desk.specs.limit
--- Of kernel_hall, given again.
-pub use Rattle.kernel_desk.specs.limit as hall_limit

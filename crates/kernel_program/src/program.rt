@@ -2,7 +2,7 @@
 ghost use Rattle.std.specs.Prelude.{◌≡◌, ◌≢◌, ◌<◌, IfOk, All};
 ghost use Rattle.clap.specs.Values.{kind_of};
 ghost use Rattle.program_words.specs.Status.{status_of};
-ghost use Rattle.kernel_places.specs.hall_limit.TheConstants.{PARTS_OF_POSTS};
+ghost use Rattle.kernel_places.specs.limit.TheConstants.{PARTS_OF_POSTS};
 
 use crate::fault::ProgramFault;
 use crate::opening::{connection_of, listeners_of};

@@ -10,7 +10,8 @@
 //! The definitions are in specs/: `Program` (the cell that a program is), `Declarable` (what a store has room for) and `Runner` (the model of a
 //! runner, and what each call does to it).
 //!
-//! It gives the names of `janus_machine` again that the loader and the history cite: its books, procedures, store and writes.
+//! It gives the names of `janus_machine` again that the loader and the history cite: its books, cursors, procedures, store and writes, its
+//! slices, and the names of frames.
 #![tactic(auto)]
 
 mod program;

@@ -33,7 +33,7 @@ use Rattle.kernel_machine.specs.declared.events.Told.{Told}
 use Rattle.kernel_machine.specs.declared.events.Told.TheVariants as told
 use Rattle.kernel_machine.proofs.Jobs.{post_keeps}
 use Rattle.machine_laws.specs.OverTime.{KeepsNodes, NodesStay, ShowsAgain, SameNodeSameWorld, TakenSince, UndoGivesBack, RedoGivesBackWorld}
-use Rattle.machine_laws.specs.OverTime.{GotoGivesBack}
+use Rattle.machine_laws.specs.OverTime.{GotoGivesBack, GivesBack}
 use Rattle.machine_laws.proofs.Again.{moved_nodes, moved_worlds, undo_goes_up_far, redo_goes_down_far, goto_goes_there, undid_all, redid_all}
 use Rattle.machine_laws.proofs.Again.{undone_open, redone_open, end_of_outcome, end_told}
 use Rattle.machine_laws.proofs.Jobs.{jobs_end}
@@ -206,13 +206,15 @@ same_node_same_world first last events answers n l i r j =
 
 -- what a job that was taken since leaves, where it ends without a job and at the node of then
 since : (first last : Machine) (job : Request) (o : Outcome) (t : TakenSince first last job o) (at : Past) →
-    last.state ≡ record { past = at; job = Idle } → at.position ≡ first.state.past.position → ShowsAgain first last
+    last.state ≡ record { past = at; job = Idle } → at.position ≡ first.state.past.position → GivesBack first last
 since first last job o t at e there =
     let first_run = run_grows first t.between t.events t.answers t.came in
     let then_run = run_grows t.between last (event.Begin ∷ t.since) t.told t.ran in
     let k = kept first.state.past last.state.past t.legal.legal
     (further first.state.past t.between.state.past last.state.past first_run then_run) in
-    shows_again first last t.legal t.idle (ap (λ (s : State). s.job) e) k (ap (λ (s : State). s.past.position) e ∙ there)
+    let idle : last.state.job ≡ Idle = ap (λ (s : State). s.job) e in
+    let position : last.state.past.position ≡ first.state.past.position = ap (λ (s : State). s.past.position) e ∙ there in
+    (record { idle = idle; position = position }, shows_again first last t.legal t.idle idle k position)
 
 pub undo_gives_back : UndoGivesBack
 unfolding end_of_outcome

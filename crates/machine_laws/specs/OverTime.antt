@@ -1,4 +1,6 @@
 -- What stays over time: nodes stay as they are, whatever comes. So where a machine comes back to a node, by undo, redo or goto, the world is that of then.
+-- The machine keeps the worlds of all nodes, so these are laws of its definitions; that the one store of the code has this world is the contract of
+-- `Kernel::world`.
 use Rattle.std.specs.Prelude.{◌≡◌, ℕ, ◌<◌, ◌≤◌, List, ◌∷◌, length}
 use Rattle.janus_meaning.specs.World.{World}
 use Rattle.kernel_machine.specs.State.{Past, Idle, node_at, world_at, ancestor, Shown}
@@ -56,19 +58,23 @@ pub record TakenSince (first last : Machine) (job : Request) (o : Outcome) : Typ
   pub ran : Run between (event.Begin ∷ since) told last
   pub ended : EndsAs told o
 
--- An undo of k cells that ends with all of them, where the node of then is the k-th above, shows the world of then.
+-- no job is open, the position is the node of then, and the world is that of then
+abbrev pub GivesBack : Machine → Machine → Type 0
+GivesBack first last = IsIdleAt last first.state.past.position × ShowsAgain first last
+
+-- An undo of k cells that is taken where the node of then is the k-th above, and ends with all of them, gives the world of then back.
 abbrev pub UndoGivesBack : Type 0
 UndoGivesBack =
     (first last : Machine) (k : ℕ) (t : TakenSince first last (Undo k) (outcome.Undid k All)) →
-    ancestor t.between.state.past.nodes t.between.state.past.position k ≡ first.state.past.position → ShowsAgain first last
+    ancestor t.between.state.past.nodes t.between.state.past.position k ≡ first.state.past.position → GivesBack first last
 
--- A redo of k cells that ends with all of them, where the node of then is the k-th favourite below, shows the world of then.
+-- A redo of k cells that is taken where the node of then is the k-th favourite below, and ends with all of them, gives the world of then back.
 abbrev pub RedoGivesBackWorld : Type 0
 RedoGivesBackWorld =
     (first last : Machine) (k : ℕ) (t : TakenSince first last (Redo k) (outcome.Redid k All)) →
-    descendant t.between.state.past.favourites t.between.state.past.position k ≡ first.state.past.position → ShowsAgain first last
+    descendant t.between.state.past.favourites t.between.state.past.position k ≡ first.state.past.position → GivesBack first last
 
--- A goto to the node of then that ends with all of its cells shows the world of then.
+-- A goto to the node of then that ends with all of its cells gives the world of then back.
 abbrev pub GotoGivesBack : Type 0
 GotoGivesBack =
-    (first last : Machine) (up down : ℕ) (t : TakenSince first last (Goto first.state.past.position) (outcome.Went up down All)) → ShowsAgain first last
+    (first last : Machine) (up down : ℕ) (t : TakenSince first last (Goto first.state.past.position) (outcome.Went up down All)) → GivesBack first last

@@ -72,8 +72,8 @@ pub fn nodes_stay_law()
 {}
 
 /// What a travel gives back, over time. A machine stood idle at a node, and whatever came since: an undo of `k` cells that is taken where
-/// that node is the `k`-th above and ends as `All` shows the world that was shown then, each name, value and procedure of it. So does a redo
-/// of `k` cells where it is the `k`-th favourite below, and a goto to it.
+/// that node is the `k`-th above and ends as `All` leaves the machine idle at that node, and shows the world that was shown then, each name, value
+/// and procedure of it. So does a redo of `k` cells that is taken where it is the `k`-th favourite below, and a goto to it, that end so.
 pub fn undo_gives_back_law()
     ensures undo { UndoGivesBack }
     ensures redo { RedoGivesBackWorld }
