@@ -40,12 +40,21 @@ function recall(run, history) {
         history.known = true;
         history.reshaped = true;
         history.version++;
-        return JSON.parse(sessionStorage.getItem(BEGIN + run) || '[]');
+        return pairs_of(run);
     } catch (error) {
         history.clear();
         return [];
     }
 }
 
-return {keep: keep, recall: recall};
+// The pairs of prompts and nodes that this page, or its last load, kept.
+function pairs_of(run) {
+    try {
+        return JSON.parse(sessionStorage.getItem(BEGIN + run) || '[]');
+    } catch (error) {
+        return [];
+    }
+}
+
+return {keep: keep, recall: recall, pairs_of: pairs_of};
 });

@@ -216,8 +216,9 @@ def late_join(stage):
     late = stage.other_page()
     stands(late, 6, 6, what='a page that joins late stands at node 6 of 6', timeout=120)
     it = known(late)
-    check(it['unknown'] == 6 and 'marked ?' in shown(late)['note'], 'it knows that 5 of 6 nodes stand above, not which, and says so', it)
-    check(len(late.js('return $("#janus-panel .node.loose").get()')) == 6, 'these nodes are marked')
+    check(it['unknown'] == 5 and it['parent'][1] == 0 and 'marked ?' in shown(late)['note'],
+          'it knows that 5 of 6 nodes stand above, of which only node 1 for sure, and says so', it)
+    check(len(late.js('return $("#janus-panel .node.loose").get()')) == 5, 'these nodes are marked')
     late.js('Jupyter.janus.go(4)')
     stands(late, 4, 6, what='it goes to node 4')
     comes('which tells all of the path', lambda: known(late)['parent'][1:5] == [0, 1, 2, 3] and known(late)['unknown'] == 1)
@@ -308,6 +309,17 @@ def run_all_stops(stage):
     page.menu('#celllink', '#run_all_cells_below a')
     comes('Run All Below stops too', lambda: 'which failed: 1 cell behind it did not run' in message(page))
     stands(page, 6, 6)
+
+
+def run_all_tagged(stage):
+    page = stage.page
+    page.js('''Jupyter.notebook.get_cell(4).set_text("x1 += x1"); Jupyter.notebook.get_cell(4).metadata.tags = ["raises-exception"]''')
+    for text in ('n += 7', 'n += n', 'n += 1'):
+        page.add(text)
+    run_all(page)
+    wanted = 'Stopped at the cell In [6], which failed: 1 cell behind it did not run.'
+    comes('Run All goes on behind a cell that is tagged to fail, and stops at one that is not', lambda: (message(page) == wanted, message(page)))
+    stands(page, 4, 4, ['x1 = 5', 'x2 = 8', 'n = 7'])
 
 
 def run_all_interrupted(stage):
@@ -484,5 +496,5 @@ def no_errors(stage):
 
 
 SCENES = [highlighting, buttons, clicks, refused_moves, refusals, interrupt, waiting, second_frontend, late_join, reload_page, restart, earlier_run,
-          run_all_stops, run_all_interrupted, keyboard, screen_reader, slider, slider_on_branch, backwards, no_errors]
+          run_all_stops, run_all_tagged, run_all_interrupted, keyboard, screen_reader, slider, slider_on_branch, backwards, no_errors]
 LAST = [other_language]         # behind it a server may take a minute to end the kernel of Python

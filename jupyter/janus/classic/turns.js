@@ -1,7 +1,8 @@
-// Run All, Run All Below and the like: cells run one behind the other, and the first that fails stops the rest.
+// Run All, Run All Below and the like: cells run one behind the other, and the first that fails stops the rest, but for cells
+// that are tagged to fail.
 //
 // The notebook sends all cells at once and leaves it to the kernel to stop; this kernel runs what it is sent.
-define(['jquery', 'base/js/namespace', 'base/js/events', './texts.js'], function ($, Jupyter, events, texts) {
+define(['jquery', 'base/js/namespace', 'base/js/events', '../page/texts.js'], function ($, Jupyter, events, texts) {
 'use strict';
 
 const ENDS = 'kernel_restarting.Kernel kernel_killed.Kernel kernel_dead.Kernel kernel_disconnected.Kernel';
@@ -62,7 +63,8 @@ class Turns {
             const cell = this.waiting.shift().cell;
             if (Jupyter.notebook.find_cell_index(cell) === null) continue;           // it was deleted meanwhile
             const came = await run(cell);
-            if (came.status !== 'ok') this.stop(came);
+            const is_meant = came.status === 'error' && ((cell.metadata || {}).tags || []).indexOf('raises-exception') >= 0;
+            if (came.status !== 'ok' && !is_meant) this.stop(came);
         }
         this.running = false;
     }
