@@ -285,14 +285,16 @@ CONTRAST = '''function parts(it) { var n = it.match(/[0-9.]+/g).map(Number); ret
         return sum + w * (v <= .03928 ? v / 12.92 : Math.pow((v + .055) / 1.055, 2.4)); }, 0); }
     function behind(it) { for (; it; it = it.parentElement) { var c = parts(getComputedStyle(it).backgroundColor); if (c[3] > .9) return c; }
         return [255, 255, 255]; }
+    function behind_row(it) { var look = getComputedStyle(it.closest('.node').querySelector('.hit')), c = parts(look.fill);
+        return c[3] > .9 ? c : behind(it.closest('.janus-tree')); }
     return Array.from(document.querySelectorAll(arguments[0])).filter(function (it) { return it.textContent.trim() && it.getClientRects().length; })
         .map(function (it) { var look = getComputedStyle(it), svg = it.namespaceURI.indexOf('svg') >= 0, a = light(parts(svg ? look.fill : look.color));
-            var b = light(behind(svg ? it.closest('.janus-tree') : it));
+            var b = light(svg ? behind_row(it) : behind(it));
             return [Math.round(100 * (Math.max(a, b) + .05) / (Math.min(a, b) + .05)) / 100, it.className.baseVal || it.className || it.tagName]; })
         .sort(function (a, b) { return a[0] - b[0]; })[0]'''
 TEXTS = ', '.join(('#janus-panel b', '.janus-where', '.janus-go label', '.janus-step', '.janus-world-head', '.janus-values th', '.janus-values td',
                    '.janus-message', '.janus-others li', '.janus-words', '.janus-tool', '.janus-sign', '#janus-panel .node .num',
-                   '#janus-panel .node .code'))
+                   '#janus-panel .node .count', '#janus-panel .node .code'))
 
 
 def themes(stage):
