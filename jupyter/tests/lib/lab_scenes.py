@@ -275,6 +275,10 @@ def screen_reader(stage):
     comes('the row of the keyboard is the active descendant', lambda: page.js(
         'return document.activeElement.getAttribute("aria-activedescendant")') == 'janus-node-2')
     page.js('document.querySelector(".janus-undo").focus()')
+    for _ in range(16):                                         # where the toolbar is one stop of the Tab key, arrows go on in it
+        if page.js('return document.activeElement.classList.contains("janus-undo")'):
+            break
+        page.keys(Keys.ARROW_RIGHT)
     page.keys(Keys.ENTER)
     stands(page, 2, 4, WORLD, 'a button can be reached and pressed by keyboard')
 
