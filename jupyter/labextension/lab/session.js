@@ -25,9 +25,9 @@ class LabSession extends Session {
         this.look();
     }
 
+    // The widget is no more.
     dispose() {
         window.removeEventListener('pagehide', this.leaving);
-        this.keep();
         this.turn_off();
         clearTimeout(this.timer);
         clearTimeout(this.keep_timer);

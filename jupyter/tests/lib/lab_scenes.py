@@ -587,6 +587,7 @@ def two_notebooks(stage):
     stands(page, 1, 2, ZEROS, 'and Undo is for the one that is in use')
     page.js('''var it = Array.from(janus_history.sessions.keys()).find(function (w) { return w !== kept; }); it.context.model.dirty = false; it.dispose()''')
     comes('a closed notebook leaves nothing', lambda: page.js('return janus_history.sessions.size') == 1)
+    check(not own_errors(page), 'and no error')
 
 
 def big(stage):
