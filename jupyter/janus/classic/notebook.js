@@ -1,6 +1,7 @@
 // The classic notebook's page: its parts put together.
-define(['jquery', 'base/js/namespace', 'base/js/events', '../page/session.js', '../page/panel.js', './cells.js', './places.js', './turns.js', './tools.js'],
-function ($, Jupyter, events, Session, Panel, Cells, places, Turns, tools) {
+define(['jquery', 'base/js/namespace', 'base/js/events', '../page/session.js', '../page/panel.js', '../page/memory.js', './cells.js', './places.js',
+    './turns.js', './tools.js'],
+function ($, Jupyter, events, Session, Panel, memory, Cells, places, Turns, tools) {
 'use strict';
 
 const NOTICE = 6000;                    // ms
@@ -20,7 +21,7 @@ class Page extends Session {
             backwards: () => this.backwards(Jupyter.notebook.get_selected_cell()), toggle: () => this.show(!$('body').hasClass('janus-open')),
             focus: () => this.focus_tree(),
         });
-        this.show(stored('janus-open') !== '0');
+        this.show(memory.was_open());
     }
 
     // Whether a cell of this page runs or waits. The notebook's own word on it comes from broadcasts, of which some may be lost.
@@ -65,7 +66,7 @@ class Page extends Session {
 
     show(yes) {
         $('body').toggleClass('janus-open', yes);
-        store('janus-open', yes ? '1' : '0');
+        memory.keep_open(yes);
         this.panel.tree.followed = '';
         this.changed();
     }
@@ -74,20 +75,6 @@ class Page extends Session {
         this.show(true);
         this.panel.tree.box.focus();
     }
-}
-
-function stored(key) {
-    try {
-        return localStorage.getItem(key);
-    } catch (error) {
-        return null;
-    }
-}
-
-function store(key, value) {
-    try {
-        localStorage.setItem(key, value);
-    } catch (error) { /* not kept */ }
 }
 
 return Page;

@@ -4,7 +4,7 @@ define([], function () {
 
 const LABELS = 2000, TEXT = 200;        // so many of the newest labels are kept, with so much of their text
 const WEEK = 7 * 864e5;                 // ms
-const BEGIN = 'janus:';
+const BEGIN = 'janus:', OPEN = 'janus-open';
 
 function short(label) { return label && {count: label.count, code: label.code.slice(0, TEXT)}; }
 
@@ -56,5 +56,20 @@ function pairs_of(run) {
     }
 }
 
-return {keep: keep, recall: recall, pairs_of: pairs_of};
+// Whether the panel was open when it was last shown or hidden.
+function was_open() {
+    try {
+        return localStorage.getItem(OPEN) !== '0';
+    } catch (error) {
+        return true;
+    }
+}
+
+function keep_open(yes) {
+    try {
+        localStorage.setItem(OPEN, yes ? '1' : '0');
+    } catch (error) { /* not kept */ }
+}
+
+return {keep: keep, recall: recall, pairs_of: pairs_of, was_open: was_open, keep_open: keep_open};
 });

@@ -1,5 +1,5 @@
 // The place at the right side of JupyterLab, which shows the panel of the session in use.
-define(['@lumino/widgets', '@jupyterlab/ui-components'], function (lumino, ui) {
+define(['../memory.js', '@lumino/widgets', '@jupyterlab/ui-components'], function (memory, lumino, ui) {
 'use strict';
 
 const RANK = 150;                       // behind the property inspector
@@ -40,12 +40,12 @@ class Side extends lumino.Widget {
     place() {
         if (this.isAttached) return;
         this.app.shell.add(this, 'right', {rank: RANK});
-        if (stored('janus-open') !== '0') this.app.shell.activateById(this.id);
+        if (memory.was_open()) this.app.shell.activateById(this.id);
     }
 
     toggle() {
         const open = !this.isVisible;
-        store('janus-open', open ? '1' : '0');
+        memory.keep_open(open);
         if (open) this.app.shell.activateById(this.id);
         else if (this.app.shell.collapseRight) this.app.shell.collapseRight();
     }
@@ -54,20 +54,6 @@ class Side extends lumino.Widget {
         if (!this.isVisible) this.toggle();
         session.panel.tree.box.focus();
     }
-}
-
-function stored(key) {
-    try {
-        return localStorage.getItem(key);
-    } catch (error) {
-        return null;
-    }
-}
-
-function store(key, value) {
-    try {
-        localStorage.setItem(key, value);
-    } catch (error) { /* not kept */ }
 }
 
 return Side;

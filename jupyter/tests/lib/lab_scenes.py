@@ -28,10 +28,6 @@ def only(*servers):
     return mark
 
 
-def own_errors(page):
-    return [it for it in page.errors() if 'janus-history' in it]
-
-
 # ---- the page as it comes
 def loads(stage):
     page = stage.page
@@ -42,7 +38,6 @@ def loads(stage):
     check(now['title'] == 'loads.ipynb', 'with the notebook\'s name', now['title'])
     marked(page, ['gone'] * 4, 'saved outputs are marked as of an earlier run')
     figure('version', page.js('return jupyterapp.name + " " + jupyterapp.version'))
-    check(not own_errors(page), 'no error of the extension in the browser\'s console')
     outside = page.js('''return performance.getEntriesByType('resource').map(function (it) { return it.name; })
         .filter(function (it) { return !it.startsWith(location.origin) && !it.startsWith('data:') && !it.startsWith('blob:'); })''')
     check(not outside, 'nothing is fetched from outside', outside)
@@ -587,7 +582,6 @@ def two_notebooks(stage):
     stands(page, 1, 2, ZEROS, 'and Undo is for the one that is in use')
     page.js('''var it = Array.from(janus_history.sessions.keys()).find(function (w) { return w !== kept; }); it.context.model.dirty = false; it.dispose()''')
     comes('a closed notebook leaves nothing', lambda: page.js('return janus_history.sessions.size') == 1)
-    check(not own_errors(page), 'and no error')
 
 
 def big(stage):
@@ -615,7 +609,6 @@ def big(stage):
 def other_pages(stage):
     """Notebook 7 has a page of its own for each thing."""
     page, server = stage.page, stage.server
-    page.errors()
     page.driver.get(f'{server.url}/tree')
     active = 'return !!window.jupyterapp && !!window.janus_history && jupyterapp.isPluginActivated("janus-history:history")'
     comes('the page of files has the plugins too', lambda: page.js(active), 60)
@@ -637,20 +630,6 @@ def other_pages(stage):
     page.click('.janus-undo')
     stands(page, 0, 1, [], 'Undo takes it back')
     comes('and it is marked', lambda: (marks(page)[:1] == ['-1'], marks(page)))
-    own = own_errors(page)
-    check(not own, 'no error of the extension in the browser\'s console', own)
-
-
-def no_errors(stage):
-    page = stage.page
-    page.errors()
-    run_example(page)
-    page.click('.janus-undo')
-    stands(page, 3, 4)
-    found = page.errors()
-    own = [it for it in found if 'janus' in it.replace(page.notebook, '')]
-    check(not own, 'no error of the extension in the browser\'s console', own)
-    figure('errors of others', sorted({it.split(' ', 2)[-1][:150] for it in found}))
 
 
 def pose(stage):
@@ -674,4 +653,4 @@ def pose(stage):
 
 
 SCENES = [loads, colours, files, buttons, tree, backwards, keyboard, completion, commands, screen_reader, themes, refusals, waiting, run_all, run_all_tagged,
-          second_frontend, late_join, reload_page, restart, connection, second_page, other_kernel, console, two_notebooks, big, other_pages, no_errors]
+          second_frontend, late_join, reload_page, restart, connection, second_page, other_kernel, console, two_notebooks, big, other_pages]
