@@ -233,7 +233,7 @@ def commands(stage):
     next(it for it in page.driver.find_elements(By.CSS_SELECTOR, '.lm-MenuBar-item') if it.text.strip() == 'Kernel').click()
     comes('they stand in the menu Kernel', lambda: (set(LABELS) <= set(page.js(ENTRIES)), page.js(ENTRIES)))
     page.keys(Keys.ESCAPE)
-    page.command('apputils:activate-command-palette' if stage.server.program == 'lab' else 'command-palette:activate')
+    page.command('apputils:activate-command-palette')
     comes('and in the command palette', lambda: ({'Janus', *LABELS} <= set(page.js(PALETTE)), page.js(PALETTE)[:20]))
     page.command('janus:undo')
     stands(page, 3, 4, FORWARD, 'a command does what its button does')
