@@ -1,5 +1,6 @@
 """The scenes of jupyter/tests/lab: each is played on a page of its own with a kernel of its own. `stage` has the page, its server and further frontends."""
 import os
+import re
 import signal
 import time
 
@@ -317,8 +318,8 @@ def refusals(stage):
     stands(page, 1, 1)
     index = add(page, 'if n')
     run(page, index)
-    wanted = "Line 1, column 5: something else has to stand here, as 'then' behind the test of an 'if' (31 Expected). Nothing has run."
-    comes('refused 31 is told in words below the cell', lambda: (words_below(page, index) == wanted, words_below(page, index)))
+    wanted = r'Line 1, column 5: .*then.* \(31 Expected\)\. Nothing has run\.'
+    comes('refused 31 is told in words below the cell', lambda: (bool(re.fullmatch(wanted, words_below(page, index) or '')), words_below(page, index)))
     comes('and its place underlined', lambda: (place(page, index) == 'n', place(page, index)))
     output = page.js(S + 'return nb.widgets[arguments[0]].outputArea.node.textContent', index)
     check('refused 31 Expected at 4..4' in output, 'the kernel\'s line stands in the output', output)
@@ -334,8 +335,9 @@ def refusals(stage):
     check(page.js(S + "return nb.widgets[arguments[0]].node.querySelector('.janus-place').offsetLeft", index) > 30, 'it is the second x1')
     source(page, index, 'x1 += 1 / 0')
     run(page, index)
-    wanted = "'/' or '%' by 0 (57 DivisionByZero), after 1 step. What ran was taken back: all is as before the cell."
-    comes('a fault is told without a place', lambda: (words_below(page, index) == wanted and place(page, index) == '', words_below(page, index)))
+    wanted = r'.*\(57 DivisionByZero\), after 1 step\. What ran was taken back.*'
+    comes('a fault is told without a place', lambda: (
+        bool(re.fullmatch(wanted, words_below(page, index) or '')) and place(page, index) == '', words_below(page, index)))
     source(page, index, 'x1 += 1')
     run(page, index)
     stands(page, 2, 2)
@@ -471,14 +473,15 @@ def restart(stage):
 
 
 def kill_kernel(connection):
-    """Ends the one process whose command line names the connection file; answers how many there were."""
+    """Ends the kernel whose command line names the connection file; answers how many there were."""
     name, ended = os.path.basename(connection), 0
     for pid in filter(str.isdigit, os.listdir('/proc')):
         try:
             with open(f'/proc/{pid}/cmdline') as file:
-                if name in file.read():
-                    os.kill(int(pid), signal.SIGKILL)
-                    ended += 1
+                given = file.read().split('\0')
+            if os.path.basename(given[0]) == 'janus-kernel' and name in ' '.join(given):
+                os.kill(int(pid), signal.SIGKILL)
+                ended += 1
         except OSError:
             pass
     return ended
