@@ -1,5 +1,5 @@
 // What the kernel's lines mean, in words, with what to do.
-define(['./refusals.js', './texts.js'], function (refusals, texts) {
+define(['./refusals.js', './slips.js', './texts.js'], function (refusals, slips, texts) {
 'use strict';
 
 const REFUSED = /^refused (\d+) (\w+)(?: at (\d+)\.\.(\d+))?$/;
@@ -13,13 +13,13 @@ function advice(number) { return refusals[number] ? refusals[number].advice : 't
 function place(code, from_octet, to_octet) {
     const octets = new TextEncoder().encode(code);
     const before = function (octet) { return new TextDecoder().decode(octets.subarray(0, octet)); };
-    const lines = before(from_octet).split('\n');
-    let from = before(from_octet).length, to = before(to_octet).length;
+    const lines = before(from_octet).split('\n'), begin = before(from_octet).length;
+    let from = begin, to = before(to_octet).length;
     if (from === to) {                                                  // at the text's end: its last character that is no space
         to = code.slice(0, to).trimEnd().length || to;
         from = to - (Array.from(code.slice(Math.max(0, to - 2), to)).pop() || '').length;
     }
-    return {from: from, to: to, line: lines.length, column: Array.from(lines[lines.length - 1]).length + 1};
+    return {from: from, to: to, begin: begin, line: lines.length, column: Array.from(lines[lines.length - 1]).length + 1};
 }
 
 // What an error of a cell says: {text, place}, where place is null where the line has none.
@@ -27,8 +27,8 @@ function error(line, code) {
     const refused = REFUSED.exec(line), fault = FAULT.exec(line), interrupted = INTERRUPTED.exec(line);
     if (refused && refused[3] !== undefined) {
         const at = place(code, Number(refused[3]), Number(refused[4]));
-        const where = 'Line ' + at.line + ', column ' + at.column + ': ';
-        return {text: where + advice(refused[1]) + ' (' + refused[1] + ' ' + refused[2] + '). Nothing has run.', place: at};
+        const where = 'Line ' + at.line + ', column ' + at.column + ': ', words = slips.meant(refused[1], code, at.begin) || advice(refused[1]);
+        return {text: where + words + ' (' + refused[1] + ' ' + refused[2] + '). Nothing has run.', place: at};
     }
     if (refused) return {text: capital(advice(refused[1])) + ' (' + refused[1] + ' ' + refused[2] + '). Nothing was done.', place: null};
     if (fault) return {text: capital(advice(fault[1])) + ' (' + fault[1] + ' ' + fault[2] + '), ' + taken_back(fault[3]), place: null};

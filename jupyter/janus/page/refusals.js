@@ -8,59 +8,59 @@ return {
     },
     31: {
         name: "Expected",
-        advice: "something else has to stand here, as 'then' behind the test of an 'if'",
+        advice: "something else has to stand here, such as 'then' after the test of an 'if'",
     },
     32: {
         name: "NumberTooLarge",
-        advice: "a number is above 2147483647; write it as a sum",
+        advice: "a number is greater than 2147483647: write it as a sum",
     },
     33: {
         name: "TooNested",
-        advice: "more than 64 constructs inside one another, or more than 256 operators in an expression: cut it with a variable or a procedure",
+        advice: "more than 64 constructs are nested, or an expression has more than 256 operators: split it with a variable or a procedure",
     },
     34: {
         name: "DelocalName",
-        advice: "kind and name behind 'delocal' have to be those behind its 'local'",
+        advice: "the kind and name after 'delocal' have to be those after its 'local'",
     },
     35: {
         name: "Memory",
-        advice: "there was no memory to read the text; a cell is then told 76",
+        advice: "there was no memory to read the text; for a cell this is reported as 76",
     },
     40: {
         name: "Declared",
-        advice: "the name is declared already, a procedure is defined twice in the cell, or two of its parameters have one name: take another, or undo to before it",
+        advice: "the name is already declared, a procedure is defined twice in the cell, or two of its parameters have the same name: choose another, or undo the declaration",
     },
     41: {
         name: "Unknown",
-        advice: "no such name is in sight: declare it. In a procedure only its parameters and locals are",
+        advice: "no such name is in scope: declare it. In a procedure only its parameters and locals are in scope, and a statement after a procedure belongs to it",
     },
     42: {
         name: "WrongKind",
-        advice: "a number, an array or a stack is wanted here: an array may want its index, an argument is of the kind of its parameter, and '<=>' stands between two variables that are numbers",
+        advice: "this name is of another kind (number, array or stack) than is needed here: an array may lack its index, an argument has to be of its parameter's kind, and '<=>' stands between two variables that are numbers",
     },
     43: {
         name: "SelfUse",
-        advice: "an assignment names its own variable on the right or in its index; it could not be undone. Or a local is named in its own two expressions. Take a second variable",
+        advice: "an assignment names its own variable on the right or in its index, so it could not be undone; or a local is named in its own two expressions: use a second variable",
     },
     44: {
         name: "SameArgument",
-        advice: "a name stands twice among the arguments of a call",
+        advice: "a name is given twice among the arguments of a call: pass a copy in a local",
     },
     45: {
         name: "Arity",
-        advice: "the procedure has another number of parameters",
+        advice: "the procedure has a different number of parameters",
     },
     46: {
         name: "Shadow",
-        advice: "a local's name is in sight already: take another",
+        advice: "a local's name is already in scope: choose another",
     },
     47: {
         name: "ChangedParameters",
-        advice: "a procedure may be defined anew only with the same kinds of parameters: take another name",
+        advice: "a procedure can be redefined only with the same kinds of parameters: choose another name",
     },
     48: {
         name: "TooMany",
-        advice: "past 256 names, 64 stacks, 256 procedures or 16 parameters",
+        advice: "more than 256 names, 64 stacks, 256 procedures or 16 parameters",
     },
     49: {
         name: "ArrayLength",
@@ -68,31 +68,31 @@ return {
     },
     50: {
         name: "FiAssertion",
-        advice: "the expression behind 'fi' has to be nonzero behind 'then' and 0 behind 'else': find one that tells the two ways apart",
+        advice: "the expression after 'fi' has to be nonzero after 'then' and 0 after 'else': find one that tells the two ways apart",
     },
     51: {
         name: "EntryAssertion",
-        advice: "the expression behind 'from' has to be nonzero as the loop is entered",
+        advice: "the expression after 'from' has to be nonzero when the loop is entered",
     },
     52: {
         name: "LoopAssertion",
-        advice: "the expression behind 'from' has to be 0 in each further turn: choose one that holds at the start alone",
+        advice: "the expression after 'from' has to be 0 in every further turn: choose one that holds only at the start",
     },
     53: {
         name: "DelocalMismatch",
-        advice: "a local doesn't end as its 'delocal' says: bring it there first, or empty the stack",
+        advice: "a local doesn't end with the value that its 'delocal' gives: bring it to that value first, or empty the stack",
     },
     54: {
         name: "PopNotZero",
-        advice: "a 'pop' goes into a variable that is 0",
+        advice: "a 'pop' needs a variable that is 0",
     },
     55: {
         name: "PopEmpty",
-        advice: "the stack is empty: ask 'empty(s)' first",
+        advice: "the stack is empty: test 'empty(s)' first",
     },
     56: {
         name: "TopEmpty",
-        advice: "'top(s)' of a stack that is empty: ask 'empty(s)' first",
+        advice: "'top(s)' of an empty stack: test 'empty(s)' first",
     },
     57: {
         name: "DivisionByZero",
@@ -100,7 +100,7 @@ return {
     },
     58: {
         name: "IndexRange",
-        advice: "the index is below 0 or past the end",
+        advice: "the index is below 0 or beyond the end",
     },
     59: {
         name: "StackFull",
@@ -108,11 +108,11 @@ return {
     },
     60: {
         name: "TooDeep",
-        advice: "more than 16,384 frames are open at once, of which each call, and each statement inside another, opens some: the recursion doesn't end, or is too deep",
+        advice: "more than 16,384 frames are open at once; each call, and each statement inside another, opens some, so a recursion with one call inside an 'if' goes about 4,000 levels deep: it doesn't end, or is too deep",
     },
     61: {
         name: "TooManyStacks",
-        advice: "64 stacks live already",
+        advice: "there are 64 stacks already",
     },
     62: {
         name: "StepLimit",
@@ -120,7 +120,7 @@ return {
     },
     70: {
         name: "HistoryFull",
-        advice: "the history has its 65,536 nodes: start the kernel anew",
+        advice: "the history has its 65,536 nodes, and nodes are never freed: keep your cells and restart the kernel, which forgets what it holds",
     },
     71: {
         name: "NoNode",
@@ -128,15 +128,15 @@ return {
     },
     72: {
         name: "Memory",
-        advice: "there was no memory for a node; a cell is then told 76",
+        advice: "there was no memory for a node; for a cell this is reported as 76",
     },
     73: {
         name: "TooFar",
-        advice: "there are fewer cells that way; nothing was done",
+        advice: "there are fewer cells that way: nothing was done",
     },
     74: {
         name: "QueueFull",
-        advice: "1,024 jobs wait: wait until some are done. At 'janus-kernel' 32 wait at most, so nobody is told it",
+        advice: "1,024 jobs are waiting: wait until some are done. At 'janus-kernel' at most 32 wait, so this never comes",
     },
     75: {
         name: "Closing",
@@ -144,27 +144,27 @@ return {
     },
     76: {
         name: "Memory",
-        advice: "there was no memory; nothing was done",
+        advice: "there was no memory: nothing was done",
     },
     77: {
         name: "MinutesFull",
-        advice: "the kernel served 500,000 jobs: start it anew",
+        advice: "the kernel has served 500,000 jobs: restart it",
     },
     78: {
         name: "PassMissing",
-        advice: "told where a kernel's own books are audited as it is closed, and don't add up. 'janus-kernel' audits none, so nobody is told it",
+        advice: "comes where a kernel's own books are audited when it is closed, and don't add up. 'janus-kernel' audits none, so this never comes",
     },
     79: {
         name: "TicketUnknown",
-        advice: "told where a kernel's own books are audited, as 78",
+        advice: "comes where a kernel's own books are audited, like 78",
     },
     80: {
         name: "BadCommand",
-        advice: "'janus-cells' alone: no command has this form",
+        advice: "only in 'janus-cells': no command has this form",
     },
     81: {
         name: "NoPass",
-        advice: "the kernel gave out its 65,536 passes. 'janus-kernel' takes 64 as it starts and gives out no more, so nobody is told it",
+        advice: "the kernel has given out its 65,536 passes. 'janus-kernel' takes 64 when it starts and gives out no more, so this never comes",
     },
 };
 });

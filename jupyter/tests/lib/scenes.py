@@ -129,7 +129,7 @@ def refusals(stage):
     page.run(cell)
     place = 'return Jupyter.notebook.get_cell(arguments[0]).element.find(".janus-place").text()'
     comes('the place of a refusal is underlined', lambda: page.js(place, cell) == 'the')
-    wanted = 'Line 3, column 11: something else has to stand here, as \'then\' behind the test of an \'if\' (31 Expected). Nothing has run.'
+    wanted = 'Line 3, column 11: the test ends here, so \'then\' has to stand here, or an operator is missing (31 Expected). Nothing has run.'
     check(words_below(page, cell) == wanted, 'what to do stands below, with line and column', words_below(page, cell))
     page.js('Jupyter.notebook.get_cell(arguments[0]).set_text("x1 += 7 / (n - 4)")', cell)
     check(page.js(place, cell) == '' and words_below(page, cell) == '', 'both are gone once the text is changed')

@@ -1,0 +1,272 @@
+#!/usr/bin/python3
+"""A console for Janus in a terminal, with undo: cells, and the commands %undo, %redo, %goto, %show and %tree.
+
+usage: janus-repl [--existing FILE]     (a kernel's connection file; else a kernel of its own, which ends with the console)
+
+Needs jupyter_client, prompt_toolkit and pygments, as Debian's jupyter-console brings them.
+"""
+import os
+import re
+import signal
+import subprocess
+import sys
+import time
+import uuid
+from concurrent.futures import ThreadPoolExecutor
+from concurrent.futures import TimeoutError as NotYet
+from queue import Empty
+
+sys.path[0] = os.path.dirname(os.path.dirname(os.path.realpath(__file__)))
+
+from jupyter_client import BlockingKernelClient, KernelManager
+from jupyter_core.paths import jupyter_runtime_dir
+from prompt_toolkit import PromptSession, print_formatted_text
+from prompt_toolkit.completion import Completer, Completion
+from prompt_toolkit.formatted_text import FormattedText
+from prompt_toolkit.key_binding import KeyBindings
+from prompt_toolkit.lexers import PygmentsLexer
+
+from janus_lexer import JanusLexer
+from janus_lexer.refusals import REFUSALS
+from janus_lexer.tree import Tree
+
+HELP = '''%undo [K]   take K cells back, the newest first      %goto N   go to node N, 0 for the start
+%redo [K]   redo K cells along the ways last gone    %show     the values here
+%tree       all cells that ran, and where we are     %help     this
+Ctrl-C stops the cell that runs, which is then taken back; Ctrl-D leaves.'''
+COMMAND = re.compile(r'%(undo|redo|goto|show|tree|help)(?:\s+(\d{1,10}))?\s*$')
+REFUSED = re.compile(r'refused (\d+) \w+(?: at (\d+)\.\.(\d+))?$')
+FAULT = re.compile(r'fault (\d+) \w+ after \d+$')
+MOVES = ('undo', 'redo', 'goto')
+
+
+class Ended(Exception):
+    pass
+
+
+class Desk:
+    """The kernel behind one thread, so that no call meets the event loop of the prompt. The control socket is the main thread's."""
+    def __init__(self, file):
+        self.manager, self.comm = None, uuid.uuid4().hex
+        self.thread = ThreadPoolExecutor(max_workers=1)
+        if file is None:
+            os.makedirs(jupyter_runtime_dir(), mode=0o700, exist_ok=True)
+            file = os.path.join(jupyter_runtime_dir(), f'kernel-{os.getpid()}.json')
+            self.manager = KernelManager(kernel_name='janus', connection_file=file)
+            self.manager.start_kernel(stdout=subprocess.DEVNULL)          # its line `ready` goes nowhere
+        self.file = file
+        self.client = BlockingKernelClient(connection_file=file)
+        self.client.load_connection_file()
+        self.wait(self.open)
+
+    def open(self):
+        self.client.start_channels()
+        self.client.wait_for_ready(timeout=30)
+        self.send('comm_open', {'comm_id': self.comm, 'target_name': 'janus.undo', 'data': {}})
+
+    def wait(self, work, *given, patience=None):
+        """What the work answers. Ctrl-C meanwhile interrupts what the kernel runs."""
+        future, until = self.thread.submit(work, *given), patience and time.monotonic() + patience
+        while True:
+            try:
+                return future.result(.2)
+            except NotYet:
+                if until and time.monotonic() > until:
+                    raise
+            except KeyboardInterrupt:
+                self.client.control_channel.send(self.client.session.msg('interrupt_request', {}))
+
+    def send(self, kind, content):
+        message = self.client.session.msg(kind, content)
+        self.client.shell_channel.send(message)
+        return message['header']['msg_id']
+
+    def heard(self, asked, wanted):
+        """The broadcasts on a request, up to its idle status."""
+        while True:
+            try:
+                message = self.client.get_iopub_msg(timeout=1)
+            except Empty:
+                if self.manager and not self.manager.is_alive() or not self.client.hb_channel.is_beating():
+                    raise Ended from None
+                continue
+            if message['parent_header'].get('msg_id') != asked:
+                continue
+            if message['msg_type'] in wanted:
+                yield message['msg_type'], message['content']
+            if message['msg_type'] == 'status' and message['content']['execution_state'] == 'idle':
+                return
+
+    def ask(self, data):
+        asked = self.send('comm_msg', {'comm_id': self.comm, 'data': data})
+        return [content['data'] for _, content in self.heard(asked, ('comm_msg',))][0]
+
+    def run(self, code):
+        asked = self.send('execute_request', {'code': code, 'silent': False})
+        return list(self.heard(asked, ('execute_input', 'execute_result', 'error')))
+
+    def reply(self, kind, content):
+        """The reply on shell to a question that is answered at once."""
+        asked, until = self.send(kind, content), time.monotonic() + 2
+        while time.monotonic() < until:
+            try:
+                message = self.client.get_shell_msg(timeout=.5)
+            except Empty:
+                continue
+            if message['parent_header'].get('msg_id') == asked:
+                return message['content']
+        return {}
+
+    def close(self):
+        self.wait(self.send, 'comm_close', {'comm_id': self.comm, 'data': {}})
+        time.sleep(.1)
+        self.wait(self.client.stop_channels)
+        if self.manager:
+            self.manager.shutdown_kernel()
+
+
+class Names(Completer):
+    def __init__(self, desk):
+        self.desk = desk
+
+    def get_completions(self, document, complete_event):
+        text = document.text
+        found = self.desk.wait(self.desk.reply, 'complete_request', {'code': text, 'cursor_pos': document.cursor_position})
+        for it in found.get('matches', []):
+            yield Completion(it, start_position=found['cursor_start'] - document.cursor_position)
+
+
+def say(*parts):
+    print_formatted_text(FormattedText([it if isinstance(it, tuple) else ('', it) for it in parts]))
+
+
+def place(code, octet):
+    """Line and column of an octet of the text, from 1, and that line."""
+    before = code.encode()[:octet].decode(errors='ignore')
+    line = before.count('\n')
+    return line + 1, len(before) - before.rfind('\n'), code.split('\n')[line]
+
+
+def explain(line, code):
+    """A refusal or a fault in words, and the place under its line."""
+    say(('ansired', line))
+    found = REFUSED.match(line) or FAULT.match(line)
+    if not found or int(found[1]) not in REFUSALS:
+        return
+    advice = REFUSALS[int(found[1])][1]
+    if found.re is REFUSED and found[2] is not None:
+        row, column, text = place(code, int(found[2]))
+        say(f'line {row}, column {column}: {advice}')
+        say('  ' + text)
+        say(('ansired', '  ' + re.sub(r'[^\t]', ' ', text[:column - 1]) + '^'))
+    else:
+        say(advice)
+
+
+class Console:
+    def __init__(self, desk):
+        self.desk, self.tree, self.count = desk, Tree(), 1
+        self.tree.see(desk.wait(desk.ask, {'op': 'state'}))
+        self.session = PromptSession(message=lambda: [('ansigreen', f'[{self.count}] ')], lexer=PygmentsLexer(JanusLexer), multiline=True,
+                                     completer=Names(desk), complete_while_typing=False, key_bindings=self.keys(), prompt_continuation='... ')
+
+    def keys(self):
+        keys = KeyBindings()
+
+        @keys.add('enter')
+        def _(event):
+            buffer, indent = event.current_buffer, self.goes_on(event.current_buffer.document)
+            if indent is None:
+                buffer.validate_and_handle()
+            else:
+                buffer.insert_text('\n' + indent)
+        return keys
+
+    def goes_on(self, document):
+        """How far the next line is indented, or None where the text is run. A procedure goes on up to a blank line."""
+        text = document.text
+        if text.lstrip().startswith('%') or not text.strip():
+            return None
+        if document.text_after_cursor.strip():
+            return ''
+        if re.search(r'\bprocedure\b', text) and '\n' in text.rstrip(' ') and text.rstrip(' ').endswith('\n'):
+            return None
+        found = self.desk.wait(self.desk.reply, 'is_complete_request', {'code': text})
+        if found.get('status') == 'incomplete':
+            return found.get('indent', '')
+        return '    ' if re.search(r'\bprocedure\b', text) else None
+
+    def line(self, text):
+        found = COMMAND.match(text.strip())
+        if found:
+            return self.command(found[1], found[2])
+        if text.lstrip().startswith('%'):
+            return print(HELP)
+        return self.cell(text)
+
+    def command(self, name, number):
+        if name == 'help' or name == 'goto' and number is None:
+            return print(HELP)
+        if name in MOVES:
+            asked = {'op': name, 'n': int(number) if number else 1}
+            answer = self.desk.wait(self.desk.ask, asked)
+            if answer['status'] == 'refused':
+                return explain(f'refused {answer["number"]} {answer["name"]}', '')
+            say(f'undone {answer["undone"]}, redone {answer["redone"]}' + ('' if answer['end'] == 'all' else f' ({answer["end"]})'))
+        state = self.desk.wait(self.desk.ask, {'op': 'state'})
+        self.tree.see(state)
+        if name == 'tree':
+            return [say(*it) for it in self.tree.rows()]
+        say(('bold', f'at node {state["node"]}' + (', and a cell runs' if state['busy'] else '')))
+        return [say(it) for it in state['world']]
+
+    def cell(self, text):
+        before = self.desk.wait(self.desk.ask, {'op': 'state'})
+        self.tree.see(before)
+        for kind, content in self.desk.wait(self.desk.run, text):
+            if kind == 'execute_input':
+                self.count = content['execution_count'] + 1
+            elif kind == 'error':
+                explain(content['evalue'], text)
+            else:
+                say(content['data']['text/plain'])
+        self.tree.ran(before, self.desk.wait(self.desk.ask, {'op': 'state'}), text)
+
+    def serve(self):
+        say(('bold', 'Janus'), ': cells run, and %undo takes them back; %help names the commands. Other frontends: --existing ' + self.desk.file)
+        while True:
+            try:
+                text = self.session.prompt()
+            except KeyboardInterrupt:
+                continue
+            except EOFError:
+                return
+            if text.strip():
+                self.line(text)
+
+
+def main(words):
+    if words and (len(words) != 2 or words[0] != '--existing'):
+        print(__doc__.split('\n')[2], file=sys.stderr)
+        return 2
+    if not sys.stdin.isatty():
+        print('janus-repl wants a terminal; janus-cells reads a stream', file=sys.stderr)
+        return 2
+    signal.signal(signal.SIGINT, signal.default_int_handler)
+    try:
+        desk = Desk(words[1] if words else None)
+    except Exception as error:                                            # of another kind in each version of jupyter_client
+        print('no kernel:', str(error).split('\n')[0] or type(error).__name__, file=sys.stderr)
+        return 3
+    status = 0
+    try:
+        Console(desk).serve()
+    except Ended:
+        print('the kernel has ended', file=sys.stderr)
+        status = 3
+    desk.close()
+    return status
+
+
+if __name__ == '__main__':
+    sys.exit(main(sys.argv[1:]))

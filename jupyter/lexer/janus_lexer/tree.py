@@ -1,0 +1,54 @@
+"""The tree of cells as a console knows it: from what it ran itself, and from what the kernel's states tell of the rest."""
+
+
+class Tree:
+    """parent[n] is the node above node n, or None where that isn't known."""
+    def __init__(self):
+        self.parent, self.text, self.position = [None], ['start'], 0
+
+    def see(self, state):
+        """Takes a state. A history without branches is known whole."""
+        self.position = state['node']
+        while len(self.parent) <= state['nodes']:
+            self.parent.append(None)
+            self.text.append('')
+        if state['depth'] + state['redo'] == state['nodes'] and state['depth'] == state['node']:
+            for node in range(1, state['nodes'] + 1):
+                self.parent[node] = node - 1
+
+    def ran(self, before, after, text):
+        """Takes what came of a cell: where nothing else ran meanwhile, its node stands under the place where it began."""
+        self.see(after)
+        if after['nodes'] == before['nodes'] + 1 and after['node'] == after['nodes']:
+            if after['depth'] == before['depth'] + 1:
+                self.parent[after['node']] = before['node']
+            self.text[after['node']] = next((it.strip() for it in text.split('\n') if it.strip()), '')
+
+    def children(self):
+        found = [[] for _ in self.parent]
+        for node, above in enumerate(self.parent):
+            if above is not None:
+                found[above].append(node)
+        return found
+
+    def path(self):
+        node, found = self.position, set()
+        while node is not None and node not in found:
+            found.add(node)
+            node = self.parent[node]
+        return found
+
+    def rows(self):
+        """The parts of each row: a branch stands below its fork and further in, the newest child of a node below it."""
+        children, path, rows = self.children(), self.path(), []
+        waiting = [(node, 0) for node in range(len(self.parent) - 1, -1, -1) if self.parent[node] is None]
+        while waiting:
+            node, depth = waiting.pop()
+            mark = '>' if node == self.position else ' '
+            unknown = ' ?' if node and self.parent[node] is None else ''
+            rows.append([('bold' if node in path else '', f'{mark} ' + '  ' * depth + f'{node}{unknown}'), '  ' + self.text[node][:60]])
+            *older, newest = children[node] or [None]
+            if newest is not None:
+                waiting.append((newest, depth))
+            waiting += [(it, depth + 1) for it in reversed(older)]
+        return rows

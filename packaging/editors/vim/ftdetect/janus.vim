@@ -1,0 +1,1 @@
+autocmd BufRead,BufNewFile *.janus,*.janus-cells setfiletype janus
