@@ -8,7 +8,7 @@ from lab_page import BRIEF, S, known, run, shown, stands
 
 CLICK = 50              # ms, from a click to the drawing of what it brought, at 1,000 nodes
 DRAW = 4                # ms, the median of a drawing while the tree is scrolled
-FAR = 25                # ms, the longest drawing while 10,000 nodes are scrolled
+FAR = 25                # ms, the median of a drawing where 10,000 nodes are jumped through
 WORK = 50               # ms, the longest that the extension may take in one go
 # From a click to the drawing of what it brought, by the page's own clock.
 CLICKED = '''var node = arguments[0], done = arguments[1], page = janus_history.found(), tree = page.panel.tree, old = tree.draw, begun;
@@ -65,7 +65,8 @@ def ten_thousand(stage):
     check(frontend.ask('state')['nodes'] == 10000, 'the kernel has 10,000 nodes')
     stands(page, 10000, 10000, timeout=180)
     drawn = drawing(page, 'a drawing at 10,000 nodes, in the middle, ms')
-    check(drawn['scrolled'] < DRAW and drawn['most'] < FAR, f'a drawing takes less than {DRAW} ms in the middle, and {FAR} at most', drawn)
+    check(drawn['scrolled'] < DRAW, f'a drawing while scrolling takes less than {DRAW} ms in the middle', drawn)
+    check(drawn['jumped'] < FAR, f'and one elsewhere in the tree less than {FAR} ms', drawn)
     times = [page.js_later(CLICKED, node) for node in (9990, 9000, 6543, 9999)]
     figure('from a click to its drawing at 10,000 nodes, ms', [round(it, 1) for it in times])
     stands(page, 9999, 10000)
