@@ -118,12 +118,22 @@ def end(kernel, given, connection_file):
         os.unlink(connection_file)
 
 
-def watch(launcher, kernel, connection_file):
-    """Runs in a process of its own, in a session of its own, that holds nothing which anyone reads."""
-    empty = os.open(os.devnull, os.O_RDWR)
-    for number in (0, 1, 2):
-        os.dup2(empty, number)
+def let_go(kept):
+    """Holds no file and no folder that anyone waits for, but the handles that are kept."""
+    for number in [int(it) for it in os.listdir('/proc/self/fd')]:
+        if number not in kept:
+            try:
+                os.close(number)
+            except OSError:
+                pass                    # it was that of the list itself
+    for _ in range(3):
+        os.open(os.devnull, os.O_RDWR)
     os.chdir('/')
+
+
+def watch(launcher, kernel, connection_file):
+    """Runs in a process and in a session of its own."""
+    let_go((launcher.handle, kernel.handle))
     given = read(connection_file)
     wait_for_one([launcher, kernel])
     if not kernel.has_ended():
@@ -155,8 +165,8 @@ def become(program, connection_file):
         signal.signal(number, signal.SIG_DFL)
     try:
         os.execvp(program, [program, connection_file])
-    except FileNotFoundError:
-        sys.exit(f'{program}: no such program in PATH; jupyter/install brings it')
+    except OSError as error:
+        sys.exit(f'{program}: {error.strerror}; jupyter/install brings the program')
 
 
 def main():

@@ -38,7 +38,7 @@ def texts_of(lines):
 def written(cells):
     """The file of a list of cells."""
     lines, texts, is_open = [], [], False
-    for at, (kind, source) in enumerate(cells):
+    for kind, source in cells:
         if kind == 'text':
             texts.append(source)
         elif kind == 'commands':
@@ -112,7 +112,8 @@ def main(words):
             text = file.read()
         made = json.dumps(to_notebook(read(text)), indent=1, ensure_ascii=False) + '\n' if back else written(of_notebook(json.loads(text)))
     except (OSError, ValueError, KeyError, TypeError, AttributeError) as error:
-        print(f'{words[-1]}: ' + (str(error) if isinstance(error, (OSError, ValueError)) else 'no notebook'), file=sys.stderr)
+        why = error.strerror if isinstance(error, OSError) else str(error) if isinstance(error, ValueError) else 'no notebook'
+        print(f'{words[-1]}: {why}', file=sys.stderr)
         return 1
     sys.stdout.write(made)
     return 0

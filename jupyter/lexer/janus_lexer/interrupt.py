@@ -6,7 +6,10 @@ usage: janus-interrupt FILE     (the kernel's connection file)
 import os
 import sys
 
-from jupyter_client import BlockingKernelClient
+try:
+    from jupyter_client import BlockingKernelClient
+except ImportError as missing:
+    sys.exit(f"janus-interrupt: {missing}; Debian's python3-jupyter-client brings it")
 
 SECONDS = 10
 

@@ -18,22 +18,25 @@ from queue import Empty
 
 sys.path[0] = os.path.dirname(os.path.dirname(os.path.realpath(__file__)))
 
-from jupyter_client import BlockingKernelClient, KernelManager
-from jupyter_core.paths import jupyter_runtime_dir
-from prompt_toolkit import PromptSession, print_formatted_text
-from prompt_toolkit.completion import Completer, Completion
-from prompt_toolkit.formatted_text import FormattedText
-from prompt_toolkit.key_binding import KeyBindings
-from prompt_toolkit.lexers import PygmentsLexer
+try:
+    from jupyter_client import BlockingKernelClient, KernelManager
+    from jupyter_core.paths import jupyter_runtime_dir
+    from prompt_toolkit import PromptSession, print_formatted_text
+    from prompt_toolkit.completion import Completer, Completion
+    from prompt_toolkit.formatted_text import FormattedText
+    from prompt_toolkit.key_binding import KeyBindings
+    from prompt_toolkit.lexers import PygmentsLexer
 
-from janus_lexer import JanusLexer
-from janus_lexer.refusals import REFUSALS
-from janus_lexer.tree import Tree
+    from janus_lexer import JanusLexer
+    from janus_lexer.refusals import REFUSALS
+    from janus_lexer.tree import Tree
+except ImportError as missing:
+    sys.exit(f"janus-repl: {missing}; Debian's jupyter-console brings what it needs")
 
 HELP = '''%undo [K]   take K cells back, the newest first      %goto N   go to node N, 0 for the start
 %redo [K]   redo K cells along the ways last gone    %show     the values here
 %tree       all cells that ran, and where we are     %help     this
-Ctrl-C stops the cell that runs, which is then taken back; Ctrl-D leaves.'''
+Alt-Enter begins a new line of the same cell. Ctrl-C stops the cell that runs, which is then taken back; Ctrl-D leaves.'''
 COMMAND = re.compile(r'%(undo|redo|goto|show|tree|help)(?:\s+(\d{1,10}))?\s*$')
 REFUSED = re.compile(r'refused (\d+) \w+(?: at (\d+)\.\.(\d+))?$')
 FAULT = re.compile(r'fault (\d+) \w+ after \d+$')
@@ -64,15 +67,14 @@ class Desk:
         self.client.wait_for_ready(timeout=30)
         self.send('comm_open', {'comm_id': self.comm, 'target_name': 'janus.undo', 'data': {}})
 
-    def wait(self, work, *given, patience=None):
+    def wait(self, work, *given):
         """What the work answers. Ctrl-C meanwhile interrupts what the kernel runs."""
-        future, until = self.thread.submit(work, *given), patience and time.monotonic() + patience
+        future = self.thread.submit(work, *given)
         while True:
             try:
                 return future.result(.2)
             except NotYet:
-                if until and time.monotonic() > until:
-                    raise
+                continue
             except KeyboardInterrupt:
                 self.client.control_channel.send(self.client.session.msg('interrupt_request', {}))
 
@@ -180,6 +182,10 @@ class Console:
                 buffer.validate_and_handle()
             else:
                 buffer.insert_text('\n' + indent)
+        @keys.add('escape', 'enter')
+        @keys.add('escape', 'c-j')                                        # as it comes where it was typed before the prompt stood
+        def _(event):
+            event.current_buffer.insert_text('\n')
         return keys
 
     def goes_on(self, document):
@@ -189,12 +195,11 @@ class Console:
             return None
         if document.text_after_cursor.strip():
             return ''
-        if re.search(r'\bprocedure\b', text) and '\n' in text.rstrip(' ') and text.rstrip(' ').endswith('\n'):
-            return None
         found = self.desk.wait(self.desk.reply, 'is_complete_request', {'code': text})
         if found.get('status') == 'incomplete':
             return found.get('indent', '')
-        return '    ' if re.search(r'\bprocedure\b', text) else None
+        is_ended = text.rstrip(' ').endswith('\n') or not re.search(r'\bprocedure\b', text)
+        return None if is_ended else '    '
 
     def line(self, text):
         found = COMMAND.match(text.strip())

@@ -314,10 +314,10 @@ def run_all_stops(stage):
 def run_all_goes_on(stage):
     """Behind a cell that is marked as failing."""
     page = stage.page
-    page.js('var it = Jupyter.notebook.get_cell(3); it.set_text("n += 1 / 0"); it.metadata.tags = ["raises-exception"]; Jupyter.notebook.get_cell(4).set_text("n += 1")')
+    page.js('''var it = Jupyter.notebook.get_cell(3); it.set_text("n += 1 / 0"); it.metadata.tags = ["raises-exception"];
+        Jupyter.notebook.get_cell(4).set_text("n += 1")''')
     run_all(page)
-    comes('Run All goes on behind a cell that is to fail', lambda: page.cells()[4]['prompt'] == 4)
-    stands(page, 3, 3, ['x1 = 0', 'x2 = 0', 'n = 5'])
+    stands(page, 3, 3, ['x1 = 0', 'x2 = 0', 'n = 5'], 'Run All goes on after a cell that is to fail')
 
 
 def run_all_interrupted(stage):
