@@ -3,7 +3,7 @@ import threading
 import time
 
 from checks import check, comes, figure
-from crowds import grow, paced
+from crowds import STILL, grow, paced
 from lab_page import BRIEF, S, known, run, shown, stands
 
 CLICK = 50              # ms, from a click to the drawing of what it brought, at 1,000 nodes
@@ -86,6 +86,7 @@ def flood(stage):
     figure('the page\'s beats of 10 ms: median, longest, ms', (round(gaps[len(gaps) // 2], 1), [round(it, 1) for it in gaps[-3:]]))
     figure('the extension: longest in one go, in all, ms', (round(work['longest'], 1), round(work['total'])))
     check(work['longest'] < WORK, f'the extension never takes {WORK} ms in one go', work)
+    check(gaps[-1] < STILL, f'the page never stands still for {STILL} ms', gaps[-5:])
     now = frontend.ask('state')         # behind all its cells
     stands(page, now['node'], now['nodes'], now['world'], 'behind the flood the panel stands where the kernel stands', 120)
     figure('nodes, and those that are open since the server held broadcasts back', (now['nodes'], page.js(BRIEF)['unknown']))
