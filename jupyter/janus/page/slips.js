@@ -26,10 +26,10 @@ const CHARACTERS = {
     ':': 'there is no `:`: a variable is changed by `+=`, `-=` or `^=`',
     '{': 'there are no braces: words such as `fi`, `until` and `delocal` close what is open', '}': 'there are no braces: words such as `fi` close what is open',
     '"': TEXTS, '\'': TEXTS, '`': TEXTS, '\u201c': TEXTS, '\u201d': TEXTS, '\u2018': TEXTS, '\u2019': TEXTS, '#': 'a comment begins with `//`',
-    '\\': 'a statement goes on over lines without a sign: leave it out', '!': 'there is no `!`: compare with 0, as in `y = 0`',
+    '\\': 'a statement may go on over several lines without this sign: leave it out', '!': 'there is no `!`: compare with 0, as in `y = 0`',
     '~': 'there is no `~`: `-1 ^ y` flips all bits of `y`', '.': 'numbers are whole: leave the point out', _: 'a name begins with a letter',
-    '\u00a0': 'this space was copied from a page and is no plain one: type it anew', '\u200b': 'an invisible character stands here: remove it',
-    '\ufeff': 'an invisible character (a BOM) stands here: remove it', '\u00d7': 'multiply by `*`', '\u2212': 'this minus is another character: type `-`',
+    '\u00a0': 'this is not a plain space, perhaps because it was copied from a page: type it anew', '\u200b': 'there is an invisible character here: remove it',
+    '\ufeff': 'there is an invisible character (a BOM) here: remove it', '\u00d7': 'multiply by `*`', '\u2212': 'this minus is another character: type `-`',
     '\u2013': 'this dash is another character: type `-`', '\u2260': 'write `!=`', '\u2264': 'write `<=`', '\u2265': 'write `>=`',
     '\u2190': 'there is no assignment that forgets: write `+=`, `-=` or `^=`',
 };
@@ -72,7 +72,7 @@ function foreign(it) {
     for (const k of [0, -1]) {
         const word = it.text(k), ahead = it.text(k - 1);
         const is_used = ['call', 'uncall', 'procedure', 'int', 'stack', '(', ',', '['].includes(ahead) || is_change(it.text(k + 1));
-        if (own(FOREIGN, word) && !is_used) return '`' + word + '` is no word of Janus: ' + FOREIGN[word];
+        if (own(FOREIGN, word) && !is_used) return '`' + word + '` is not a word of Janus: ' + FOREIGN[word];
     }
     return null;
 }
@@ -91,8 +91,8 @@ function equals(it) {
     if (it.before === '=') return 'equality is one `=`';
     if (it.before === '<' || it.before === '>') return 'write `' + it.before + '=` without a space';
     if (is_name(it.before) && (it.earlier === 'int' || it.earlier === 'stack'))
-        return 'a name begins with 0: write `int ' + it.before + '`, and then `' + it.before + ' += ..`';
-    if (declares || it.before === ']' && it.text(-4) === 'int') return 'an array begins with zeros: give its elements their values by `+=`';
+        return 'a number starts at 0: write `int ' + it.before + '`, and then `' + it.before + ' += ..`';
+    if (declares || it.before === ']' && it.text(-4) === 'int') return 'the elements of an array start at 0: give them their values by `+=`';
     if (is_name(it.before) && ['+', '-', '^'].includes(it.after)) return 'the sign comes first: write `' + it.before + ' ' + it.after + '= ..`';
     if (is_name(it.before) || it.before === ']') return 'there is no `=` that forgets what was there: change ' + target + ' by `+=`, `-=` or `^=`';
     return null;
@@ -133,9 +133,9 @@ function parameters(it) {
         return 'each parameter has its kind: `int ' + it.here + '`, `int ' + it.here + '[]` or `stack ' + it.here + '`';
     if (it.before === '[' && it.text(-3) === 'int' && ['(', ','].includes(it.text(-4))) return 'a parameter has no length: `int ' + it.earlier + '[]`';
     if (called === 'push' || called === 'pop' || word === 'call' || word === 'uncall')
-        return 'only names of variables stand here: put the value into a variable or a local first';
-    if (called === 'empty' || called === 'top') return 'the name of one stack stands here';
-    if (['call', 'uncall'].includes(it.before)) return 'after `' + it.before + '` stands the name of a procedure';
+        return 'only names of variables can stand here: put the value into a variable or a local first';
+    if (called === 'empty' || called === 'top') return 'the name of a stack has to stand here';
+    if (['call', 'uncall'].includes(it.before)) return 'after `' + it.before + '` the name of a procedure has to stand';
     if (['call', 'uncall', 'procedure'].includes(it.earlier) && is_name(it.before) && it.here !== '(')
         return 'write `' + it.earlier + ' ' + it.before + '(..)`, with the names in parentheses';
     if (it.here === '(' && is_name(it.before)) return 'a procedure is called by `call ' + it.before + '(..)`';
@@ -152,7 +152,7 @@ function missing(it) {
     if (['fi', 'else'].includes(it.here) && it.inner !== 'if') return '`' + it.here + '` belongs to an `if`, and none is open here';
     if (['until', 'loop', 'do'].includes(it.here) && it.inner !== 'from') return '`' + it.here + '` belongs to a `from`, and none is open here';
     if (it.here === 'delocal' && it.inner !== 'local') return '`delocal` closes a `local`, and none is open here';
-    if (['then', 'else', 'loop', 'do'].includes(it.before)) return 'after `' + it.before + '` stands a statement; `skip` is one that does nothing';
+    if (['then', 'else', 'loop', 'do'].includes(it.before)) return 'after `' + it.before + '` a statement has to stand; `skip` is one that does nothing';
     const is_begun = KEYWORDS.has(it.here) || is_change(it.here) || it.here === '<=>';
     if (it.opened && (it.here === undefined || is_begun && (it.inner === '(' || it.inner === '['))) return unclosed;
     return null;

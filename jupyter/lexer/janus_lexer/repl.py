@@ -29,6 +29,7 @@ try:
 
     from janus_lexer import JanusLexer
     from janus_lexer.refusals import REFUSALS
+    from janus_lexer.slips import meant
     from janus_lexer.tree import Tree
 except ImportError as missing:
     sys.exit(f"janus-repl: {missing}; Debian's jupyter-console brings what it needs")
@@ -158,7 +159,8 @@ def explain(line, code):
     advice = REFUSALS[int(found[1])][1]
     if found.re is REFUSED and found[2] is not None:
         row, column, text = place(code, int(found[2]))
-        say(f'line {row}, column {column}: {advice}')
+        at = len(code.encode()[:int(found[2])].decode(errors='ignore'))
+        say(f'line {row}, column {column}: {meant(int(found[1]), code, at) or advice}')
         say('  ' + text)
         say(('ansired', '  ' + re.sub(r'[^\t]', ' ', text[:column - 1]) + '^'))
     else:
