@@ -75,7 +75,7 @@ def files(stage):
     stage.write('prog.janus', 'procedure f(int x)\n    x += 1 // one\n')
     stage.write('prog.janus-cells', 'int x\n%%\nx += 5 // one\n%undo 1\n')
     types = page.js('''return ["prog.janus", "prog.janus-cells"].map(function (it) {
-        return jupyterapp.docRegistry.getFileTypesForPath(it)[0].displayName; })''')
+        return (jupyterapp.docRegistry.getFileTypesForPath(it)[0] || {}).displayName; })''')
     check(types == ['Janus', 'Cells of Janus'], 'files of both kinds have a type', types)
     page.command('docmanager:open', path='prog.janus')
     has_tokens(page, '.jp-FileEditor', 'procedure', 'f', '// one')
