@@ -318,7 +318,7 @@ def refusals(stage):
     stands(page, 1, 1)
     index = add(page, 'if n')
     run(page, index)
-    wanted = r'Line 1, column 5: .*then.* \(31 Expected\)\. Nothing has run\.'
+    wanted = r'Line 1, column 5: .+ \(31 Expected\)\. Nothing has run\.'
     comes('refused 31 is told in words below the cell', lambda: (bool(re.fullmatch(wanted, words_below(page, index) or '')), words_below(page, index)))
     comes('and its place underlined', lambda: (place(page, index) == 'n', place(page, index)))
     output = page.js(S + 'return nb.widgets[arguments[0]].outputArea.node.textContent', index)
