@@ -75,7 +75,7 @@ def files(stage):
     stage.write('prog.janus', 'procedure f(int x)\n    x += 1 // one\n')
     stage.write('prog.janus-cells', 'int x\n%%\nx += 5 // one\n%undo 1\n')
     types = page.js('''return ["prog.janus", "prog.janus-cells"].map(function (it) {
-        return jupyterapp.docRegistry.getFileTypesForPath(it)[0].displayName; })''')
+        return (jupyterapp.docRegistry.getFileTypesForPath(it)[0] || {}).displayName; })''')
     check(types == ['Janus', 'Cells of Janus'], 'files of both kinds have a type', types)
     page.command('docmanager:open', path='prog.janus')
     has_tokens(page, '.jp-FileEditor', 'procedure', 'f', '// one')
@@ -318,7 +318,7 @@ def refusals(stage):
     stands(page, 1, 1)
     index = add(page, 'if n')
     run(page, index)
-    wanted = r'Line 1, column 5: .*then.* \(31 Expected\)\. Nothing has run\.'
+    wanted = r'Line 1, column 5: .+ \(31 Expected\)\. Nothing has run\.'
     comes('refused 31 is told in words below the cell', lambda: (bool(re.fullmatch(wanted, words_below(page, index) or '')), words_below(page, index)))
     comes('and its place underlined', lambda: (place(page, index) == 'n', place(page, index)))
     output = page.js(S + 'return nb.widgets[arguments[0]].outputArea.node.textContent', index)
@@ -550,14 +550,15 @@ def console(stage):
     page = stage.page
     run_example(page, 2)
     page.js(S + CONSOLE)
-    comes('a console of the same kernel has buttons', lambda: ('onsole' in shown(page)['title'] and shown(page)['tools'] == BUTTONS * 2, shown(page)), 60)
+    other = stage.name + '.ipynb'
+    comes('a console of the same kernel has buttons', lambda: (shown(page)['title'] != other and shown(page)['tools'] == BUTTONS * 2, shown(page)), 60)
     stands(page, 2, 2, WORLD, 'and its own panel')
     check(page.js('return Array.from(janus_history.sessions.keys()).length') == 2, 'there are two sessions')
     page.js(EXECUTE, 'x1 += 9')
     stands(page, 3, 3, ['x1 = 9', 'x2 = 0', 'n = 4'], 'a cell of the console is node 3')
     comes('and marked there', lambda: (marks(page)[:1] == ['+3'], marks(page)))
     page.js('jupyterapp.shell.activateById(kept.id)')
-    comes('the panel follows to the notebook', lambda: (shown(page)['title'] == stage.name + '.ipynb', shown(page)['title']))
+    comes('the panel follows to the notebook', lambda: (shown(page)['title'] == other, shown(page)['title']))
     stands(page, 3, 3, ['x1 = 9', 'x2 = 0', 'n = 4'], 'which has heard the console\'s cell')
     page.click('.jp-NotebookPanel .janus-undo')
     stands(page, 2, 3, WORLD, 'Undo in the notebook takes it back')
