@@ -1,6 +1,7 @@
-// What the notebook loads by itself for a notebook of this kernel. Each part of the page is a file under page/.
-define(['jquery', 'base/js/namespace', 'base/js/events', 'module', './page/highlight.js', './page/notebook.js', './page/places.js'],
-function ($, Jupyter, events, module, highlight, Page, places) {
+// What the classic notebook loads by itself for a notebook of this kernel. The parts that know of this notebook stand under classic/, those
+// that know of none under page/.
+define(['jquery', 'base/js/namespace', 'base/js/events', 'module', './classic/mode.js', './classic/notebook.js', './classic/places.js'],
+function ($, Jupyter, events, module, mode, Page, places) {
 'use strict';
 
 // The notebook looks for a mode of its own in vain, and may say so after this one is set: so it is set again for a while.
@@ -21,7 +22,7 @@ function see(page, kernel) {
 
 function onload() {
     if (Jupyter.janus || !Jupyter.notebook) return;
-    highlight.define();
+    mode.define();
     $('<link rel="stylesheet" type="text/css">').attr('href', module.uri.replace(/[^\/?]*(\?.*)?$/, 'page/page.css$1')).appendTo('head');
     const page = Jupyter.janus = new Page();
     events.on('kernel_ready.Kernel', function (event, data) { see(page, data.kernel); });

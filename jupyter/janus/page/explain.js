@@ -13,10 +13,12 @@ function advice(number) { return refusals[number] ? refusals[number].advice : 't
 function place(code, from_octet, to_octet) {
     const octets = new TextEncoder().encode(code);
     const before = function (octet) { return new TextDecoder().decode(octets.subarray(0, octet)); };
-    const lines = before(from_octet).split('\n'), to = before(to_octet).length;
-    const begin = before(from_octet).length;
-    let from = begin;
-    if (from === to && from > 0) from--;                                // at the text's end: its last character
+    const lines = before(from_octet).split('\n'), begin = before(from_octet).length;
+    let from = begin, to = before(to_octet).length;
+    if (from === to) {                                                  // at the text's end: its last character that is no space
+        to = code.slice(0, to).trimEnd().length || to;
+        from = to - (Array.from(code.slice(Math.max(0, to - 2), to)).pop() || '').length;
+    }
     return {from: from, to: to, begin: begin, line: lines.length, column: Array.from(lines[lines.length - 1]).length + 1};
 }
 

@@ -1,5 +1,5 @@
-// Highlighting of Janus for CodeMirror, the page's editor.
-define(['codemirror/lib/codemirror'], function (CodeMirror) {
+// Highlighting and indentation of Janus, as a mode of CodeMirror 5.
+define([], function () {
 'use strict';
 
 const WORDS = ('call delocal do else empty fi from if int local loop main nil pop procedure push skip stack then top ' +
@@ -55,13 +55,5 @@ function mode(config) {
     };
 }
 
-function define_mode() {
-    CodeMirror.defineMode('janus', mode);
-    CodeMirror.defineMIME('text/x-janus', 'janus');
-    const known = CodeMirror.modeInfo;
-    if (known && !known.some(function (it) { return it.mode === 'janus'; }))
-        known.push({name: 'Janus', mime: 'text/x-janus', mode: 'janus', ext: ['janus']});
-}
-
-return {WORDS: WORDS, mode: mode, define: define_mode};
+return {WORDS: WORDS, mode: mode};
 });

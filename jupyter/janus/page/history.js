@@ -41,7 +41,15 @@ class History {
             this.label[n] = null;
         }
         this.nodes = Math.max(this.nodes, nodes);
+        this.know_first();
         this.version++;
+    }
+
+    // Parents have smaller numbers than their children, so node 1 stands under node 0.
+    know_first() {
+        if (this.nodes < 1) return;
+        this.parent[1] = 0;
+        this.depth[1] = 1;
     }
 
     depth_of(node) {
@@ -256,6 +264,7 @@ class History {
         }
         this.favourite.fill(-1);
         this.depth.fill(-1, 1);
+        this.know_first();
         this.links = [];
         this.bends = [];
         this.journal = [];

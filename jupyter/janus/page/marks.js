@@ -1,5 +1,8 @@
-// Cells of the notebook and the nodes that they became: marks on the outputs and prompts of those that are undone or of an earlier run.
-define(['base/js/namespace'], function (Jupyter) {
+// Cells of a notebook and the nodes that they became: marks on the outputs and prompts of those that are undone or of an earlier run.
+//
+// Each frontend makes its own kind of it, with the calls `cells`, `cell`, which answers the cell that sent a message, and `element`. A cell
+// has `input_prompt_number` and `get_text`, as those of the classic notebook have.
+define([], function () {
 'use strict';
 
 const CLASSES = {in: 'janus-in', undone: 'janus-undone', maybe: 'janus-maybe', gone: 'janus-gone'};
@@ -11,11 +14,8 @@ class Marks {
         this.node_of = new Map();       // a cell to its node
         this.gone = new Set();          // cells whose outputs are of an earlier run of the kernel
         this.open = new Set();          // cells that ran in this run, as which node isn't known
+        this.signs = new Map();         // elements of cells to what stands on them
     }
-
-    cell(id) { return Jupyter.CodeCell.msg_cells[id]; }
-
-    cells() { return Jupyter.notebook.get_cells().filter(function (it) { return it.cell_type === 'code'; }); }
 
     // Nothing of the cell is shown any more that an earlier run of it brought.
     began(cell) {
@@ -72,12 +72,26 @@ class Marks {
     mark() { this.cells().forEach(cell => this.mark_cell(cell)); }
 
     mark_cell(cell) {
-        const sign = this.sign(cell), element = cell.element;
-        if (cell.janus_sign === sign.text) return;
-        cell.janus_sign = sign.text;
-        Object.keys(CLASSES).forEach(function (kind) { element.toggleClass(CLASSES[kind], kind === sign.kind); });
-        element.children('.janus-sign').remove();
-        if (sign.text) element.append(document.createElement('span')).children().last().addClass('janus-sign').text(sign.text);
+        const sign = this.sign(cell), element = this.element(cell);
+        let shown = this.signs.get(element);
+        if ((shown ? shown.textContent : '') === sign.text) return;
+        if (!shown) {
+            shown = document.createElement('span');
+            shown.className = 'janus-sign';
+            this.signs.set(element, shown);
+        }
+        shown.textContent = sign.text;
+        element.append(shown);
+        for (const kind of Object.keys(CLASSES)) element.classList.toggle(CLASSES[kind], kind === sign.kind);
+    }
+
+    // Nothing of it stands any more.
+    wipe() {
+        this.signs.forEach(function (shown, element) {
+            shown.remove();
+            element.classList.remove(...Object.values(CLASSES));
+        });
+        this.signs.clear();
     }
 
     // ---- what the next page needs

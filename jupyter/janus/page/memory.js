@@ -4,7 +4,7 @@ define([], function () {
 
 const LABELS = 2000, TEXT = 200;        // so many of the newest labels are kept, with so much of their text
 const WEEK = 7 * 864e5;                 // ms
-const BEGIN = 'janus:';
+const BEGIN = 'janus:', OPEN = 'janus-open';
 
 function short(label) { return label && {count: label.count, code: label.code.slice(0, TEXT)}; }
 
@@ -40,12 +40,36 @@ function recall(run, history) {
         history.known = true;
         history.reshaped = true;
         history.version++;
-        return JSON.parse(sessionStorage.getItem(BEGIN + run) || '[]');
+        return pairs_of(run);
     } catch (error) {
         history.clear();
         return [];
     }
 }
 
-return {keep: keep, recall: recall};
+// The pairs of prompts and nodes that this page, or its last load, kept.
+function pairs_of(run) {
+    try {
+        return JSON.parse(sessionStorage.getItem(BEGIN + run) || '[]');
+    } catch (error) {
+        return [];
+    }
+}
+
+// Whether the panel was open when it was last shown or hidden.
+function was_open() {
+    try {
+        return localStorage.getItem(OPEN) !== '0';
+    } catch (error) {
+        return true;
+    }
+}
+
+function keep_open(yes) {
+    try {
+        localStorage.setItem(OPEN, yes ? '1' : '0');
+    } catch (error) { /* not kept */ }
+}
+
+return {keep: keep, recall: recall, pairs_of: pairs_of, was_open: was_open, keep_open: keep_open};
 });

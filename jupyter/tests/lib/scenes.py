@@ -216,8 +216,9 @@ def late_join(stage):
     late = stage.other_page()
     stands(late, 6, 6, what='a page that joins late stands at node 6 of 6', timeout=120)
     it = known(late)
-    check(it['unknown'] == 6 and 'marked ?' in shown(late)['note'], 'it knows that 5 of 6 nodes stand above, not which, and says so', it)
-    check(len(late.js('return $("#janus-panel .node.loose").get()')) == 6, 'these nodes are marked')
+    check(it['unknown'] == 5 and it['parent'][1] == 0 and 'marked ?' in shown(late)['note'],
+          'it knows that 5 of 6 nodes stand above, of which only node 1 for sure, and says so', it)
+    check(len(late.js('return $("#janus-panel .node.loose").get()')) == 5, 'these nodes are marked')
     late.js('Jupyter.janus.go(4)')
     stands(late, 4, 6, what='it goes to node 4')
     comes('which tells all of the path', lambda: known(late)['parent'][1:5] == [0, 1, 2, 3] and known(late)['unknown'] == 1)

@@ -1,48 +1,28 @@
-// The page: its parts put together, and what they tell one another.
-define(['jquery', 'base/js/namespace', './history.js', './conversation.js', './panel.js', './marks.js', './places.js', './turns.js', './memory.js',
-    './tools.js', './explain.js', './texts.js'],
-function ($, Jupyter, History, Conversation, Panel, Marks, places, Turns, memory, tools, explain, texts) {
+// A session: what a page knows of one kernel of Janus, and what follows from what the conversation tells and from what the user does.
+//
+// Each frontend makes its own kind of it, which has `marks`, `panel` and `places`, and the calls `is_running` and `notify`.
+define(['./history.js', './conversation.js', './memory.js', './explain.js', './texts.js'], function (History, Conversation, memory, explain, texts) {
 'use strict';
 
 const FRAME = 8, PAUSE = 100, KEEP = 1000;          // ms
 const INPUTS = 2000;                    // so many of the kernel's inputs are looked at as a page joins
-const NOTICE = 6000;                    // ms
 
-class Page {
+class Session {
     constructor() {
         this.history = new History();
-        this.marks = new Marks(this.history);
-        this.panel = new Panel(this.history, {go: node => this.go(node), move: data => this.conversation.move(data), close: () => this.show(false)});
         this.conversation = new Conversation(this.history, this);
-        this.turns = new Turns(() => this.is_on(), (text, kind) => this.tell(text, kind));
         this.timer = this.keep_timer = null;
         this.updated = 0;               // when the last update was
-        tools.make({
-            undo: () => this.conversation.move({op: 'undo', n: 1}), redo: () => this.conversation.move({op: 'redo', n: 1}),
-            backwards: () => this.backwards(Jupyter.notebook.get_selected_cell()), toggle: () => this.show(!$('body').hasClass('janus-open')),
-            focus: () => this.focus_tree(),
-        });
-        this.show(stored('janus-open') !== '0');
-        window.addEventListener('pagehide', () => this.keep());         // what was learnt since it was kept last
+        this.leaving = () => this.keep();
+        window.addEventListener('pagehide', this.leaving);              // what was learnt since it was kept last
     }
 
     is_on() { return this.conversation.kernel !== null; }
 
-    // Whether a cell of this page runs or waits. The notebook's own word on it comes from broadcasts, of which some may be lost.
-    is_running() { return $('.code_cell.running').length > 0; }
-
-    attach(kernel) {
-        tools.bind(true);
-        this.conversation.attach(kernel);
-    }
-
-    detach() {
-        tools.bind(false);
-        this.conversation.detach();
-    }
-
     // ---- what the user does
-    go(node) { return this.conversation.move({op: 'goto', n: node}); }
+    move(data) { return this.conversation.move(data); }
+
+    go(node) { return this.move({op: 'goto', n: node}); }
 
     // Takes back the cell's node and all that stands below it on the path: the kernel goes to the node above.
     backwards(cell) {
@@ -65,18 +45,6 @@ class Page {
         const behind = steps > 1 ? ', and before it ' + texts.count(steps - 1, 'cell') + ' that ran behind it, the newest first' : '';
         move.said = 'Node ' + node + ' ran backwards' + behind + '.';
         this.conversation.move(move);
-    }
-
-    show(yes) {
-        $('body').toggleClass('janus-open', yes);
-        store('janus-open', yes ? '1' : '0');
-        this.panel.tree.followed = '';
-        this.changed();
-    }
-
-    focus_tree() {
-        this.show(true);
-        this.panel.tree.box.focus();
     }
 
     // ---- what the conversation tells
@@ -103,7 +71,7 @@ class Page {
         const cell = this.marks.cell(job.id);
         if (!cell) return;
         this.marks.began(cell);
-        if (job.failed) places.show(cell, job.line, job.code); else this.marks.ran(cell, node);
+        if (job.failed) this.places.show(cell, job.line, job.code); else this.marks.ran(cell, node);
     }
 
     early_ran(id, node) {
@@ -127,8 +95,7 @@ class Page {
 
     tell(text, kind) {
         this.panel.message(text, kind);
-        const widget = Jupyter.notification_area.widget('janus');
-        if (kind === 'bad') widget.danger(text, NOTICE); else widget.warning(text, NOTICE);
+        this.notify(text, kind);
     }
 
     // ---- drawing: at once where nothing was drawn lately, and else once for many changes
@@ -141,6 +108,7 @@ class Page {
     update() {
         clearTimeout(this.timer);
         this.timer = null;
+        if (!this.is_on()) return;
         this.marks.mark();
         this.panel.update();
         this.updated = performance.now();
@@ -149,23 +117,12 @@ class Page {
     keep() {
         clearTimeout(this.keep_timer);
         this.keep_timer = null;
-        memory.keep(this.conversation.run, this.history, this.conversation.count, this.marks.pairs());
+        memory.keep(this.conversation.run, this.history, this.conversation.count, this.pairs());
     }
+
+    // Prompts of cells with their nodes.
+    pairs() { return this.marks.pairs(); }
 }
 
-function stored(key) {
-    try {
-        return localStorage.getItem(key);
-    } catch (error) {
-        return null;
-    }
-}
-
-function store(key, value) {
-    try {
-        localStorage.setItem(key, value);
-    } catch (error) { /* not kept */ }
-}
-
-return Page;
+return Session;
 });

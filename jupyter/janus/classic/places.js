@@ -1,5 +1,5 @@
 // Below a cell that failed what is wrong in words, and in its text the place underlined.
-define(['./explain.js'], function (explain) {
+define(['../page/explain.js'], function (explain) {
 'use strict';
 
 function clear(cell) {

@@ -1,7 +1,8 @@
-// Run All, Run All Below and the like: cells run one behind the other, and the first that fails stops the rest.
+// Run All, Run All Below and the like: cells run one behind the other, and the first that fails stops the rest, but for cells
+// that are tagged to fail.
 //
 // The notebook sends all cells at once and leaves it to the kernel to stop; this kernel runs what it is sent.
-define(['jquery', 'base/js/namespace', 'base/js/events', './texts.js'], function ($, Jupyter, events, texts) {
+define(['jquery', 'base/js/namespace', 'base/js/events', '../page/texts.js'], function ($, Jupyter, events, texts) {
 'use strict';
 
 const ENDS = 'kernel_restarting.Kernel kernel_killed.Kernel kernel_dead.Kernel kernel_disconnected.Kernel';

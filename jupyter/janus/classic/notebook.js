@@ -1,0 +1,81 @@
+// The classic notebook's page: its parts put together.
+define(['jquery', 'base/js/namespace', 'base/js/events', '../page/session.js', '../page/panel.js', '../page/memory.js', './cells.js', './places.js',
+    './turns.js', './tools.js'],
+function ($, Jupyter, events, Session, Panel, memory, Cells, places, Turns, tools) {
+'use strict';
+
+const NOTICE = 6000;                    // ms
+
+class Page extends Session {
+    constructor() {
+        super();
+        this.places = places;
+        this.marks = new Cells(this.history);
+        this.panel = new Panel(this.history, 'History', {
+            go: node => this.go(node), move: data => this.move(data), close: () => this.show(false), leave: () => this.leave(),
+        });
+        this.place_panel();
+        this.turns = new Turns(() => this.is_on(), (text, kind) => this.tell(text, kind));
+        tools.make({
+            undo: () => this.move({op: 'undo', n: 1}), redo: () => this.move({op: 'redo', n: 1}),
+            backwards: () => this.backwards(Jupyter.notebook.get_selected_cell()), toggle: () => this.show(!$('body').hasClass('janus-open')),
+            focus: () => this.focus_tree(),
+        });
+        this.show(memory.was_open());
+    }
+
+    // Whether a cell of this page runs or waits. The notebook's own word on it comes from broadcasts, of which some may be lost.
+    is_running() { return $('.code_cell.running').length > 0; }
+
+    attach(kernel) {
+        tools.bind(true);
+        this.conversation.attach(kernel);
+    }
+
+    detach() {
+        tools.bind(false);
+        this.conversation.detach();
+    }
+
+    notify(text, kind) {
+        const widget = Jupyter.notification_area.widget('janus');
+        if (kind === 'bad') widget.danger(text, NOTICE); else widget.warning(text, NOTICE);
+    }
+
+    // ---- the panel, at the page's right side
+    place_panel() {
+        const element = $(this.panel.element).appendTo('body'), tree = this.panel.tree;
+        const place = function () {
+            const header = $('#header');
+            element.css('top', header.is(':visible') ? header.outerHeight() : 0);
+            tree.draw();
+        };
+        element.on('focusin', function () { Jupyter.keyboard_manager.disable(); });          // its keys are not the notebook's
+        element.on('focusout', function () { Jupyter.keyboard_manager.enable(); });
+        events.on('resize-header.Page', place);
+        $(window).on('resize', place);
+        place();
+    }
+
+    // Back to the notebook, in command mode.
+    leave() {
+        if (document.activeElement) document.activeElement.blur();
+        Jupyter.keyboard_manager.enable();
+        Jupyter.notebook.focus_cell();
+    }
+
+    show(yes) {
+        $('body').toggleClass('janus-open', yes);
+        memory.keep_open(yes);
+        this.panel.tree.followed = '';
+        this.changed();
+    }
+
+    focus_tree() {
+        this.show(true);
+        this.panel.tree.box.focus();
+    }
+}
+
+return Page;
+});
