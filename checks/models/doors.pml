@@ -7,7 +7,6 @@
 
 #define PLACES      2
 #define CONNECTIONS 3
-#define NOBODY      0
 
 bool door;                      /* Door::entrance */
 byte offered, taken;            /* Door::offered, Door::taken */
