@@ -34,6 +34,7 @@ MOVES = ('undo', 'redo', 'goto')
 MINUTES_FULL = 77
 BATCH = 100                     # inputs that are asked for at once, since a reply has at most 16 MiB
 PATIENCE = 3                    # seconds that a cell has in the second kernel before its time in the first is taken
+SILENCE = 10                    # seconds without a beat of its heart, after which a kernel is taken for ended
 DEFINED = re.compile(r'\bprocedure\s+([A-Za-z][A-Za-z0-9_]*)')
 
 
@@ -47,12 +48,12 @@ class Trouble(Exception):
 class Kernel:
     """A kernel as a frontend sees it."""
     def __init__(self, file, manager=None):
-        self.manager, self.comm, self.others = manager, uuid.uuid4().hex, False
-        self.client = BlockingKernelClient(connection_file=file)
+        self.manager, self.comm, self.others, self.heard_at = manager, uuid.uuid4().hex, False, time.monotonic()
+        self.client = manager.client() if manager else BlockingKernelClient(connection_file=file)
         try:
             self.client.load_connection_file()
             self.client.start_channels()
-            self.client.wait_for_ready(timeout=10)
+            self.wait(time.monotonic() + SILENCE)
             self.send('comm_open', {'comm_id': self.comm, 'target_name': 'janus.undo', 'data': {}})
             self.first_state()
         except Exception as error:                                        # of another kind in each version of jupyter_client
@@ -61,6 +62,22 @@ class Kernel:
             if isinstance(error, Trouble):
                 raise
             raise Trouble(f'no kernel at {file}: ' + (str(error).split('\n')[0] or type(error).__name__), 3) from None
+
+    def wait(self, until):
+        """Until the kernel answers. On a busy machine a heart that beats may be missed."""
+        while True:
+            try:
+                return self.client.wait_for_ready(timeout=30 if self.manager else SILENCE)
+            except RuntimeError:
+                if time.monotonic() > until:
+                    raise
+
+    def is_there(self):
+        if self.manager:
+            return self.manager.is_alive()
+        if self.client.hb_channel.is_beating():
+            self.heard_at = time.monotonic()
+        return time.monotonic() < self.heard_at + SILENCE
 
     def first_state(self):
         """Asks again until an answer comes, since broadcasts go astray until the subscription has arrived."""
@@ -89,9 +106,10 @@ class Kernel:
             try:
                 message = self.client.get_iopub_msg(timeout=1)
             except Empty:
-                if not self.client.hb_channel.is_beating():
+                if not self.is_there():
                     raise Trouble('the kernel has ended', 3) from None
                 continue
+            self.heard_at = time.monotonic()
             self.notes(message)
             if message['parent_header'].get('msg_id') == asked:
                 yield message['msg_type'], message['content']
@@ -139,9 +157,9 @@ class Kernel:
             texts += [text for _, _, text in self.question('history_request', **asked)['history']]
         return texts
 
-    def procedures(self, text):
-        """What the kernel knows of the procedures that the text defines."""
-        return [self.question('inspect_request', code=name, cursor_pos=len(name), detail_level=0)['data'] for name in DEFINED.findall(text)]
+    def known_of(self, names):
+        """What the kernel knows of the procedures of these names."""
+        return [self.question('inspect_request', code=name, cursor_pos=len(name), detail_level=0)['data'] for name in names]
 
     def run(self, text, time_of):
         """Why a cell left no node, or None. One that takes long is interrupted after a time that is asked for."""
@@ -312,6 +330,7 @@ class Twin:
     """A kernel of its own, in which the cells run once more under the same nodes: which inputs became nodes is found there."""
     def __init__(self, inputs, walk):
         self.inputs, self.walk, self.next = inputs, walk, 0
+        self.defined = [set(DEFINED.findall(text)) for text in inputs]
         self.text, self.node, self.at = {}, {0: 0}, 0
         os.makedirs(jupyter_runtime_dir(), mode=0o700, exist_ok=True)
         file = os.path.join(jupyter_runtime_dir(), f'kernel-save-{os.getpid()}.json')
@@ -326,14 +345,15 @@ class Twin:
         """Takes the first of the inputs that are left which leads from the node above to this one."""
         last = len(self.inputs) - (self.walk.count - node)
         while self.next < last:
-            text = self.inputs[self.next]
+            text, names = self.inputs[self.next], sorted(set().union(*self.defined[self.next:last]))
             self.next += 1
-            if self.fits(node, parent, world, text):
+            if self.fits(node, parent, world, text, names):
                 self.text[node] = text
                 return
         raise Trouble(f'no input of the history leads to node {node}: a cell was silent or not to be stored')
 
-    def fits(self, node, parent, world, text):
+    def fits(self, node, parent, world, text, names):
+        """Whether the text leads to the world, with the same procedures of those names that the node's own text may define."""
         if self.at != self.node[parent]:
             self.kernel.move('goto', self.node[parent])
             self.at = self.node[parent]
@@ -343,7 +363,7 @@ class Twin:
         if refusal:
             return False
         state = self.kernel.state()
-        if world is None or state['world'] == world and self.kernel.procedures(text) == self.walk.kernel.procedures(text):
+        if world is None or state['world'] == world and self.kernel.known_of(names) == self.walk.kernel.known_of(names):
             self.at = self.node[node] = state['node']
             return True
         self.kernel.move('undo', 1)
