@@ -6,6 +6,7 @@ usage: janus-save-session [--existing FILE] [OUT]        (a kernel's connection 
 
 It walks the kernel's tree, runs the cells once more in a kernel of its own beside it, compares each node, and puts the position back.
 """
+import contextlib
 import errno
 import glob
 import json
@@ -31,7 +32,7 @@ except ImportError as missing:
 
 MOST_NODES, MOST_MINUTES, MOST_OCTETS = 65536, 1000000, 16777216
 MOVES = ('undo', 'redo', 'goto')
-MINUTES_FULL = 77
+TOO_FAR, MINUTES_FULL = 73, 77
 BATCH = 100                     # inputs that are asked for at once, since a reply has at most 16 MiB
 PATIENCE = 3                    # seconds that a cell has in the second kernel before its time in the first is taken
 SILENCE = 10                    # seconds without a beat of its heart, after which a kernel is taken for ended
@@ -186,6 +187,11 @@ class Refused(Trouble):
         self.number = answer['number']
 
 
+class Moved(Trouble):
+    def __init__(self):
+        super().__init__('another frontend moved or ran a cell meanwhile: try again while the kernel is left alone')
+
+
 class Shape:
     """A tree of cells: the node above each, the favourite below it as it is to be, and as moves have left it."""
     def __init__(self, count):
@@ -193,11 +199,14 @@ class Shape:
         self.favourite, self.now, self.at = {}, {}, 0
 
     def add(self, node, parent):
+        is_known = parent == 0 or parent is not None and self.parent[parent] is not None
+        if not is_known or not parent < node < len(self.parent):
+            raise Moved
         self.parent[node], self.depth[node] = parent, self.depth[parent] + 1
 
     def above(self, node, steps):
         for _ in range(steps):
-            node = self.parent[node]
+            node = None if node is None else self.parent[node]
         return node
 
     def go(self, node):
@@ -247,8 +256,10 @@ class Walk:
         had, self.has_moved = self.has_moved, True                        # also where its answer isn't waited for
         try:
             answer = self.kernel.move(name, number)
-        except Refused:
+        except Refused as error:
             self.has_moved = had
+            if error.number == TOO_FAR:
+                raise Moved from None
             raise
         self.moves += 1
         return answer
@@ -279,7 +290,7 @@ class Walk:
                 self.visit(node)
             state = self.kernel.state()
             if (state['node'], state['nodes'], state['depth']) != (node, self.count, self.shape.depth[node]):
-                raise Trouble('another frontend moved or ran a cell meanwhile: try again while the kernel is left alone')
+                raise Moved
             if node:
                 yield node, self.shape.parent[node], state['world']
             if state['redo']:
@@ -418,8 +429,19 @@ def check(kernel):
     return 0
 
 
+@contextlib.contextmanager
+def undisturbed():
+    """Without an ear for Ctrl-C and SIGTERM."""
+    old = {number: signal.signal(number, signal.SIG_IGN) for number in (signal.SIGINT, signal.SIGTERM)}
+    try:
+        yield
+    finally:
+        for number, handler in old.items():
+            signal.signal(number, handler)
+
+
 def walked(kernel):
-    """The script of a kernel, which is where it was again."""
+    """The script of a kernel, which is where it was again, and the walk."""
     inputs = kernel.inputs()
     walk = Walk(kernel, len(inputs))
     if len(inputs) < walk.count:
@@ -430,10 +452,9 @@ def walked(kernel):
             twin.find(node, parent, world)
         is_whole = True
     finally:
-        signal.signal(signal.SIGINT, signal.SIG_IGN)
-        signal.signal(signal.SIGTERM, signal.SIG_IGN)
-        twin.kernel.close()
-        walk.go_back(is_whole)
+        with undisturbed():
+            twin.kernel.close()
+            walk.go_back(is_whole)
     if not walk.has_moved:
         print(f'janus-save-session: the kernel has no minutes left to move: compared at node {walk.begun["node"]} alone', file=sys.stderr)
     elif not walk.is_as_before():
