@@ -160,7 +160,8 @@ class Kernel:
 
     def known_of(self, names):
         """What the kernel knows of the procedures of these names."""
-        return [self.question('inspect_request', code=name, cursor_pos=len(name), detail_level=0)['data'] for name in names]
+        asked = [self.send('inspect_request', {'code': name, 'cursor_pos': len(name), 'detail_level': 0}) for name in names]
+        return [self.reply(it)['data'] for it in asked]
 
     def run(self, text, time_of):
         """Why a cell left no node, or None. One that takes long is interrupted after a time that is asked for."""
