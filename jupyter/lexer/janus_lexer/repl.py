@@ -59,8 +59,9 @@ class Desk:
             self.manager = KernelManager(kernel_name='janus', connection_file=file)
             self.manager.start_kernel(stdout=subprocess.DEVNULL)          # its line `ready` goes nowhere
         self.file = file
-        self.client = BlockingKernelClient(connection_file=file)
-        self.client.load_connection_file()
+        self.client = self.manager.client() if self.manager else BlockingKernelClient(connection_file=file)
+        if self.manager is None:
+            self.client.load_connection_file()
         self.wait(self.open)
 
     def open(self):
