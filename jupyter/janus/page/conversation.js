@@ -7,7 +7,7 @@ const TARGET = 'janus.undo', OURS = 'janus-panel-';
 const HEARD = ['status', 'execute_input', 'error', 'stream', 'comm_msg', 'comm_close'];
 const MOVES = new Set(['undo', 'redo', 'goto']);
 const SOON = 40, AGAIN = 150, HOLD = 1500, PATIENCE = 3000, WAITS = 700;      // ms
-const MOST_MISSES = 5;                  // states that didn't fit, before one is believed all the same
+const MOST_MISSES = 5;                  // states that came in the midst of jobs, before the first is believed all the same
 const LABEL = 2000;                     // so much of a cell's text is kept
 
 class Conversation {
@@ -20,6 +20,7 @@ class Conversation {
         this.run = null;                // the session in the kernel's headers, which names its run
         this.ask_timer = this.hold_timer = null;
         this.turn = 0;                  // counts the searches for a comm
+        this.questions = 0;             // counts the states that were asked for
         this.begin();
     }
 
@@ -28,12 +29,14 @@ class Conversation {
         this.mine = new Map();          // moves that were asked for here, by the message's id
         this.asked = null;              // the state that was asked for last
         this.ask_again = false;
-        this.misses = 0;
+        this.misses = 0;                // states in a row that weren't taken
+        this.doubted = false;           // whether the last state that came while all was quiet wasn't what was expected
         this.early = [];                // cells that ended before the first state; null where something else ended too
         this.silent = 0;                // silent cells, other jobs, and moves among these that ended since the last state that was taken
         this.spoken = 0;
         this.moves = 0;
         this.clock = 0;                 // counts the ends of jobs
+        this.unsure = 0;                // counts moves of which it isn't known whether they fit where they were heard
         this.count = 0;                 // the highest execution count that was heard
         this.held = new Map();          // cells that were heard before one with a lower count
         this.missing = false;           // whether broadcasts are known to be lost
@@ -117,7 +120,7 @@ class Conversation {
             return;
         }
         this.ask_again = false;
-        const asked = this.asked = {clock: this.clock, id: this.send('comm_msg', {comm_id: this.comm, data: {op: 'state'}})};
+        const asked = this.asked = {number: ++this.questions, clock: this.clock, id: this.send('comm_msg', {comm_id: this.comm, data: {op: 'state'}})};
         setTimeout(() => this.unanswered(asked), PATIENCE);
     }
 
@@ -181,8 +184,11 @@ class Conversation {
     }
 
     job(parent) {
-        let job = this.jobs.get(parent.msg_id);
-        if (!job) this.jobs.set(parent.msg_id, job = {id: parent.msg_id, other: parent.session !== this.kernel.session_id});
+        const old = this.jobs.get(parent.msg_id);
+        if (old) return old;
+        const other = parent.session !== this.kernel.session_id;
+        const job = {id: parent.msg_id, other: other, questions: this.questions, clock: this.clock, unsure: this.unsure, over: 0};
+        this.jobs.set(job.id, job);
         return job;
     }
 
@@ -198,7 +204,12 @@ class Conversation {
 
     hear_comm(parent, data) {
         if (data.op !== 'state' && !MOVES.has(data.op)) return false;
-        this.job(parent).answer = data;
+        const job = this.job(parent);
+        job.answer = data;
+        if (this.mine.has(job.id)) {                                    // what was asked for here is drawn before the job's end is told
+            this.jobs.delete(job.id);
+            this.heard_move(job, data);
+        }
         return true;
     }
 
@@ -228,9 +239,8 @@ class Conversation {
             this.ask_soon(0);
         } else if (this.count && job.count > this.count + 1) {           // an earlier cell hasn't been told yet
             this.held.set(job.count, job);
+            if (this.held.size === 1) this.hold();
             if (this.moves) this.missing = true;                         // in which order these came isn't known
-            clearTimeout(this.hold_timer);
-            this.hold_timer = setTimeout(() => this.release_all(), HOLD);
         } else {
             this.cell(job);
             this.release();
@@ -241,7 +251,14 @@ class Conversation {
         for (let next = this.held.get(this.count + 1); next; next = this.held.get(this.count + 1)) {
             this.held.delete(this.count + 1);
             this.cell(next);
+            this.hold();
         }
+    }
+
+    // Waits for the cells between, from now on.
+    hold() {
+        clearTimeout(this.hold_timer);
+        this.hold_timer = this.held.size ? setTimeout(() => this.release_all(), HOLD) : null;
     }
 
     // The cells between were lost.
@@ -256,6 +273,7 @@ class Conversation {
         const label = {count: job.count, code: job.code.slice(0, LABEL)}, ran = !job.failed;
         this.spoken++;
         this.count = Math.max(this.count, job.count);
+        if (ran && this.unsure > job.unsure) this.missing = true;       // a move that was heard first may have come behind it
         let node = null;
         if (ran && this.history.known) node = this.history.cell(label);
         else if (ran && this.early) this.early.push({label: label, id: job.id});
@@ -266,8 +284,9 @@ class Conversation {
     }
 
     // ---- moves
+    // One that ended beside other jobs may have come before them, though they were heard first. Where it fits it didn't: then its way begins elsewhere.
     heard_move(job, answer) {
-        const own = this.mine.get(job.id);
+        const own = this.mine.get(job.id), history = this.history, is_beside = this.clock > job.clock, fits = history.fits(answer);
         this.mine.delete(job.id);
         this.clock++;
         this.spoken++;
@@ -275,8 +294,9 @@ class Conversation {
         if (answer.status === 'refused') return;
         if (job.other) this.page.other('another frontend ' + explain.way(answer));
         this.moves++;
-        if (!this.history.known) this.early = null;
-        else if (!this.history.move(answer) || this.held.size > 0) this.missing = true;
+        if (!fits) this.unsure++;
+        if (!history.known) this.early = null;
+        else if (!history.move(answer) || this.held.size > 0 || is_beside && !fits) this.missing = true;
         if (own) this.page.update(); else this.page.changed();
         this.ask_soon(own ? 0 : SOON);
     }
@@ -287,15 +307,27 @@ class Conversation {
     heard_state(id, state) {
         if (!this.asked || this.asked.id !== id) return;
         const history = this.history, quiet = this.is_quiet(state);
+        if (quiet) this.silent_cells(state); else this.end_lost(state);
         this.asked = null;
-        if (quiet) this.silent_cells(state);
-        let take = quiet || !history.known && (state.busy || this.misses > MOST_MISSES);
-        if (take && history.known && !history.expects(state) && this.misses < 1) take = false;
+        const odd = quiet && history.known && !history.expects(state), early = !history.known && (state.busy || this.misses > MOST_MISSES);
+        const take = quiet ? !odd || this.doubted : early;
+        if (quiet) this.doubted = odd && !take;
         this.misses = take ? 0 : this.misses + 1;
         if (take) this.take_state(state, quiet);
         else if (!history.known || !state.busy) this.ask_soon(AGAIN);
-        if (!take && !state.busy && this.misses > MOST_MISSES) this.jobs.clear();          // their ends were lost
         if (this.ask_again) this.ask_soon(this.misses ? AGAIN : SOON);
+    }
+
+    // Where no job runs, one that began before the question has ended: its end is heard soon, or it was lost.
+    end_lost(state) {
+        const now = performance.now();
+        for (const job of this.jobs.values()) {
+            if (state.busy || job.questions >= this.asked.number) job.over = 0;
+            else job.over = job.over || now;
+            if (!job.over || now - job.over < HOLD) continue;
+            this.jobs.delete(job.id);
+            this.missing = true;
+        }
     }
 
     is_quiet(state) { return this.asked.clock === this.clock && !state.busy && this.held.size === 0 && this.jobs.size === 0; }

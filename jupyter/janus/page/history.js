@@ -186,6 +186,12 @@ class History {
         return node;
     }
 
+    // Whether a move is known to begin where the kernel is thought to be: both ends of its way lead up to the same node.
+    fits(answer) {
+        const over = this.above(this.position, answer.undone);
+        return over >= 0 && over === this.above(answer.node, answer.redone);
+    }
+
     // A move was done; false where it doesn't fit what is known.
     move(answer) {
         if (answer.node > this.nodes) return false;
