@@ -1,5 +1,5 @@
-// Below a cell that failed what is wrong in words, and in its text the place underlined.
-define(['../page/explain.js'], function (explain) {
+// Below a cell what is wrong in words, and in its text the place underlined.
+define([], function () {
 'use strict';
 
 function clear(cell) {
@@ -11,12 +11,11 @@ function underline(cell, place, text) {
     return editor.markText(editor.posFromIndex(place.from), editor.posFromIndex(place.to), {className: 'janus-place', attributes: {title: text}});
 }
 
-// Shown until the text is changed or the cell runs again.
-function show(cell, line, code) {
+// Shown until the text is changed or the cell runs again. `said` is what explain.js says of the cell, `code` the text that it ran.
+function show(cell, said, code) {
     clear(cell);
-    const said = explain.error(line, code), editor = cell.code_mirror;
-    const words = document.createElement('div');
-    words.className = 'janus-words';
+    const editor = cell.code_mirror, words = document.createElement('div');
+    words.className = 'janus-words' + (said.kind ? ' janus-' + said.kind : '');
     words.setAttribute('role', 'note');
     words.textContent = said.text;
     cell.element.append(words);

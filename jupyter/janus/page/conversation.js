@@ -1,6 +1,6 @@
 // The conversation with the kernel: broadcasts that are heard, whoever asked for them, and the comm for `janus.undo` on which moves and
 // states are asked for. What is heard becomes what the history knows.
-define(['./explain.js', './texts.js'], function (explain, texts) {
+define(['./explain.js', './limits.js'], function (explain, Limits) {
 'use strict';
 
 const TARGET = 'janus.undo', OURS = 'janus-panel-';
@@ -40,6 +40,7 @@ class Conversation {
         this.count = 0;                 // the highest execution count that was heard
         this.held = new Map();          // cells that were heard before one with a lower count
         this.missing = false;           // whether broadcasts are known to be lost
+        this.limits = new Limits();
     }
 
     attach(kernel) {
@@ -236,6 +237,7 @@ class Conversation {
         if (job.count === undefined) {                                   // it was silent: the state tells what it came to
             this.early = null;
             this.silent++;
+            this.limits.other();
             this.ask_soon(0);
         } else if (this.count && job.count > this.count + 1) {           // an earlier cell hasn't been told yet
             this.held.set(job.count, job);
@@ -270,7 +272,8 @@ class Conversation {
     }
 
     cell(job) {
-        const label = {count: job.count, code: job.code.slice(0, LABEL)}, ran = !job.failed;
+        const label = {count: job.count, code: job.code.slice(0, LABEL), is_cut: job.code.length > LABEL}, ran = !job.failed;
+        this.limits.cell(job.count);
         this.spoken++;
         this.count = Math.max(this.count, job.count);
         if (ran && this.unsure > job.unsure) this.missing = true;       // a move that was heard first may have come behind it
@@ -288,6 +291,7 @@ class Conversation {
     heard_move(job, answer) {
         const own = this.mine.get(job.id), history = this.history, is_beside = this.clock > job.clock, fits = history.fits(answer);
         this.mine.delete(job.id);
+        this.limits.other();
         this.clock++;
         this.spoken++;
         if (own) this.page.move_answered(own, answer);

@@ -1,5 +1,5 @@
 // What the kernel's lines mean, in words, with what to do.
-define(['./refusals.js', './slips.js', './texts.js'], function (refusals, slips, texts) {
+define(['./refusals.js', './slips.js', './procedures.js', './texts.js'], function (refusals, slips, procedures, texts) {
 'use strict';
 
 const REFUSED = /^refused (\d+) (\w+)(?: at (\d+)\.\.(\d+))?$/;
@@ -22,13 +22,31 @@ function place(code, from_octet, to_octet) {
     return {from: from, to: to, begin: begin, line: lines.length, column: Array.from(lines[lines.length - 1]).length + 1};
 }
 
-// What an error of a cell says: {text, place}, where place is null where the line has none.
+// Of a statement that looks alone and belongs to a procedure.
+function belongs(it, so) {
+    return 'Line ' + it.line + ' belongs to the procedure \'' + it.name + '\', which goes on to the next procedure or to the end of the cell' + so +
+        '. Put it before the procedures, or into a cell of its own.';
+}
+
+// What is to be said of a cell that ran, as an error is said, or null.
+function ran(code) {
+    const it = procedures.taken_in(code);
+    return it && {text: belongs(it, ', so it did not run by itself'), place: null, kind: 'warn'};
+}
+
+// What is to be said too of a refusal at such a statement or behind it.
+function belongs_at(code, at) {
+    const it = procedures.taken_in(code);
+    return it && it.at <= at ? ' ' + belongs(it, '') : '';
+}
+
+// What an error of a cell says: {text, place, kind}, where place is null where the line has none.
 function error(line, code) {
     const refused = REFUSED.exec(line), fault = FAULT.exec(line), interrupted = INTERRUPTED.exec(line);
     if (refused && refused[3] !== undefined) {
         const at = place(code, Number(refused[3]), Number(refused[4]));
         const where = 'Line ' + at.line + ', column ' + at.column + ': ', words = slips.meant(refused[1], code, at.begin) || advice(refused[1]);
-        return {text: where + words + ' (' + refused[1] + ' ' + refused[2] + '). Nothing has run.', place: at};
+        return {text: where + words + ' (' + refused[1] + ' ' + refused[2] + '). Nothing has run.' + belongs_at(code, at.begin), place: at};
     }
     if (refused) return {text: capital(advice(refused[1])) + ' (' + refused[1] + ' ' + refused[2] + '). Nothing was done.', place: null};
     if (fault) return {text: capital(advice(fault[1])) + ' (' + fault[1] + ' ' + fault[2] + '), ' + taken_back(fault[3]), place: null};
@@ -70,5 +88,5 @@ function other_cell(job, node) {
     return node === null ? what : what + ': node ' + node;
 }
 
-return {error: error, place: place, move: move, waits: waits, way: way, moved: moved, refused_move: refused_move, other_cell: other_cell};
+return {error: error, ran: ran, place: place, move: move, waits: waits, way: way, moved: moved, refused_move: refused_move, other_cell: other_cell};
 });

@@ -23,7 +23,7 @@ class History {
         this.parent = [-1];
         this.depth = [0];               // -1 where it isn't known
         this.favourite = [-1];          // the child that a redo goes to, or -1
-        this.label = [null];            // {count, code} of the node's cell
+        this.label = [null];            // {count, code, is_cut} of the node's cell, whose text may be cut
         this.links = [];                // [low, high, steps]: high is so many steps above low
         this.bends = [];                // [a, up, b, down]: the up-th node above a is the down-th above b
         this.journal = [];              // nodes whose parent was learnt since the last check
@@ -70,6 +70,17 @@ class History {
         let n = node;
         for (let left = steps; left > 0 && n >= 0; left--) n = this.parent[n];
         return n;
+    }
+
+    // The nodes that run back or forth on the way from one node to another, or null where it isn't known.
+    between(from, to) {
+        const out = [];
+        for (let a = from, b = to; a !== b;) {                          // the later of the two stands below where they meet
+            out.push(Math.max(a, b));
+            if (a > b) a = this.parent[a]; else b = this.parent[b];
+            if (!(a >= 0 && b >= 0)) return null;
+        }
+        return out;
     }
 
     set_parent(node, parent) {

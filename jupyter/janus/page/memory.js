@@ -6,18 +6,17 @@ const LABELS = 2000, TEXT = 200;        // so many of the newest labels are kept
 const WEEK = 7 * 864e5;                 // ms
 const BEGIN = 'janus:', OPEN = 'janus-open';
 
-function short(label) { return label && {count: label.count, code: label.code.slice(0, TEXT)}; }
+function short(label) { return label && {count: label.count, code: label.code.slice(0, TEXT), is_cut: label.is_cut || label.code.length > TEXT}; }
 
-function keep(run, history, count, pairs) {
+function keep(run, history, limits, pairs) {
     if (!history.known || run === null || history.sure !== history.nodes) return;
     const from = Math.max(1, history.nodes - LABELS);
     try {
         localStorage.setItem(BEGIN + run, JSON.stringify({
             at: Date.now(), nodes: history.nodes, position: history.position, parent: history.parent, favourite: history.favourite,
-            links: history.links, from: from, label: history.label.slice(from).map(short), count: count,
+            links: history.links, from: from, label: history.label.slice(from).map(short), jobs: limits.kept(),
         }));
         sessionStorage.setItem(BEGIN + run, JSON.stringify(pairs));
-        drop_old(run);
     } catch (error) { /* full, or not allowed: the next page knows less */ }
 }
 
@@ -28,9 +27,10 @@ function drop_old(run) {
     }
 }
 
-// Makes the history as it was when it was kept, and answers the pairs of prompts and nodes; none where nothing was kept.
-function recall(run, history) {
+// Makes history and limits as they were when they were kept, and answers the pairs of prompts and nodes; none where nothing was kept.
+function recall(run, history, limits) {
     try {
+        drop_old(run);
         const kept = JSON.parse(localStorage.getItem(BEGIN + run) || 'null');
         if (!kept) return [];
         history.grow(kept.nodes);
@@ -40,6 +40,7 @@ function recall(run, history) {
         history.known = true;
         history.reshaped = true;
         history.version++;
+        limits.recall(kept.jobs || [0, 0]);
         return pairs_of(run);
     } catch (error) {
         history.clear();

@@ -3,12 +3,14 @@ define(['./tree.js', './timeline.js', './values.js', './texts.js'], function (Tr
 'use strict';
 
 const OTHERS = 4;                       // how many doings of other frontends stay in sight
+const MOST_LOOKED = 1000;               // of so many cells on a way the texts are looked at
 const MARKUP = '<div class="janus-head"><b class="janus-title"></b> <span class="janus-where"></span>' +
     '<button type="button" class="close" aria-label="Close the panel" title="Close" hidden>&times;</button></div>' +
     '<form class="janus-go"><label>go to node <input type="number" min="0" max="4294967295" class="form-control input-sm jp-mod-styled"></label> ' +
     '<button type="submit" class="btn btn-default btn-xs jp-mod-styled">Go</button></form>' +
     '<div class="janus-message" role="status" aria-live="polite"></div><div class="janus-said janus-hidden" role="status" aria-live="polite"></div>';
-const REST = '<div class="janus-note"></div><ol class="janus-others" role="log" aria-label="What other frontends did"></ol>';
+const REST = '<div class="janus-limits" role="status"></div><div class="janus-note"></div>' +
+    '<ol class="janus-others" role="log" aria-label="What other frontends did"></ol>';
 
 class Panel {
     // `acts` has the calls `go`, `move`, `leave`, which gives the focus back, and `close` where the panel has a button for it.
@@ -51,6 +53,11 @@ class Panel {
         box.className = 'janus-message' + (kind ? ' janus-' + kind : '');
     }
 
+    limits(text) {
+        const box = this.find('.janus-limits');
+        if (box.textContent !== text) box.textContent = text;
+    }
+
     other(text) {
         this.others.push(text);
         if (this.others.length > OTHERS) this.others.shift();
@@ -61,11 +68,20 @@ class Panel {
         this.values.clear();
         this.timeline.stop();
         this.tree.followed = '';
+        this.limits('');
         this.message('');
     }
 
+    // Whether something on the way between two nodes may have changed a name: a cell can change no name that it doesn't have.
+    touched(from, to) {
+        const way = from === null ? [] : this.history.between(from, to), label = this.history.label;
+        return function (name) {
+            return way === null || way.length > MOST_LOOKED || way.some(n => !label[n] || label[n].is_cut || texts.names(label[n].code).has(name));
+        };
+    }
+
     show_values(world, node) {
-        const changed = this.values.show(world, node), where = 'At node ' + node;
+        const changed = this.values.show(world, node, this.touched(this.values.node, node)), where = 'At node ' + node;
         this.find('.janus-said').textContent = changed ? where + '. Changed: ' + changed : where;
         this.timeline.arrived();
     }

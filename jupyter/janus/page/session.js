@@ -13,6 +13,7 @@ class Session {
         this.conversation = new Conversation(this.history, this);
         this.timer = this.keep_timer = null;
         this.updated = 0;               // when the last update was
+        this.is_warned = false;         // whether it was said that a limit is near
         this.leaving = () => this.keep();
         window.addEventListener('pagehide', this.leaving);              // what was learnt since it was kept last
     }
@@ -50,15 +51,18 @@ class Session {
     // ---- what the conversation tells
     met(run) {
         this.restarted();
-        this.marks.recall(memory.recall(run, this.history));
+        this.marks.recall(memory.recall(run, this.history, this.conversation.limits));
         this.conversation.send('history_request', {hist_access_type: 'tail', n: INPUTS, output: false, raw: true}, reply => {
             if (this.conversation.run !== run) return;
-            this.marks.judge(reply.content.history || []);
+            const inputs = reply.content.history || [];
+            if (inputs.length) this.conversation.limits.cell(inputs[inputs.length - 1][1]);
+            this.marks.judge(inputs);
             this.changed();
         });
     }
 
     restarted() {
+        this.is_warned = false;
         this.marks.restarted();
         this.history.clear();
         this.panel.clear();
@@ -70,8 +74,10 @@ class Session {
     cell_ended(job, node) {
         const cell = this.marks.cell(job.id);
         if (!cell) return;
+        const said = job.failed ? explain.error(job.line, job.code) : explain.ran(job.code);
         this.marks.began(cell);
-        if (job.failed) this.places.show(cell, job.line, job.code); else this.marks.ran(cell, node);
+        if (said) this.places.show(cell, said, job.code);
+        if (!job.failed) this.marks.ran(cell, node);
     }
 
     early_ran(id, node) {
@@ -102,22 +108,34 @@ class Session {
     changed() {
         const delay = Math.max(FRAME, this.updated + PAUSE - performance.now());
         if (this.timer === null) this.timer = setTimeout(() => this.update(), delay);
-        if (this.keep_timer === null) this.keep_timer = setTimeout(() => this.keep(), KEEP);
+        if (this.keep_timer === null) this.keep_timer = setTimeout(() => this.keep_soon(), KEEP);
     }
 
     update() {
         clearTimeout(this.timer);
         this.timer = null;
         if (!this.is_on()) return;
-        this.marks.mark();
         this.panel.update();
+        this.marks.mark();
+        this.warn(this.conversation.limits.said(this.history.nodes));
         this.updated = performance.now();
+    }
+
+    warn(text) {
+        this.panel.limits(text);
+        if (text && !this.is_warned) this.notify(text, 'warn');
+        this.is_warned = text !== '';
+    }
+
+    // As soon as the page has nothing else to do.
+    keep_soon() {
+        if (window.requestIdleCallback) window.requestIdleCallback(() => this.keep(), {timeout: KEEP}); else this.keep();
     }
 
     keep() {
         clearTimeout(this.keep_timer);
         this.keep_timer = null;
-        memory.keep(this.conversation.run, this.history, this.conversation.count, this.pairs());
+        memory.keep(this.conversation.run, this.history, this.conversation.limits, this.pairs());
     }
 
     // Prompts of cells with their nodes.

@@ -17,7 +17,10 @@ function first_line(code) {
     return line ? line.trim() : '';
 }
 
+// The names and words in a cell's text, but for those in comments.
+function names(code) { return new Set(code.replace(/\/\/.*/g, ' ').match(/[A-Za-z][A-Za-z0-9_]*/g)); }
+
 function prompt(label) { return label && label.count ? 'In [' + label.count + ']' : ''; }
 
-return {escape: escape, count: count, first_line: first_line, prompt: prompt};
+return {escape: escape, count: count, first_line: first_line, names: names, prompt: prompt};
 });

@@ -33,6 +33,8 @@ class Tree {
         this.cursor = 0;                // the keyboard's row
         this.followed = '';             // which position was last brought into sight
         this.written = {};              // which rows stand there, and as what
+        this.top = this.height = this.width = 0;                        // of what is in sight; the height is 0 where the tree isn't
+        this.placed = 0;                // the top that the box has
         this.stats = {draws: 0, last: 0, most: 0};
         parent.insertAdjacentHTML('beforeend', MARKUP);
         this.box = parent.querySelector('.janus-tree');
@@ -40,10 +42,29 @@ class Tree {
         this.rows = this.svg.querySelector('.rows');
         this.lines = {};
         for (const name of ['edges', 'gaps', 'redos', 'way']) this.lines[name] = this.svg.querySelector('.' + name);
-        this.box.addEventListener('scroll', () => this.draw());
+        this.box.addEventListener('scroll', () => this.scrolled());
+        new ResizeObserver(() => this.sized()).observe(this.box);
         this.svg.addEventListener('click', event => this.clicked(event));
         this.box.addEventListener('keydown', event => this.key(event));
     }
+
+    // The box is asked where it stands only here, where it tells of itself: asked as it is drawn, it would have the whole page laid out at once.
+    sized() {
+        this.height = this.box.clientHeight;
+        this.width = this.box.clientWidth;
+        this.scrolled();
+    }
+
+    scrolled() {
+        this.top = this.placed = this.box.scrollTop;
+        this.draw();
+    }
+
+    // The next drawing is at another place.
+    scroll(top) { this.top = Math.max(0, Math.min(top, this.all() - this.height)); }
+
+    // The height of all rows.
+    all() { return (this.history.nodes + 1) * ROW + 2 * TOP; }
 
     // The row is found by its height, since what is drawn may be drawn anew while a button is held.
     clicked(event) {
@@ -68,7 +89,7 @@ class Tree {
 
     // The row to which a key leads, or null where it is no key of the tree.
     next(key) {
-        const page = Math.max(1, Math.floor(this.box.clientHeight / ROW) - 1), last = this.history.nodes, at = this.cursor;
+        const page = Math.max(1, Math.floor(this.height / ROW) - 1), last = this.history.nodes, at = this.cursor;
         if (key === 'ArrowUp') return Math.max(0, at - 1);
         if (key === 'ArrowDown') return Math.min(last, at + 1);
         if (key === 'PageUp') return Math.max(0, at - page);
@@ -89,8 +110,8 @@ class Tree {
     move_cursor(node) {
         this.cursor = node;
         const y = node * ROW;
-        if (y < this.box.scrollTop) this.box.scrollTop = y;
-        if (y + 2 * ROW > this.box.scrollTop + this.box.clientHeight) this.box.scrollTop = y + 2 * ROW - this.box.clientHeight;
+        if (y < this.top) this.scroll(y);
+        if (y + 2 * ROW > this.top + this.height) this.scroll(y + 2 * ROW - this.height);
         this.draw();
     }
 
@@ -100,27 +121,27 @@ class Tree {
         if (this.followed === now) return;
         this.followed = now;
         this.cursor = history.position;
-        this.svg.setAttribute('height', (history.nodes + 1) * ROW + 2 * TOP);
-        const y = history.position * ROW, box = this.box;
-        if (y < box.scrollTop + ROW || y > box.scrollTop + box.clientHeight - 2 * ROW) box.scrollTop = Math.max(0, y - box.clientHeight / 2);
+        const y = history.position * ROW;
+        if (y < this.top + ROW || y > this.top + this.height - 2 * ROW) this.scroll(y - this.height / 2);
     }
 
     draw() {
-        if (this.box.offsetParent === null) return;
+        if (this.height === 0) return;
         const begun = performance.now(), history = this.history;
         this.layout.fit(history);
         this.follow();
-        const box = this.box, top = box.scrollTop, height = box.clientHeight, width = box.clientWidth;
-        const view = {
-            first: Math.max(0, Math.floor(top / ROW) - MARGIN), last: Math.min(history.nodes, Math.ceil((top + height) / ROW) + MARGIN),
+        const top = this.top, view = {
+            first: Math.max(0, Math.floor(top / ROW) - MARGIN), last: Math.min(history.nodes, Math.ceil((top + this.height) / ROW) + MARGIN),
             pitch: Math.max(1.2, Math.min(LANE, LANES_WIDE / this.layout.lines.length)),          // many lanes stand closer
         };
         const edges = this.edges(view), text = this.x(view, edges.widest) + 14, ways = this.ways(view);
-        this.set(this.svg, 'width', Math.max(width - 2, text + 120));
+        this.set(this.svg, 'height', this.all());
+        this.set(this.svg, 'width', Math.max(this.width - 2, text + 120));
         this.set(this.svg, 'style', '--janus-text: ' + text + 'px');
         for (const name of ['way', 'gaps', 'redos']) this.set(this.lines[name], 'd', ways[name]);
         this.set(this.lines.edges, 'd', edges.path);
         this.write_rows(view);
+        if (top !== this.placed) this.box.scrollTop = this.placed = top;
         this.count(performance.now() - begun);
     }
 

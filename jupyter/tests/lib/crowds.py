@@ -81,7 +81,7 @@ def grow(frontend, nodes, above=(-1, 0), position=1, pause=.35):
 # Drawings while the tree is scrolled by what a wheel's notch is, and where it jumps elsewhere, by the page's own clock.
 DRAWN = '''var t = Jupyter.janus.panel.tree, most = t.box.scrollHeight - t.box.clientHeight;
     function middle(it) { it.sort(function (a, b) { return a - b; }); return it[it.length >> 1]; }
-    function draw(place) { return function (i) { t.box.scrollTop = place(i); t.draw(); return t.stats.last; }; }
+    function draw(place) { return function (i) { t.box.scrollTop = place(i); t.scrolled(); return t.stats.last; }; }
     var many = Array.from(Array(80).keys()), scrolled = many.map(draw(function (i) { return most / 3 + i * 120; }));
     var jumped = many.map(draw(function (i) { return most * ((i * 37) % 80) / 80; }));
     return {scrolled: middle(scrolled), jumped: middle(jumped), most: Math.max.apply(null, scrolled.concat(jumped)),

@@ -20,7 +20,7 @@ CLICKED = '''var node = arguments[0], done = arguments[1], page = janus_history.
 # Drawings while the tree is scrolled by what a wheel's notch is, and where it jumps elsewhere.
 DRAWN = '''var t = janus_history.found().panel.tree, most = t.box.scrollHeight - t.box.clientHeight;
     function middle(it) { it.sort(function (a, b) { return a - b; }); return it[it.length >> 1]; }
-    function draw(place) { return function (i) { t.box.scrollTop = place(i); t.draw(); return t.stats.last; }; }
+    function draw(place) { return function (i) { t.box.scrollTop = place(i); t.scrolled(); return t.stats.last; }; }
     var many = Array.from(Array(80).keys()), scrolled = many.map(draw(function (i) { return most / 3 + i * 120; }));
     var jumped = many.map(draw(function (i) { return most * ((i * 37) % 80) / 80; }));
     return {scrolled: middle(scrolled), jumped: middle(jumped), most: Math.max.apply(null, scrolled.concat(jumped)),

@@ -344,6 +344,23 @@ def refusals(stage):
     check(words_below(page, index) is None and place(page, index) == '', 'a run that ends well leaves nothing of it')
 
 
+def procedures(stage):
+    """A statement after a procedure, on a line of its own."""
+    page = stage.page
+    run_example(page)
+    index = add(page, 'procedure more(int x)\n    x += 1\nx += 2')
+    run(page, index)
+    wanted = 'Line 3 belongs to the procedure \'more\', which goes on to the next procedure or to the end of the cell, so it did not run by itself. '
+    comes('a statement that belongs to a procedure is told', lambda: ((words_below(page, index) or '').startswith(wanted), words_below(page, index)))
+    stands(page, 5, 5, WORLD, 'the cell ran')
+    check(page.js(S + 'return !!nb.widgets[arguments[0]].node.querySelector(".janus-words.janus-warn")', index), 'as a warning')
+    source(page, index, 'procedure more(int x)\n    x += 1\nn += 2')
+    comes('until the text is changed', lambda: words_below(page, index) is None)
+    run(page, index)
+    wanted = '(41 Unknown). Nothing has run. Line 3 belongs to the procedure'
+    comes('and beside a refusal', lambda: (wanted in (words_below(page, index) or ''), words_below(page, index)))
+
+
 def waiting(stage):
     page = stage.page
     run_example(page, 2)
@@ -357,6 +374,39 @@ def waiting(stage):
     stands(page, 1, 2, what='an interrupt ends the cell, and the undo is done', timeout=120)
     comes('the cell says that it was stopped', lambda: ((words_below(page, index) or '').startswith('Stopped after'), words_below(page, index)))
     marked(page, ['+1', '-2', 'gone', 'gone', ''], 'marks are right behind it')
+
+
+# ---- values and limits
+def past_the_shown(stage):
+    """Changes among the numbers that the kernel doesn't show."""
+    page = stage.page
+    run(page, add(page, 'int a[40] int b[40]'))
+    stands(page, 1, 1)
+    run(page, add(page, 'a[39] += 1'))
+    stands(page, 2, 2)
+    rows = '''return Array.from(document.querySelectorAll("#janus-panel tr.janus-may-change")).map(function (it) {
+        return it.querySelector("th").textContent + it.querySelector(".janus-past").textContent; })'''
+    wanted = ['a[40] may have changed past the 32nd number']
+    comes('a name that may have changed past the 32nd number says so', lambda: (page.js(rows) == wanted, page.js(rows)))
+    page.click('.janus-undo')
+    stands(page, 1, 2)
+    comes('the way back too', lambda: (page.js(rows) == wanted, page.js(rows)))
+    run(page, add(page, 'b[0] += 1'))
+    stands(page, 3, 3)
+    comes('what is seen to change is marked as changed', lambda: (shown(page)['changed'] == ['b[40]'] and page.js(rows) == [], shown(page)['changed']))
+
+
+def near_limits(stage):
+    page = stage.page
+    run(page, 1)
+    stands(page, 1, 1)
+    said = 'return document.querySelector(".janus-limits").textContent'
+    check(page.js(said) == '', 'nothing is said far from the limits')
+    page.js(S + 's.conversation.limits.cell(450001); s.changed()')
+    comes('minutes near their limit are told', lambda: (page.js(said).startswith('At least 900,002 of 1,000,000 minutes are used'), page.js(said)))
+    page.js(S + 'panel.sessionContext.session.kernel.restart()')
+    stands(page, 0, 0, [], timeout=120)
+    comes('a new run begins anew', lambda: (page.js(said) == '', page.js(said)))
 
 
 # ---- Run All
@@ -656,5 +706,6 @@ def pose(stage):
     time.sleep(1.5)
 
 
-SCENES = [loads, colours, files, buttons, tree, backwards, keyboard, completion, commands, screen_reader, themes, refusals, waiting, run_all, run_all_tagged,
+SCENES = [loads, colours, files, buttons, tree, backwards, keyboard, completion, commands, screen_reader, themes, refusals, procedures, waiting,
+          past_the_shown, near_limits, run_all, run_all_tagged,
           second_frontend, late_join, reload_page, restart, connection, second_page, other_kernel, console, two_notebooks, big, other_pages]

@@ -147,6 +147,24 @@ def refusals(stage):
     check(words_below(page, cell) == '', 'a cell that runs well has no words below')
 
 
+def procedures(stage):
+    """A statement after a procedure, on a line of its own."""
+    page = stage.page
+    run_example(page)
+    cell = page.add('procedure more(int x)\n    x += 1\nx += 2')
+    page.run(cell)
+    wanted = ('Line 3 belongs to the procedure \'more\', which goes on to the next procedure or to the end of the cell, so it did not run by itself. '
+              'Put it before the procedures, or into a cell of its own.')
+    comes('a statement that belongs to a procedure is told', lambda: (words_below(page, cell) == wanted, words_below(page, cell)))
+    stands(page, 5, 5, WORLD, 'the cell ran')
+    check(page.js('return Jupyter.notebook.get_cell(arguments[0]).element.find(".janus-words").is(".janus-warn")', cell), 'as a warning')
+    page.js('Jupyter.notebook.get_cell(arguments[0]).set_text("procedure more(int x)\\n    x += 1\\nn += 2")', cell)
+    check(words_below(page, cell) == '', 'until the text is changed')
+    page.run(cell)
+    wanted = '(41 Unknown). Nothing has run. Line 3 belongs to the procedure'
+    comes('and beside a refusal', lambda: (wanted in words_below(page, cell), words_below(page, cell)))
+
+
 def interrupt(stage):
     page = stage.page
     run_example(page)
@@ -446,6 +464,39 @@ def slider_on_branch(stage):
     stands(page, 0, 45, [], 'a long way is gone in strides')
 
 
+def past_the_shown(stage):
+    """Changes among the numbers that the kernel doesn't show."""
+    page = stage.page
+    page.run(page.add('int a[40] int b[40]'))
+    stands(page, 1, 1)
+    page.run(page.add('a[39] += 1'))
+    stands(page, 2, 2)
+    rows = 'return $("#janus-panel tr.janus-may-change").map(function () { return $(this).find("th, .janus-past").text(); }).get()'
+    wanted = ['a[40] may have changed past the 32nd number']
+    comes('a name that may have changed past the 32nd number says so', lambda: (page.js(rows) == wanted, page.js(rows)))
+    check(page.js('return $(".janus-said").text()') == 'At node 2. Changed: ' + wanted[0], 'and to a screen reader', page.js('return $(".janus-said").text()'))
+    page.click('#janus-undo')
+    stands(page, 1, 2)
+    comes('the way back too', lambda: (page.js(rows) == wanted, page.js(rows)))
+    page.run(page.add('b[0] += 1'))
+    stands(page, 3, 3)
+    comes('what is seen to change is marked as changed', lambda: (shown(page)['changed'] == ['b[40]'] and page.js(rows) == [], shown(page)['changed']))
+
+
+def near_limits(stage):
+    page = stage.page
+    page.run(1)
+    stands(page, 1, 1)
+    said = 'return $(".janus-limits").text()'
+    check(page.js(said) == '', 'nothing is said far from the limits')
+    page.js('Jupyter.janus.conversation.limits.cell(450001); Jupyter.janus.changed()')
+    comes('minutes near their limit are told', lambda: (page.js(said).startswith('At least 900,002 of 1,000,000 minutes are used'), page.js(said)))
+    check('900,002' in page.js('return $("#notification_janus:visible").text()'), 'the notification area says so too')
+    page.restart()
+    stands(page, 0, 0, [], timeout=120)
+    comes('a new run begins anew', lambda: (page.js(said) == '', page.js(said)))
+
+
 def backwards(stage):
     page = stage.page
     run_example(page)
@@ -493,6 +544,7 @@ def no_errors(stage):
     check(not errors, 'the browser\'s console has no error of the page\'s parts', errors)
 
 
-SCENES = [highlighting, buttons, clicks, refused_moves, refusals, interrupt, waiting, second_frontend, late_join, reload_page, restart, earlier_run,
-          run_all_stops, run_all_goes_on, run_all_interrupted, keyboard, screen_reader, slider, slider_on_branch, backwards, no_errors]
+SCENES = [highlighting, buttons, clicks, refused_moves, refusals, procedures, interrupt, waiting, second_frontend, late_join, reload_page, restart, earlier_run,
+          run_all_stops, run_all_goes_on, run_all_interrupted, keyboard, screen_reader, slider, slider_on_branch, past_the_shown, near_limits,
+          backwards, no_errors]
 LAST = [other_language]         # behind it a server may take a minute to end the kernel of Python
