@@ -6,7 +6,7 @@
 // - nodes are numbered in the order in which they came, so numbers rise along each path;
 // - node 0 stands `depth` steps above the position.
 // What doesn't follow stays open: parent[n] is -1.
-define([], function () {
+define(['./rising.js'], function (rising) {
 'use strict';
 
 // What a link came to.
@@ -184,7 +184,7 @@ class History {
     // ---- what was heard
     // A cell ended well: the number of its node.
     cell(label) {
-        const node = this.nodes + 1, parent = this.position, depth = this.depth_of(parent);
+        const node = this.nodes + 1, parent = this.position, depth = this.depth_of(parent), has_path = this.path_of === this.version;
         this.grow(node);
         this.parent[node] = parent;
         this.depth[node] = depth < 0 ? -1 : depth + 1;
@@ -194,6 +194,10 @@ class History {
         this.position = node;
         this.redo = 0;
         this.redo_sure = true;
+        if (has_path) {                                                 // the same one, and this node
+            this.found.on.push(node);
+            this.path_of = this.version;
+        }
         return node;
     }
 
@@ -299,7 +303,7 @@ class History {
             if (n > 0 && this.parent[n] < 0) gaps.push(this.gap_over(n));
             n = n === 0 ? -1 : this.parent[n] >= 0 ? this.parent[n] : gaps[gaps.length - 1][1];
         }
-        this.found = {on: on.reverse(), set: new Set(on), gaps: gaps};
+        this.found = {on: on.reverse(), gaps: gaps};
         this.path_of = this.version;
         return this.found;
     }
@@ -312,8 +316,8 @@ class History {
     // Whether the node is in effect: true, false, or undefined where that isn't known.
     in_effect(node) {
         const path = this.path();
-        if (path.set.has(node)) return true;
         if (node > this.position) return false;
+        if (path.on[rising.first_from(path.on, node)] === node) return true;
         return path.gaps.some(function (gap) { return gap[1] < node && node < gap[0]; }) ? undefined : false;
     }
 

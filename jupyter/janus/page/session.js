@@ -4,7 +4,7 @@
 define(['./history.js', './conversation.js', './memory.js', './explain.js', './texts.js'], function (History, Conversation, memory, explain, texts) {
 'use strict';
 
-const FRAME = 8, PAUSE = 100, KEEP = 1000;          // ms
+const FRAME = 8, PAUSE = 100, KEEP = 1000, AT_LAST = 10000;         // ms
 const INPUTS = 2000;                    // so many of the kernel's inputs are looked at as a page joins
 
 class Session {
@@ -129,7 +129,7 @@ class Session {
 
     // As soon as the page has nothing else to do.
     keep_soon() {
-        if (window.requestIdleCallback) window.requestIdleCallback(() => this.keep(), {timeout: KEEP}); else this.keep();
+        if (window.requestIdleCallback) window.requestIdleCallback(() => this.keep(), {timeout: AT_LAST}); else this.keep();
     }
 
     keep() {

@@ -2,7 +2,7 @@
 //
 // To a screen reader it is a tree of which the rows in sight are there, each with what it is in words. The keyboard's row is the active
 // descendant: arrows up and down go from row to row, left to the parent, right to the child that a redo takes, Enter goes there.
-define(['./layout.js', './texts.js'], function (Layout, texts) {
+define(['./layout.js', './rising.js', './texts.js'], function (Layout, rising, texts) {
 'use strict';
 
 const ROW = 22, LANE = 15, LEFT = 14, RADIUS = 5.5, TOP = 4, LANES_WIDE = 200;
@@ -13,16 +13,6 @@ const MARKUP = '<div class="janus-tree" role="tree" tabindex="0" aria-label="Tre
     '<div id="janus-keys" class="janus-hidden">Arrow up and down go from row to row, left to the parent, right to a child. Enter goes to the node.</div>';
 
 function middle(row) { return row * ROW + ROW / 2 + TOP; }
-
-// The place of the first of rising numbers that is no less than the least.
-function first_from(numbers, least) {
-    let low = 0, high = numbers.length;
-    while (low < high) {
-        const half = (low + high) >> 1;
-        if (numbers[half] < least) low = half + 1; else high = half;
-    }
-    return low;
-}
 
 class Tree {
     // `go` is called with the number of a node that is to be gone to.
@@ -202,12 +192,12 @@ class Tree {
     ways(view) {
         const history = this.history, on = history.path().on, redos = history.redo_path();
         let way = '', gaps = '', back = '';
-        for (let i = Math.max(1, first_from(on, view.first - 1)); i < on.length && on[i - 1] <= view.last + 1; i++) {
+        for (let i = Math.max(1, rising.first_from(on, view.first - 1)); i < on.length && on[i - 1] <= view.last + 1; i++) {
             const parent = on[i - 1], child = on[i];
             if (history.parent[child] === parent) way += this.route(view, parent, child);
             else gaps += 'M' + (this.x(view, this.layout.lane[parent]) - 4) + ' ' + this.cut(view, parent) + 'V' + this.cut(view, child);
         }
-        for (let i = first_from(redos, view.first - 1); i < redos.length; i++) {
+        for (let i = rising.first_from(redos, view.first - 1); i < redos.length; i++) {
             const above = i > 0 ? redos[i - 1] : history.position;
             if (above > view.last + 1) break;
             if (history.parent[redos[i]] === above) back += this.route(view, above, redos[i]);
