@@ -328,7 +328,7 @@ class Conversation {
         for (const job of this.jobs.values()) {
             if (state.busy || job.questions >= this.asked.number) job.over = 0;
             else job.over = job.over || now;
-            if (!job.over || now - job.over < HOLD) continue;
+            if (!job.over || now - job.over < PATIENCE) continue;
             this.jobs.delete(job.id);
             this.missing = true;
         }

@@ -8,6 +8,7 @@ const BEGIN = 'janus:', OPEN = 'janus-open';
 
 function short(label) { return label && {count: label.count, code: label.code.slice(0, TEXT), is_cut: label.is_cut || label.code.length > TEXT}; }
 
+// `pairs` answers the pairs of prompts and nodes.
 function keep(run, history, limits, pairs) {
     if (!history.known || run === null || history.sure !== history.nodes) return;
     const from = Math.max(1, history.nodes - LABELS);
@@ -16,7 +17,7 @@ function keep(run, history, limits, pairs) {
             at: Date.now(), nodes: history.nodes, position: history.position, parent: history.parent, favourite: history.favourite,
             links: history.links, from: from, label: history.label.slice(from).map(short), jobs: limits.kept(),
         }));
-        sessionStorage.setItem(BEGIN + run, JSON.stringify(pairs));
+        sessionStorage.setItem(BEGIN + run, JSON.stringify(pairs()));
     } catch (error) { /* full, or not allowed: the next page knows less */ }
 }
 

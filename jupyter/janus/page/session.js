@@ -4,7 +4,8 @@
 define(['./history.js', './conversation.js', './memory.js', './explain.js', './texts.js'], function (History, Conversation, memory, explain, texts) {
 'use strict';
 
-const FRAME = 8, PAUSE = 100, KEEP = 1000, AT_LAST = 10000;         // ms
+const FRAME = 8, PAUSE = 100, LONG_PAUSE = 300, KEEP = 1000, AT_LAST = 10000;       // ms
+const MANY = 20;                        // behind so many changes that are drawn at once the pause is the long one
 const INPUTS = 2000;                    // so many of the kernel's inputs are looked at as a page joins
 
 class Session {
@@ -13,6 +14,8 @@ class Session {
         this.conversation = new Conversation(this.history, this);
         this.timer = this.keep_timer = null;
         this.updated = 0;               // when the last update was
+        this.pause = PAUSE;             // until the next, at least
+        this.changes = 0;               // since the last
         this.is_warned = false;         // whether it was said that a limit is near
         this.leaving = () => this.keep();
         window.addEventListener('pagehide', this.leaving);              // what was learnt since it was kept last
@@ -106,7 +109,8 @@ class Session {
 
     // ---- drawing: at once where nothing was drawn lately, and else once for many changes
     changed() {
-        const delay = Math.max(FRAME, this.updated + PAUSE - performance.now());
+        const delay = Math.max(FRAME, this.updated + this.pause - performance.now());
+        this.changes++;
         if (this.timer === null) this.timer = setTimeout(() => this.update(), delay);
         if (this.keep_timer === null) this.keep_timer = setTimeout(() => this.keep_soon(), KEEP);
     }
@@ -118,6 +122,8 @@ class Session {
         this.panel.update();
         this.marks.mark();
         this.warn(this.conversation.limits.said(this.history.nodes));
+        this.pause = this.changes > MANY ? LONG_PAUSE : PAUSE;
+        this.changes = 0;
         this.updated = performance.now();
     }
 
@@ -135,7 +141,7 @@ class Session {
     keep() {
         clearTimeout(this.keep_timer);
         this.keep_timer = null;
-        memory.keep(this.conversation.run, this.history, this.conversation.limits, this.pairs());
+        memory.keep(this.conversation.run, this.history, this.conversation.limits, () => this.pairs());
     }
 
     // Prompts of cells with their nodes.

@@ -7,6 +7,7 @@ define(['./layout.js', './rising.js', './texts.js'], function (Layout, rising, t
 
 const ROW = 22, LANE = 15, LEFT = 14, RADIUS = 5.5, TOP = 4, LANES_WIDE = 200;
 const MARGIN = 4;                       // rows that are drawn above and below those in sight
+const SHOWN = 400;                      // so much of a cell's text is there under the mouse
 const MARKUP = '<div class="janus-tree" role="tree" tabindex="0" aria-label="Tree of histories" aria-describedby="janus-keys">' +
     '<svg xmlns="http://www.w3.org/2000/svg" role="presentation"><path class="edges"/><path class="gaps"/><path class="redos"/><path class="way"/>' +
     '<g class="rows" role="presentation"></g></svg></div>' +
@@ -25,6 +26,8 @@ class Tree {
         this.written = {};              // which rows stand there, and as what
         this.top = this.height = this.width = 0;                        // of what is in sight; the height is 0 where the tree isn't
         this.placed = 0;                // the top that the box has
+        this.frame = null;              // in which it gets another one
+        this.is_placed = false;         // whether it got one, and the event that tells of it is still to come
         this.stats = {draws: 0, last: 0, most: 0};
         parent.insertAdjacentHTML('beforeend', MARKUP);
         this.box = parent.querySelector('.janus-tree');
@@ -33,8 +36,10 @@ class Tree {
         this.lines = {};
         for (const name of ['edges', 'gaps', 'redos', 'way']) this.lines[name] = this.svg.querySelector('.' + name);
         this.box.addEventListener('scroll', () => this.scrolled());
+        for (const it of ['wheel', 'pointerdown', 'touchmove']) this.box.addEventListener(it, () => { this.is_placed = false; }, {passive: true});
         new ResizeObserver(() => this.sized()).observe(this.box);
         this.svg.addEventListener('click', event => this.clicked(event));
+        this.svg.addEventListener('mouseover', event => this.hovered(event));
         this.box.addEventListener('keydown', event => this.key(event));
     }
 
@@ -42,16 +47,34 @@ class Tree {
     sized() {
         this.height = this.box.clientHeight;
         this.width = this.box.clientWidth;
-        this.scrolled();
+        if (this.frame === null) this.top = this.placed = this.box.scrollTop;
+        this.draw();
     }
 
+    // Where `place` brought it about, what is in sight is drawn already.
     scrolled() {
+        const is_drawn = this.is_placed || this.frame !== null;
+        this.is_placed = false;
+        if (is_drawn) return;
         this.top = this.placed = this.box.scrollTop;
         this.draw();
     }
 
     // The next drawing is at another place.
-    scroll(top) { this.top = Math.max(0, Math.min(top, this.all() - this.height)); }
+    scroll(top) { this.top = Math.round(Math.max(0, Math.min(top, this.all() - this.height))); }
+
+    // Moves the box to the place that was drawn, once for all that changes before the next frame.
+    place() {
+        const before = this.placed;
+        this.frame = null;
+        if (this.top === before) return;
+        this.box.scrollTop = this.top;
+        this.placed = this.box.scrollTop;                               // it may not go so far
+        this.is_placed = this.placed !== before;
+        if (this.placed === this.top) return;
+        this.top = this.placed;
+        this.draw();
+    }
 
     // The height of all rows.
     all() { return (this.history.nodes + 1) * ROW + 2 * TOP; }
@@ -62,6 +85,15 @@ class Tree {
         if (node < 0 || node > this.history.nodes) return;
         this.cursor = node;
         this.go(node);
+    }
+
+    // A row's text is there in full while the mouse is over it.
+    hovered(event) {
+        const row = event.target.closest('.node'), label = row && this.history.label[Number(row.dataset.node)];
+        if (!row || row.querySelector('title')) return;
+        const title = document.createElementNS(this.svg.namespaceURI, 'title');
+        title.textContent = row.getAttribute('aria-label') + (label ? '\n' + label.code.slice(0, SHOWN) : '');
+        row.prepend(title);
     }
 
     key(event) {
@@ -131,7 +163,7 @@ class Tree {
         for (const name of ['way', 'gaps', 'redos']) this.set(this.lines[name], 'd', ways[name]);
         this.set(this.lines.edges, 'd', edges.path);
         this.write_rows(view);
-        if (top !== this.placed) this.box.scrollTop = this.placed = top;
+        if (top !== this.placed && this.frame === null) this.frame = requestAnimationFrame(() => this.place());
         this.count(performance.now() - begun);
     }
 
@@ -233,7 +265,6 @@ class Tree {
         const code = n === 0 ? 'start' : label ? texts.first_line(label.code).slice(0, 60) : '';
         return '<g class="' + this.classes(n, loose) + '" id="janus-node-' + n + '" data-node="' + n + '" role="treeitem" aria-label="' + said + '"' +
             (depth >= 0 ? ' aria-level="' + (depth + 1) + '"' : '') + ' aria-selected="' + here + '">' +
-            '<title>' + said + (label ? '\n' + texts.escape(label.code.slice(0, 400)) : '') + '</title>' +
             '<rect class="hit" x="0" y="' + (y - ROW / 2) + '" width="100%" height="' + ROW + '"/>' +
             (loose ? '<text class="ask" x="' + (x - 3) + '" y="' + (y - 7) + '">?</text>' : '') +
             '<circle cx="' + x + '" cy="' + y + '" r="' + (here ? RADIUS + 1.5 : RADIUS) + '"/>' +

@@ -10,6 +10,7 @@ from panel import BRIEF, click_node, known, shown, stands
 CLICK = 50              # ms, from a click to the drawing of what it brought, at 1,000 nodes
 DRAW = 4                # ms, the median of a drawing while the tree is scrolled
 WORK = 100              # ms, the longest that the page's own parts may take in one go
+MOST_OPEN = 400         # cells that were sent and have no reply, at most
 STILL = 1000            # ms, the longest that the page may not look at anything, with whatever else runs on the machine
 # A beat of 10 ms, and a meter on what the page's own parts take.
 GAPS = '''window.gaps = []; window.work = {longest: 0, total: 0}; var last = performance.now();
@@ -152,13 +153,15 @@ def fell_behind(stage):
 
 
 def paced(frontend, seconds, rate, out):
-    """So many cells a second for so long; what came is thrown away."""
-    begun, sent = time.time(), 0
+    """So many cells a second for so long, or as many as the kernel runs; what came is thrown away."""
+    frontend.drain()
+    begun, sent, replies = time.time(), 0, 0
     while time.time() - begun < seconds:
-        while sent < (time.time() - begun) * rate:
+        due = min((time.time() - begun) * rate, replies + MOST_OPEN)
+        while sent < due:
             frontend.begin('n += 1')
             sent += 1
-        frontend.drain()
+        replies += frontend.drain()
         time.sleep(.005)
     out.append((sent, time.time() - begun))
 

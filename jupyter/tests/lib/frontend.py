@@ -48,17 +48,22 @@ class Frontend:
         for i in range(times):
             self.begin(code)
             if i % batch == batch - 1 or i == times - 1:
-                while replies <= i and shell.poll(60000):
+                while replies <= i:
+                    if not shell.poll(60000):
+                        raise AssertionError(f'{i + 1 - replies} of {i + 1} cells have no reply')
                     shell.recv_multipart()
                     replies += 1
-                self.drain()
+                replies += self.drain()
 
     def drain(self):
-        """Throws away what came, so that the client's queues stay short."""
+        """Throws away what came, so that the client's queues stay short. Answers how many replies there were."""
+        count = 0
         for channel in (self.client.iopub_channel, self.client.shell_channel):
-            plain = zmq.Socket.shadow(channel.socket.underlying)
+            plain, count = zmq.Socket.shadow(channel.socket.underlying), 0
             while plain.poll(0):
                 plain.recv_multipart()
+                count += 1
+        return count
 
     def comms(self):
         asked = self.send('comm_info_request', {'target_name': 'janus.undo'})
