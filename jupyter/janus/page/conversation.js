@@ -287,7 +287,7 @@ class Conversation {
     }
 
     // ---- moves
-    // One that ended beside other jobs may have come before them, though they were heard first. Where it fits it didn't: then its way begins elsewhere.
+    // One that ended beside other jobs may have been done before them, though they were heard first. Its way then begins elsewhere, so it doesn't fit.
     heard_move(job, answer) {
         const own = this.mine.get(job.id), history = this.history, is_beside = this.clock > job.clock, fits = history.fits(answer);
         this.mine.delete(job.id);
@@ -313,8 +313,8 @@ class Conversation {
         const history = this.history, quiet = this.is_quiet(state);
         if (quiet) this.silent_cells(state); else this.end_lost(state);
         this.asked = null;
-        const odd = quiet && history.known && !history.expects(state), early = !history.known && (state.busy || this.misses > MOST_MISSES);
-        const take = quiet ? !odd || this.doubted : early;
+        const odd = quiet && history.known && !history.expects(state);
+        const take = quiet ? !odd || this.doubted : !history.known && (state.busy || this.misses > MOST_MISSES);
         if (quiet) this.doubted = odd && !take;
         this.misses = take ? 0 : this.misses + 1;
         if (take) this.take_state(state, quiet);
