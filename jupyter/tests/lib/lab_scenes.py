@@ -600,6 +600,9 @@ def console(stage):
     page = stage.page
     run_example(page, 2)
     page.js(S + CONSOLE)
+    wait('the console', lambda: page.js('return janus_history.sessions.size') == 2, 60)
+    time.sleep(1)                                               # on a busy machine the notebook may take the focus back
+    page.js('jupyterapp.shell.activateById(Array.from(janus_history.sessions.keys()).find(function (it) { return it !== kept; }).id)')
     other = stage.name + '.ipynb'
     comes('a console of the same kernel has buttons', lambda: (shown(page)['title'] != other and shown(page)['tools'] == BUTTONS * 2, shown(page)), 60)
     stands(page, 2, 2, WORLD, 'and its own panel')
