@@ -19,6 +19,7 @@ class Conversation {
         this.comm = null;
         this.run = null;                // the session in the kernel's headers, which names its run
         this.ask_timer = this.hold_timer = null;
+        this.ask_at = this.ask_due = 0;
         this.turn = 0;                  // counts the searches for a comm
         this.questions = 0;             // counts the states that were asked for
         this.begin();
@@ -135,9 +136,18 @@ class Conversation {
         }
     }
 
-    ask_soon(delay) {
+    // Asks once nothing calls this for so long. A timer that comes too early waits on, since to set one anew for each of many cells takes its time.
+    ask_soon(delay = SOON) {
+        this.ask_at = performance.now() + delay;
+        if (this.ask_timer !== null && this.ask_due <= this.ask_at) return;
         clearTimeout(this.ask_timer);
-        this.ask_timer = setTimeout(() => this.kernel !== null && this.ask(), delay === undefined ? SOON : delay);
+        this.ask_due = this.ask_at;
+        this.ask_timer = setTimeout(() => {
+            const left = this.ask_at - performance.now();
+            this.ask_timer = null;
+            if (left > 0) this.ask_soon(left);
+            else if (this.kernel !== null) this.ask();
+        }, delay);
     }
 
     // Asks for a move; false where there is no comm yet.
@@ -281,7 +291,7 @@ class Conversation {
         if (ran && this.history.known) node = this.history.cell(label);
         else if (ran && this.early) this.early.push({label: label, id: job.id});
         this.page.cell_ended(job, node);
-        if (job.other) this.page.other(explain.other_cell(job, node));
+        if (job.other) this.page.other(() => explain.other_cell(job, node));
         this.page.changed();
         this.ask_soon();
     }
@@ -296,7 +306,7 @@ class Conversation {
         this.spoken++;
         if (own) this.page.move_answered(own, answer);
         if (answer.status === 'refused') return;
-        if (job.other) this.page.other('another frontend ' + explain.way(answer));
+        if (job.other) this.page.other(() => 'another frontend ' + explain.way(answer));
         this.moves++;
         if (!fits) this.unsure++;
         if (!history.known) this.early = null;

@@ -58,8 +58,8 @@ class Panel {
         if (box.textContent !== text) box.textContent = text;
     }
 
-    other(text) {
-        this.others.push(text);
+    other(say) {
+        this.others.push(say);
         if (this.others.length > OTHERS) this.others.shift();
     }
 
@@ -93,7 +93,7 @@ class Panel {
         const note = this.find('.janus-note'), said = this.note();
         if (note.textContent !== said) note.textContent = said;
         note.hidden = said === '';
-        const others = this.others.map(function (it) { return '<li>' + texts.escape(it) + '</li>'; }).join('');
+        const others = this.others.map(function (say) { return '<li>' + texts.escape(say()) + '</li>'; }).join('');
         if (others !== this.others_written) this.find('.janus-others').innerHTML = others;
         this.others_written = others;
     }

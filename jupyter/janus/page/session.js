@@ -96,7 +96,8 @@ class Session {
 
     moves_lost() { this.panel.timeline.stop(); }
 
-    other(text) { this.panel.other(text); }
+    // `say` answers what another frontend did, in words.
+    other(say) { this.panel.other(say); }
 
     values(world, node) { this.panel.show_values(world, node); }
 
@@ -109,9 +110,8 @@ class Session {
 
     // ---- drawing: at once where nothing was drawn lately, and else once for many changes
     changed() {
-        const delay = Math.max(FRAME, this.updated + this.pause - performance.now());
         this.changes++;
-        if (this.timer === null) this.timer = setTimeout(() => this.update(), delay);
+        if (this.timer === null) this.timer = setTimeout(() => this.update(), Math.max(FRAME, this.updated + this.pause - performance.now()));
         if (this.keep_timer === null) this.keep_timer = setTimeout(() => this.keep_soon(), KEEP);
     }
 
