@@ -603,15 +603,15 @@ def console(stage):
     wait('the console', lambda: page.js('return janus_history.sessions.size') == 2, 60)
     time.sleep(1)                                               # on a busy machine the notebook may take the focus back
     page.js('jupyterapp.shell.activateById(Array.from(janus_history.sessions.keys()).find(function (it) { return it !== kept; }).id)')
-    other = stage.name + '.ipynb'
-    comes('a console of the same kernel has buttons', lambda: (shown(page)['title'] != other and shown(page)['tools'] == BUTTONS * 2, shown(page)), 60)
+    in_console = S + 'return !!panel && panel !== kept'         # its title may be the notebook's
+    comes('a console of the same kernel has buttons', lambda: (page.js(in_console) and shown(page)['tools'] == BUTTONS * 2, shown(page)), 60)
     stands(page, 2, 2, WORLD, 'and its own panel')
     check(page.js('return Array.from(janus_history.sessions.keys()).length') == 2, 'there are two sessions')
     page.js(EXECUTE, 'x1 += 9')
     stands(page, 3, 3, ['x1 = 9', 'x2 = 0', 'n = 4'], 'a cell of the console is node 3')
     comes('and marked there', lambda: (marks(page)[:1] == ['+3'], marks(page)))
     page.js('jupyterapp.shell.activateById(kept.id)')
-    comes('the panel follows to the notebook', lambda: (shown(page)['title'] == other, shown(page)['title']))
+    comes('the panel follows to the notebook', lambda: (not page.js(in_console), shown(page)['title']))
     stands(page, 3, 3, ['x1 = 9', 'x2 = 0', 'n = 4'], 'which has heard the console\'s cell')
     page.click('.jp-NotebookPanel .janus-undo')
     stands(page, 2, 3, WORLD, 'Undo in the notebook takes it back')
