@@ -26,15 +26,15 @@ proctype Frontend(byte me) {
     do
     :: posts == JOBS -> break
     :: posts < JOBS ->
-        LOCK(lock);                                     /* Hall::run: Entrance::enter */
+        LOCK(lock);                                     /* Hall::send: Entrance::enter */
         if
-        :: is_closing -> UNLOCK(lock); goto gone        /* State::take: Kernel::post_fault */
+        :: is_closing -> UNLOCK(lock); goto gone        /* State::post: Kernel::post_fault */
         :: !is_closing ->
             atomic { posted++; posts++; number = posted; waits[me] = true };    /* State::queue */
             UNLOCK(lock)
         fi;
 #ifndef SPOILED
-        WAKE_ALL(moved);                                /* Hall::run: moved.notify_all */
+        WAKE_ALL(moved);                                /* Hall::send: moved.notify_all */
 #endif
         LOCK(lock);                                     /* Hall::end_of: the first look */
         if
@@ -49,12 +49,7 @@ proctype Frontend(byte me) {
             UNLOCK(lock)
         fi;
         waits[me] = false;
-        LOCK(lock);                                     /* Hall::ask: enter_behind */
-        do
-        :: posted + ended >= posts -> break             /* State::has_seen */
-        :: posted + ended < posts -> SLEEP(lock, moved)
-        od;
-        UNLOCK(lock)
+        UNDER(lock, assert(posted >= posts))            /* Hall::ask: State::see, which finds all own posts */
     od;
 gone:
     skip

@@ -7,6 +7,9 @@ use Rattle.std.proofs.MapsCrossing.{crosses as maps}
 use Rattle.std.proofs.sync.ledger.Book.TheSendSync.{the_send as book_send}
 use Rattle.std.proofs.sync.ledger.Share.TheSendSync.{the_send as share_send}
 use Rattle.kernel_audit.proofs.CoreCrosses.{Kernel-send}
+use Rattle.kernel_audit.proofs.MachineCrosses.{Job-send, Outcome-send}
+use Rattle.kernel_audit.specs.HistoryNames as HistoryName
+use Rattle.kernel_audit.proofs.HistoryCrosses.{Keeper-send}
 use Rattle.kernel_audit.proofs.AskCrosses.{Comms-send, NamedValue-send, Wish-send}
 use Rattle.hall_state.specs.contracts.pending_result.PendingResult as PendingResult
 use Rattle.hall_state.specs.contracts.passes.Passes as Passes
@@ -15,11 +18,11 @@ use Rattle.hall_state.specs.contracts.state.State as State
 PendingResult-send : IsSend (PendingResult.the_field).row
 PendingResult-send = search (crosses, maps, NamedValue-send, Wish-send, sendable) depth 60 fits 20000
 
-module _ (W : RattleType) (w : Ledger.Ghosts W.Denot) where
-  Passes-send : IsSend W → IsSend (Passes.the_field W w).row
+module _ (L : RattleType) (n : HistoryName.Ghosts L.Denot) (l : Ledger.Ghosts L.Denot) where
+  Passes-send : IsSend L → IsSend (Passes.the_field L n l).row
   Passes-send s = search (crosses, share_send, sendable) depth 60 fits 20000
 
-module _ (W L : RattleType) (w : Ledger.Ghosts W.Denot) (l : Ledger.Ghosts L.Denot) where
-  pub State-send : IsSend W → IsSend L → IsSend (State.the_field W L w l).row
-  State-send s t = let a = Kernel-send W w s in let b = Passes-send L l t in
-      search (crosses, book_send, Comms-send, PendingResult-send, sendable) depth 60 fits 20000
+module _ (W L : RattleType) (w : Ledger.Ghosts W.Denot) (n : HistoryName.Ghosts L.Denot) (l : Ledger.Ghosts L.Denot) where
+  pub State-send : IsSend W → IsSend L → IsSend (State.the_field W L n w l).row
+  State-send s t = let a = Kernel-send W w s in let b = Passes-send L n l t in
+      search (crosses, book_send, Keeper-send, Job-send, Outcome-send, Comms-send, PendingResult-send, sendable) depth 60 fits 20000

@@ -1,6 +1,8 @@
 pub mod Turns
 pub mod PendingResults
 pub mod LastEnds
+-- Of shared_history, given again.
+pub use Rattle.kernel_audit.specs.HistoryNames
 -- Of kernel_audit, given again.
 pub use Rattle.kernel_audit.specs.Ends
 pub use Rattle.kernel_audit.specs.Passes
@@ -10,6 +12,8 @@ pub use Rattle.kernel_audit.specs.Answer
 pub use Rattle.kernel_audit.specs.answer
 pub use Rattle.kernel_audit.specs.done
 -- Of kernel_core, given again.
+pub use Rattle.kernel_audit.specs.Minutes
+pub use Rattle.kernel_audit.specs.Request
 pub use Rattle.kernel_audit.specs.Runs
 pub use Rattle.kernel_audit.specs.LegalMinutes
 pub use Rattle.kernel_audit.specs.post

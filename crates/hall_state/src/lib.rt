@@ -3,14 +3,16 @@
 //!
 //! To the layer above, which has the lock and the threads, it promises that a post, a turn of the runner, an answer and a change of the comms
 //! are those of the kernel that is here. Each post is counted by its pass and in a ledger, whose book is the number of posts in the minutes;
-//! what is made as a job ends is told once; and at the end the minutes are compared with what the frontends came away with.
+//! what is made as a job ends is told once; and at the end the minutes are compared with what the frontends came away with. The minutes are one
+//! history: what a pass sees begins with all that it had seen.
 //!
 //! `state` has all of it. `turn` is what the runner does with the kernel and the bell, `pending_result` what stands beside a post,
-//! `passes` who may post, `minutes` what is left at the end.
+//! `passes` who may post, `history` how the history follows the minutes, `minutes` what is left at the end.
 //!
 //! It gives the names of `kernel_audit`, `kernel_ask` and the kernel again that the hall's calls have.
 #![tactic(auto)]
 
+mod history;
 mod limit;
 mod minutes;
 mod passes;
@@ -19,9 +21,9 @@ mod state;
 mod turn;
 
 pub use kernel_audit::{
-    Answer, Ask, AuditFault, Begun, CellText, CommChange, Comms, Content, Done, HallFault, Job,
-    Kernel, Outcome, Pass, PostFault, Refusal, STEPS_OF_A_SLICE, Sliced, Ticket, Wish, ask_on,
-    audit, comm_on, judge,
+    Answer, Ask, AuditFault, Begun, CellText, CommChange, Comms, Content, Done, Entry, HallFault,
+    HistoryName, Job, Kernel, NewHistory, Outcome, Pass, PostFault, Refusal, STEPS_OF_A_SLICE,
+    Sliced, Ticket, Wish, ask_on, audit, comm_on, judge,
 };
 pub use limit::{PARTS_OF_POSTS, PASSES};
 pub use minutes::Minutes;

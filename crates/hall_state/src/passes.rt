@@ -1,21 +1,22 @@
 //! The passes that are still to be given.
-ghost use Rattle.std.specs.Prelude.{◌≡◌, ◌+◌, ◌≤◌, IfSome, IfNone};
+ghost use Rattle.std.specs.Prelude.{◌≡◌, ◌+◌, ◌≤◌, IfSome, IfNone, map};
 ghost use Rattle.kernel_audit.specs.Passes.{pass_of};
+ghost use Rattle.kernel_audit.specs.Written.{entry_of};
 ghost use Rattle.hall_state.specs.declared.limit.TheConstants.{PASSES, PARTS_OF_POSTS};
 
 use crate::limit::PASSES;
-use kernel_audit::Pass;
+use kernel_audit::{Entry, HistoryName, Keeper, Pass};
 use std::marker::Model;
-use std::sync::ledger::{Ledger, Share};
+use std::sync::ledger::Share;
 
 /// How many passes were given, and the parts of the ledger that none of them has. Contracts see their number.
 #[derive(Drop)]
-pub struct Passes<L: Ledger> {
+pub struct Passes<L: HistoryName> {
     given: u32,
     rest: Share<L>,
 }
 
-impl<L: Ledger> Model for Passes<L> {
+impl<L: HistoryName> Model for Passes<L> {
     ghost use Rattle.std.specs.Prelude.{◌≡◌, ◌+◌, ◌≤◌, ℕ};
     ghost use Rattle.hall_state.specs.declared.limit.TheConstants.{PASSES, PARTS_OF_POSTS};
 
@@ -26,7 +27,7 @@ impl<L: Ledger> Model for Passes<L> {
     ghost invariant = { λ p. (p.rest.parts + p.given ≡ PARTS_OF_POSTS) × (p.rest.amount ≡ 0) × (p.given ≤ PASSES) };
 }
 
-impl<L: Ledger> Passes<L> {
+impl<L: HistoryName> Passes<L> {
     /// No pass is given.
     pub(crate) fn new(rest: Share<L>) -> Passes<L>
         requires parts { rest.parts ≡ PARTS_OF_POSTS }
@@ -36,18 +37,19 @@ impl<L: Ledger> Passes<L> {
         Passes { given: 0, rest }
     }
 
-    /// One more pass, with no posts, on the next lane; `None` where all are given.
-    pub fn next(&mut self) -> Option<Pass<L>>
-        ensures pass { IfSome result (λ p. p ≡ pass_of (self.old + 1) 0) }
+    /// One more pass, with no posts, on the next lane, which has seen all of the history; `None` where all are given.
+    pub fn next(&mut self, history: &mut Keeper<Entry, L>) -> Option<Pass<L>>
+        ensures pass { IfSome result (λ p. p ≡ pass_of (self.old + 1) 0 (map entry_of history.old)) }
         ensures lane { IfSome result (λ p. (1 ≤ p.lane) × (p.lane ≤ PASSES)) }
         ensures some { IfSome result (λ p. self.new ≡ self.old + 1) }
         ensures none { IfNone result ((self.old ≡ PASSES) × (self.new ≡ self.old)) }
+        ensures history { history.new ≡ history.old }
     {
         if self.given >= PASSES {
             return None;
         }
         let share = self.rest.split_off(1, 0);
         self.given += 1;
-        Some(Pass::new(self.given, share))
+        Some(Pass::new(self.given, share, history.front()))
     }
 }

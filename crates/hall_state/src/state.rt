@@ -1,5 +1,6 @@
 //! What lies under the hall's lock.
-ghost use Rattle.std.specs.Prelude.{◌≡◌, ◌+◌, ◌-◌, ◌^◌, ◌<◌, ◌≤◌, ◌↔◌, IsTrue, [], ◌∷◌, ◌++◌, IfOk, IfErr, OnErr, IfSome, IfNone, suc, length, true};
+ghost use Rattle.std.specs.Prelude.{◌≡◌, ◌+◌, ◌-◌, ◌^◌, ◌<◌, ◌≤◌, ◌↔◌, IsTrue, [], ◌∷◌, ◌++◌, IfOk, IfErr, OnErr, IfSome, IfNone, All, suc, length, map, true};
+ghost use mathlib.Core.List.{IsPrefix};
 ghost use Rattle.std.specs.Bool.{OnTrue, OnFalse};
 ghost use Rattle.kernel_audit.specs.Request.{request_of};
 ghost use Rattle.kernel_audit.specs.Minutes.{posted_in};
@@ -8,7 +9,8 @@ ghost use Rattle.kernel_audit.specs.Runs.{IsReady, IsRefusal, posted, shut, phas
 ghost use Rattle.kernel_audit.specs.outcome.Phase.TheVariants.{Idle};
 ghost use Rattle.kernel_audit.specs.Answer.{IsAnswer};
 ghost use Rattle.kernel_audit.specs.CommChanges.{IsChange};
-ghost use Rattle.kernel_audit.specs.Passes.{pass_of, ticket_of};
+ghost use Rattle.kernel_audit.specs.Written.{entry_of};
+ghost use Rattle.kernel_audit.specs.Passes.{pass_of, HasSeen, HasPosted};
 ghost use Rattle.hall_state.specs.Turns.{IsTurn};
 ghost use Rattle.hall_state.specs.PendingResults.{IsNewPending, IsTold, SettlesLast, ends_job};
 ghost use Rattle.hall_state.specs.LastEnds.{last_of, number_in};
@@ -17,43 +19,48 @@ ghost use Rattle.hall_state.specs.declared.pending_result.PendingResult.{Pending
 ghost use Rattle.kernel_audit.specs.Ends.{HasEnd};
 ghost use Rattle.kernel_audit.specs.Audit.{Audited, IsAuditFault};
 
+use crate::history::{follow, show_all};
 use crate::minutes::Minutes;
 use crate::passes::Passes;
 use crate::pending_result::{PendingResult, fetch, last_number, settle_last};
 use crate::turn::{Turn, turn_on};
 use kernel_audit::{
-    Answer, Ask, AuditFault, CommChange, Comms, Done, HallFault, Job, Kernel, Pass, Phase,
-    PostFault, Ticket, Wish, ask_on, audit, comm_on,
+    Answer, Ask, AuditFault, CommChange, Comms, Done, Entry, HallFault, HistoryName, Job, Keeper,
+    Kernel, NewHistory, Pass, Phase, PostFault, Ticket, Wish, ask_on, audit, comm_on,
 };
 use kernel_bell::{Bell, RunnerSeat};
 use std::alloc::Global;
 use std::sync::ledger::{Book, Ledger, Share};
 
-/// The lock's value. Its type keeps that the book is the number of posts in the minutes.
+/// The lock's value. Its type keeps that the book is the number of posts in the minutes, and that the minutes are the history.
 #[derive(Drop)]
-pub struct State<W: Ledger, L: Ledger> {
+pub struct State<W: Ledger, L: HistoryName> {
     kernel: Kernel<W>,
     comms: Comms,
     passes: Passes<L>,
     pending_results: Vec<PendingResult>,
     alloc: Global,
     book: Book<L>,
+    history: Keeper<Entry, L>,
     pub ghost counted: { book.total ≡ posted_in kernel.machine.minutes },
+    pub ghost told: { map entry_of history ≡ kernel.machine.minutes },
 }
 
-impl<W: Ledger, L: Ledger> State<W, L> {
-    /// Around a kernel with no minutes, with the book of its posts and all shares in it.
+impl<W: Ledger, L: HistoryName> State<W, L> {
+    /// Around a kernel with no minutes, with the book of its posts and all shares in it, and the history that its minutes become.
     pub fn new(
         alloc: Global,
         kernel: Kernel<W>,
         comms: Comms,
         book: Book<L>,
         rest: Share<L>,
+        history: NewHistory<Entry>,
     ) -> State<W, L>
         requires fresh { kernel.machine.minutes ≡ [] }
         requires book { book.total ≡ 0 }
         requires parts { rest.parts ≡ PARTS_OF_POSTS }
         requires amount { rest.amount ≡ 0 }
+        requires history { history ≡ L.history }
         ensures kernel { result.kernel ≡ kernel }
         ensures comms { result.comms ≡ comms }
     {
@@ -64,48 +71,13 @@ impl<W: Ledger, L: Ledger> State<W, L> {
             pending_results: Vec::new(alloc),
             alloc,
             book,
+            history: history.keeper(),
         }
     }
 
-    /// Posts a job for a pass, which counts it. The wishes stand beside it until it ends. A refused post drops the job and the wishes. The job
-    /// is in the ticket too, which shares the text of a cell with it: [`State::take`] makes no ticket.
+    /// Posts a job for a pass, which counts it, and answers its number. The wishes stand beside it until it ends. A refused post drops the job
+    /// and the wishes. The pass has seen the minutes behind the post, or those for which it is refused.
     pub fn post(
-        &mut self,
-        pass: &mut Pass<L>,
-        job: Job,
-        wishes: Vec<Wish>,
-    ) -> Result<Ticket, PostFault>
-        ensures ticket { IfOk result (λ t. t ≡ ticket_of pass.old (suc (posted_in self.old.kernel.machine.minutes)) job) }
-        ensures posted { IfOk result (λ t. self.new.kernel.machine ≡ posted self.old.kernel.machine pass.old.lane (request_of job)) }
-        ensures counted { IfOk result (λ t. pass.new ≡ pass_of pass.old.lane (pass.old.posts + 1)) }
-        ensures refusal { IfErr result (IsRefusal self.old.kernel.machine) }
-        ensures kernel { OnErr result (self.new.kernel.machine ≡ self.old.kernel.machine) }
-        ensures pass { OnErr result (pass.new ≡ pass.old) }
-        ensures comms { self.new.comms ≡ self.old.comms }
-        ensures pending_result { IfOk result
-            (λ t. (e : PendingResult) × IsNewPending (length self.old.kernel.machine.minutes) wishes.items e
-            × (self.new.pending_results.items ≡ self.old.pending_results.items ++ e ∷ [])) }
-        ensures pending_results { OnErr result (self.new.pending_results.items ≡ self.old.pending_results.items) }
-        ensures legal { IsLegalMachine self.old.kernel.machine }
-    {
-        show_legal(&self.kernel);
-        if let Some(fault) = self.kernel.post_fault() {
-            return Err(fault);
-        }
-        let Ok(copy) = job.try_clone() else {
-            return Err(PostFault::Memory);
-        };
-        let number = self.queue(pass, copy, wishes)?;
-        Ok(Ticket {
-            lane: pass.lane(),
-            nth: pass.posts(),
-            number,
-            job,
-        })
-    }
-
-    /// Posts a job for a pass as [`State::post`] does, and answers its number alone.
-    pub fn take(
         &mut self,
         pass: &mut Pass<L>,
         job: Job,
@@ -113,10 +85,11 @@ impl<W: Ledger, L: Ledger> State<W, L> {
     ) -> Result<u64, PostFault>
         ensures number { IfOk result (λ n. n ≡ suc (posted_in self.old.kernel.machine.minutes)) }
         ensures posted { IfOk result (λ n. self.new.kernel.machine ≡ posted self.old.kernel.machine pass.old.lane (request_of job)) }
-        ensures counted { IfOk result (λ n. pass.new ≡ pass_of pass.old.lane (pass.old.posts + 1)) }
+        ensures stands { IfOk result (λ n. HasPosted pass.old (request_of job) n pass.new) }
         ensures refusal { IfErr result (IsRefusal self.old.kernel.machine) }
         ensures kernel { OnErr result (self.new.kernel.machine ≡ self.old.kernel.machine) }
-        ensures pass { OnErr result (pass.new ≡ pass.old) }
+        ensures pass { OnErr result (HasSeen pass.old pass.new) }
+        ensures front { pass.new.front ≡ self.new.kernel.machine.minutes }
         ensures comms { self.new.comms ≡ self.old.comms }
         ensures pending_result { IfOk result
             (λ n. (e : PendingResult) × IsNewPending (length self.old.kernel.machine.minutes) wishes.items e
@@ -126,9 +99,46 @@ impl<W: Ledger, L: Ledger> State<W, L> {
     {
         show_legal(&self.kernel);
         if let Some(fault) = self.kernel.post_fault() {
+            self.see(pass);
             return Err(fault);
         }
-        self.queue(pass, job, wishes)
+        match self.queue(pass, job, wishes) {
+            Ok(number) => {
+                self.see(pass);
+                Ok(number)
+            }
+            Err(fault) => {
+                self.see(pass);
+                Err(fault)
+            }
+        }
+    }
+
+    /// Why a post is refused for which no memory was found before the lock was taken.
+    pub fn refuse(&mut self, pass: &mut Pass<L>) -> PostFault
+        ensures refusal { IsRefusal self.old.kernel.machine result }
+        ensures pass { HasSeen pass.old pass.new }
+        ensures front { pass.new.front ≡ self.old.kernel.machine.minutes }
+        ensures kernel { self.new.kernel ≡ self.old.kernel }
+        ensures legal { IsLegalMachine self.old.kernel.machine }
+    {
+        self.see(pass);
+        self.kernel.post_fault().unwrap_or(PostFault::Memory)
+    }
+
+    /// Shows the minutes to a pass. What it had seen is a beginning of them, and all its posts are among them.
+    pub fn see(&mut self, pass: &mut Pass<L>)
+        ensures seen { HasSeen pass.old pass.new }
+        ensures front { pass.new.front ≡ self.old.kernel.machine.minutes }
+        ensures own { pass.new.posts ≤ posted_in self.old.kernel.machine.minutes }
+        ensures legal { IsLegalMachine self.old.kernel.machine }
+        ensures kernel { self.new.kernel ≡ self.old.kernel }
+        ensures comms { self.new.comms ≡ self.old.comms }
+        ensures pending_results { self.new.pending_results ≡ self.old.pending_results }
+    {
+        show_legal(&self.kernel);
+        let State { book, history, .. } = self;
+        pass.see(book, history);
     }
 
     /// Queues a job, which only want of memory refuses.
@@ -136,7 +146,7 @@ impl<W: Ledger, L: Ledger> State<W, L> {
         requires ready { IsReady self.old.kernel.machine }
         ensures number { IfOk result (λ n. n ≡ suc (posted_in self.old.kernel.machine.minutes)) }
         ensures posted { IfOk result (λ n. self.new.kernel.machine ≡ posted self.old.kernel.machine pass.old.lane (request_of job)) }
-        ensures counted { IfOk result (λ n. pass.new ≡ pass_of pass.old.lane (pass.old.posts + 1)) }
+        ensures counted { IfOk result (λ n. pass.new ≡ pass_of pass.old.lane (pass.old.posts + 1) pass.old.front) }
         ensures refusal { IfErr result (IsRefusal self.old.kernel.machine) }
         ensures kernel { OnErr result (self.new.kernel.machine ≡ self.old.kernel.machine) }
         ensures pass { OnErr result (pass.new ≡ pass.old) }
@@ -151,6 +161,7 @@ impl<W: Ledger, L: Ledger> State<W, L> {
             pending_results,
             alloc,
             book,
+            history,
             ..
         } = self;
         let Ok(pending_result) = PendingResult::new(*alloc, kernel.minutes().len(), wishes) else {
@@ -160,6 +171,7 @@ impl<W: Ledger, L: Ledger> State<W, L> {
             return Err(PostFault::Memory);
         }
         let number = kernel.post(pass.lane(), job)?;
+        follow(history, kernel);
         pending_results.push_reserved(pending_result);
         pass.count(book);
         Ok(number)
@@ -176,9 +188,14 @@ impl<W: Ledger, L: Ledger> State<W, L> {
         ensures pending_results { OnFalse (ends_job result) (self.new.pending_results.items ≡ self.old.pending_results.items) }
     {
         show_legal(&self.kernel);
-        let State { kernel, .. } = self;
+        let State {
+            kernel,
+            history,
+            ..
+        } = self;
         let turn = turn_on(kernel, bell, runner, m);
         if turn.is_end() {
+            follow(history, kernel);
             settle_last(self.alloc, &self.kernel, &mut self.pending_results);
         }
         turn
@@ -205,25 +222,24 @@ impl<W: Ledger, L: Ledger> State<W, L> {
         last_number(self.kernel.minutes())
     }
 
-    /// Whether there are at least as many minutes as posts.
-    pub fn has_seen(&self, posts: u64) -> bool
-        ensures { IsTrue result ↔ (posts ≤ length self.now.kernel.machine.minutes) }
-    {
-        posts <= self.kernel.minutes().len() as u64
-    }
-
-    /// A new pass, with no posts; `None` where all are given.
+    /// A new pass, with no posts, which has seen the minutes; `None` where all are given.
     pub fn pass(&mut self) -> Option<Pass<L>>
-        ensures pass { IfSome result (λ p. p ≡ pass_of (self.old.passes + 1) 0) }
+        ensures pass { IfSome result (λ p. p ≡ pass_of (self.old.passes + 1) 0 self.old.kernel.machine.minutes) }
         ensures lane { IfSome result (λ p. (1 ≤ p.lane) × (p.lane ≤ PASSES)) }
         ensures given { IfSome result (λ p. self.new.passes ≡ self.old.passes + 1) }
         ensures none { IfNone result (self.old.passes ≡ PASSES) }
+        ensures legal { IsLegalMachine self.old.kernel.machine }
         ensures kernel { self.new.kernel ≡ self.old.kernel }
         ensures comms { self.new.comms ≡ self.old.comms }
         ensures pending_results { self.new.pending_results ≡ self.old.pending_results }
     {
-        let State { passes, .. } = self;
-        passes.next()
+        show_legal(&self.kernel);
+        let State {
+            passes,
+            history,
+            ..
+        } = self;
+        passes.next(history)
     }
 
     /// How many minutes there are.
@@ -287,7 +303,7 @@ impl<W: Ledger, L: Ledger> State<W, L> {
     /// Compares the minutes with what the frontends came away with. All of it is spent, the kernel too where something is missing or
     /// untrue: as `PassMissing` where the posts of the passes don't add up to those of the minutes, else as `TicketUnknown` with a
     /// number at which a ticket or an end doesn't stand, which two tickets share, or which is smaller than that of an earlier post of
-    /// its pass. It takes no memory.
+    /// its pass. Either way what each pass has seen is a beginning of these minutes. It takes no memory.
     pub fn close(
         self,
         passes: Vec<Pass<L>>,
@@ -297,11 +313,19 @@ impl<W: Ledger, L: Ledger> State<W, L> {
         ensures minutes { IfOk result (λ m. m ≡ self.kernel.machine) }
         ensures audited { IfOk result (λ m. Audited self.kernel.machine.minutes passes.items tickets.items dones.items) }
         ensures fault { IfErr result (IsAuditFault self.kernel.machine.minutes passes.items tickets.items dones.items) }
+        ensures fronts { All (λ p. IsPrefix p.front self.kernel.machine.minutes) passes.items }
         ensures legal { IsLegalMachine self.kernel.machine }
     {
         show_legal(&self.kernel);
-        let State { kernel, .. } = self;
-        match audit(kernel.minutes(), &passes, &mut tickets, &mut dones) {
+        let State {
+            kernel,
+            mut book,
+            mut history,
+            ..
+        } = self;
+        let audited = audit(kernel.minutes(), &passes, &mut tickets, &mut dones);
+        show_all(passes, &mut book, &mut history);
+        match audited {
             Ok(()) => Ok(Minutes { kernel }),
             Err(fault) => {
                 kernel.discard();

@@ -4,6 +4,8 @@ pub mod Audit
 pub mod AuditFault
 pub mod Marks
 pub mod Orders
+-- Of shared_history, given again.
+pub use Rattle.shared_history.specs.declared.history.HistoryName as HistoryNames
 -- Of kernel_ask, given again.
 pub use Rattle.kernel_ask.specs.Answer
 pub use Rattle.kernel_ask.specs.declared.answer

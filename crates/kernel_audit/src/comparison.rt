@@ -13,11 +13,11 @@ use crate::order::{by_lane, by_number, shared_number, swapped_number};
 use crate::pass::{Pass, Ticket};
 use crate::same::same_outcome;
 use kernel_ask::{Done, Entry, Job};
-use std::sync::ledger::Ledger;
+use shared_history::HistoryName;
 
 /// Compares what the frontends hold with the minutes, and sorts the tickets and the ends. It takes no memory, and goes over the minutes
 /// three times: for the posts, for the tickets and for the ends.
-pub fn audit<L: Ledger>(
+pub fn audit<L: HistoryName>(
     minutes: &[Entry],
     passes: &[Pass<L>],
     tickets: &mut [Ticket],
@@ -54,7 +54,7 @@ fn posts_in(minutes: &[Entry]) -> u64
 }
 
 /// Whether the posts of the passes add up to those of the minutes.
-fn adds_up<L: Ledger>(minutes: &[Entry], passes: &[Pass<L>]) -> bool
+fn adds_up<L: HistoryName>(minutes: &[Entry], passes: &[Pass<L>]) -> bool
     ensures { IsTrue result ↔ AddsUp (map entry_of minutes.now) passes.now }
 {
     let mut left = posts_in(minutes);

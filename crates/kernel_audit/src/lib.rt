@@ -2,9 +2,10 @@
 //!
 //! A frontend has a pass, which counts its posts, a ticket for each post that was taken, and what it was told of the ends of jobs. To the
 //! layer above the audit promises that it passes exactly what the minutes hold, and that what it finds missing or untrue is so. A pass
-//! holds one part of a ledger, whose book the owner of the minutes keeps, so that no pass counts a post that the book hasn't.
+//! holds one part of a ledger, whose book the owner of the minutes keeps, so that no pass counts a post that the book hasn't; and it holds what it
+//! has seen of the minutes, which are one history, so that what one sees now begins with all that it had seen.
 //!
-//! It gives the names of `kernel_ask`, and of the kernel below it, again that the hall cites.
+//! It gives the names of `kernel_ask`, of the kernel below it and of the history again that the hall cites.
 #![tactic(auto)]
 
 mod comparison;
@@ -22,3 +23,4 @@ pub use kernel_ask::{
     comm_on, is_settled, judge, shown_of_node, stands_at_end,
 };
 pub use pass::{Pass, Ticket};
+pub use shared_history::{HistoryName, Keeper, NewHistory};

@@ -1,59 +1,84 @@
 //! What a frontend holds.
-ghost use Rattle.std.specs.Prelude.{◌≡◌, ◌+◌, ◌-◌, ◌^◌, ◌<◌};
+ghost use Rattle.std.specs.Prelude.{◌≡◌, ◌+◌, ◌-◌, ◌^◌, ◌<◌, ◌≤◌, map};
+ghost use mathlib.Core.List.{IsPrefix};
+ghost use Rattle.kernel_ask.specs.Written.{entry_of};
 ghost use Rattle.kernel_audit.specs.Passes.{pass_of};
 
-use kernel_ask::Job;
+use kernel_ask::{Entry, Job};
+use shared_history::{Front, HistoryName, Keeper};
 use std::marker::Model;
-use std::sync::ledger::{Book, Ledger, Share};
+use std::sync::ledger::{Book, Share};
 
-/// A frontend's pass: its lane, and how many posts it made, which its share of the ledger counts too. The type parameter names the
-/// ledger, so that a pass fits its own hall alone.
+/// A frontend's pass: its lane, how many posts it made, which its share of the ledger counts too, and the beginning of the minutes that it has
+/// seen. The type parameter names the ledger and the history, so that a pass fits its own hall alone.
 #[derive(Drop)]
-pub struct Pass<L: Ledger> {
+pub struct Pass<L: HistoryName> {
     lane: u32,
     posts: u64,
     share: Share<L>,
+    front: Front<Entry, L>,
 }
 
-impl<L: Ledger> Model for Pass<L> {
-    ghost use Rattle.std.specs.Prelude.{◌≡◌};
+impl<L: HistoryName> Model for Pass<L> {
+    ghost use Rattle.std.specs.Prelude.{◌≡◌, map};
+    ghost use Rattle.kernel_ask.specs.Written.{entry_of};
     ghost use Rattle.kernel_audit.specs.Passes.{PassOf, pass_of};
 
     ghost Value = { PassOf };
 
-    ghost view = { λ p. pass_of p.lane p.posts };
+    ghost view = { λ p. pass_of p.lane p.posts (map entry_of p.front) };
 
     ghost invariant = { λ p. (p.share.parts ≡ 1) × (p.share.amount ≡ p.posts) };
 }
 
-impl<L: Ledger> Pass<L> {
-    /// A pass on this lane, with no posts, around one part of the ledger.
-    pub fn new(lane: u32, share: Share<L>) -> Pass<L>
+impl<L: HistoryName> Pass<L> {
+    /// A pass on this lane, with no posts, around one part of the ledger. It has seen what the front has.
+    pub fn new(lane: u32, share: Share<L>, front: Front<Entry, L>) -> Pass<L>
         requires part { share.parts ≡ 1 }
         requires empty { share.amount ≡ 0 }
-        ensures { result ≡ pass_of lane 0 }
+        ensures { result ≡ pass_of lane 0 (map entry_of front) }
     {
         Pass {
             lane,
             posts: 0,
             share,
+            front,
         }
     }
 
     /// Counts one more post, in the ledger's book too.
     pub fn count(&mut self, book: &mut Book<L>)
         requires room { book.old.total < 2 ^ 64 - 1 }
-        ensures pass { self.new ≡ pass_of self.old.lane (self.old.posts + 1) }
+        ensures pass { self.new ≡ pass_of self.old.lane (self.old.posts + 1) self.old.front }
         ensures book { book.new.total ≡ book.old.total + 1 }
     {
         let Pass {
             lane: _,
             posts,
             share,
+            front: _,
         } = self;
         book.audit(share);
         book.add(share, 1);
         *posts += 1;
+    }
+
+    /// Sees all entries of the history. Those that it had seen are a beginning of them, and the book has counted its posts.
+    pub fn see(&mut self, book: &mut Book<L>, history: &mut Keeper<Entry, L>)
+        ensures pass { self.new ≡ pass_of self.old.lane self.old.posts (map entry_of history.old) }
+        ensures onward { IsPrefix self.old.front self.new.front }
+        ensures counted { self.new.posts ≤ book.old.total }
+        ensures book { book.new.total ≡ book.old.total }
+        ensures history { history.new ≡ history.old }
+    {
+        let Pass {
+            lane: _,
+            posts: _,
+            share,
+            front,
+        } = self;
+        book.audit(share);
+        front.see(history);
     }
 
     /// The number of the frontend that posts with it.

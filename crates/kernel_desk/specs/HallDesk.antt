@@ -1,6 +1,6 @@
--- What a desk before a hall holds, and what each call leads to. What lies under the hall's lock when a call takes it can't be named, so an answer is said to be
--- that of some legal kernel.
-use Rattle.std.specs.Prelude.{◌≡◌, ℕ, ◌+◌, ◌≤◌, ◌<◌, Bool, true, List, [], ◌++◌, ◌⊎◌, Option, Some, None, Result, Ok, Err, length}
+-- What a desk before a hall holds, and what each call leads to. What lies under the hall's lock when a call takes it is named by its minutes, which the pass
+-- has seen then: they are a beginning of the one history of all desks.
+use Rattle.std.specs.Prelude.{◌≡◌, ℕ, ◌+◌, ◌≤◌, ◌<◌, Bool, true, List, [], ◌++◌, ◌⊎◌, Result, Ok, Err, length}
 use Rattle.kernel_hall.specs.Runs.{Machine, IsRefusal}
 use Rattle.kernel_hall.specs.LegalMinutes.{IsLegalMachine}
 use Rattle.kernel_hall.specs.post.PostFault.{PostFault}
@@ -11,7 +11,9 @@ use Rattle.kernel_hall.specs.answer.HallFault.{HallFault}
 use Rattle.kernel_hall.specs.answer.HallFault.TheVariants.{Memory}
 use Rattle.kernel_hall.specs.done.Done.{Done}
 use Rattle.kernel_hall.specs.Ends.{HasEnd}
-use Rattle.kernel_hall.specs.Passes.{PassOf, pass_of}
+use Rattle.kernel_hall.specs.Minutes.{posted_in}
+use Rattle.kernel_hall.specs.Request.{Request}
+use Rattle.kernel_hall.specs.Passes.{PassOf, HasSeen, HasPosted}
 use Rattle.kernel_bell.specs.Seats.{RingerOf, ringer_seat, IsNeverLater}
 use Rattle.kernel_bell.specs.Views.{after_look, after_raise}
 use Rattle.kernel_board.specs.Frames.{Frames}
@@ -28,11 +30,6 @@ pub record DeskState : Type 0 where
   pub place : ℕ
   pub was_shut : Bool
 
--- the pass that is held
-abbrev pub held : Option PassOf → PassOf
-held (Some pass) = pass
-held None = pass_of 0 0
-
 -- ---- broadcasts
 
 -- Read one after another from a place on, these stand behind one another up to another place. Where what stands at the place is no longer kept, it
@@ -46,19 +43,22 @@ pub data AreRead (from : ℕ) : List Frames → ℕ → Type 0 where
 
 -- ---- calls
 
--- A job that was posted is counted by the pass, and its end stands in the minutes of a legal kernel. A refused one changes nothing, and is refused by a legal
--- kernel.
-abbrev pub IsPosted : DeskState → Result Done PostFault → DeskState → Type 0
-IsPosted old (Ok done) new =
-    ((k : Machine) × IsLegalMachine k × HasEnd k.minutes done) × (new ≡ record old { pass = pass_of old.pass.lane (old.pass.posts + 1) })
-IsPosted old (Err fault) new = ((k : Machine) × IsLegalMachine k × IsRefusal k fault) × (new ≡ old)
+-- all but the pass is as it was
+abbrev pub OnlyPass : DeskState → DeskState → Type 0
+OnlyPass old new = new ≡ record old { pass = new.pass }
 
--- a question is answered of a legal kernel with at least as many minutes as the pass has posts; a refusal is want of memory
-abbrev pub IsAnswered : DeskState → Question → Result Answer HallFault → Type 0
-IsAnswered old q (Ok answer) =
-    (asked : Ask) × (question_of asked ≡ q) × (k : Machine) × (comms : List (List ℕ)) × IsLegalMachine k × (old.pass.posts ≤ length k.minutes)
-    × IsAnswer k comms asked answer
-IsAnswered old q (Err fault) = fault ≡ Memory
+-- The post of the job stands in the minutes that the pass has seen now, and so does the end that is told, under the number of that post. A refused one changes
+-- nothing, and is refused by the kernel whose minutes the pass has seen now.
+abbrev pub IsPosted : DeskState → Request → Result Done PostFault → DeskState → Type 0
+IsPosted old job (Ok done) new = HasPosted old.pass job done.number new.pass × HasEnd new.pass.front done
+IsPosted old job (Err fault) new = HasSeen old.pass new.pass × ((k : Machine) × IsLegalMachine k × (k.minutes ≡ new.pass.front) × IsRefusal k fault)
+
+-- a question is answered of the kernel whose minutes the pass has seen now, with all its own posts; a refusal is want of memory
+abbrev pub IsAnswered : Question → Result Answer HallFault → DeskState → Type 0
+IsAnswered q (Ok answer) new =
+    (asked : Ask) × (question_of asked ≡ q) × (k : Machine) × (comms : List (List ℕ)) × IsLegalMachine k × (k.minutes ≡ new.pass.front)
+    × (new.pass.posts ≤ posted_in k.minutes) × IsAnswer k comms asked answer
+IsAnswered q (Err fault) new = fault ≡ Memory
 
 -- a change of the comms is refused for want of memory alone
 abbrev pub IsChanged : Result Bool HallFault → Type 0
@@ -74,9 +74,9 @@ pub record IsRung (old new : RingerOf) : Type 0 where
 
 -- THE DESK BEFORE A HALL: what each call may answer, and what the desk holds after it. The date set is that of some instant, or the one before.
 abbrev pub hall_desk_leads : DeskState → Call → DeskState → Type 0
-hall_desk_leads old (Posted job wishes told) new = IsPosted old told new
-hall_desk_leads old (Asked q told) new = IsAnswered old q told × (new ≡ old)
-hall_desk_leads old (Changed change told) new = IsChanged told × (new ≡ old)
+hall_desk_leads old (Posted job wishes told) new = IsPosted old job told new × OnlyPass old new
+hall_desk_leads old (Asked q told) new = IsAnswered q told new × HasSeen old.pass new.pass × OnlyPass old new
+hall_desk_leads old (Changed change told) new = IsChanged told × HasSeen old.pass new.pass × OnlyPass old new
 hall_desk_leads old Rang new = (seat : RingerOf) × IsRung old.seat seat × (new ≡ record old { seat = seat })
 hall_desk_leads old Shut new = new ≡ record old { was_shut = true }
 hall_desk_leads old (Published b) new = new ≡ old

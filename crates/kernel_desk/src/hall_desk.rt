@@ -4,7 +4,9 @@ ghost use Rattle.kernel_desk.specs.HallDesk.{AreRead};
 
 use kernel_bell::RingerSeat;
 use kernel_board::{BROADCASTS_OF_A_READ, BoardFault, Broadcast, KEPT_BROADCASTS, Place, Read};
-use kernel_hall::{Answer, Ask, CommChange, Done, Hall, HallFault, Job, Pass, PostFault, Wish};
+use kernel_hall::{
+    Answer, Ask, CommChange, Done, Hall, HallFault, HistoryName, Job, Pass, PostFault, Wish,
+};
 use kernel_iopub::Bulletin;
 use kernel_message::Stamp;
 use kernel_session::Desk;
@@ -18,12 +20,11 @@ use std::time::Clock;
 
 /// The desk of one connection at a time before a hall, with a pass of the hall and a ringer's seat of the hall's bell. Contracts see what it holds.
 #[derive(Drop)]
-pub struct HallDesk<'a, W: Ledger, L: Ledger, R: Wait + Clock> {
+pub struct HallDesk<'a, W: Ledger, L: HistoryName, R: Wait + Clock> {
     rt: &'a R,
     hall: &'a Hall<W, L>,
     bulletin: &'a Bulletin,
-    /// The pass, except while a post has it.
-    pass: Option<Pass<L>>,
+    pass: Pass<L>,
     seat: RingerSeat,
     /// Where the next broadcast is read.
     place: Place,
@@ -32,18 +33,18 @@ pub struct HallDesk<'a, W: Ledger, L: Ledger, R: Wait + Clock> {
     trusted: &'a AtomicBool,
 }
 
-impl<'a, W: Ledger, L: Ledger, R: Wait + Clock> Model for HallDesk<'a, W, L, R> {
-    ghost use Rattle.std.specs.Prelude.{◌≡◌, true, is_some};
-    ghost use Rattle.kernel_desk.specs.HallDesk.{DeskState, held};
+impl<'a, W: Ledger, L: HistoryName, R: Wait + Clock> Model for HallDesk<'a, W, L, R> {
+    ghost use Rattle.std.specs.Prelude.{◌≡◌};
+    ghost use Rattle.kernel_desk.specs.HallDesk.{DeskState};
 
     ghost Value = { DeskState };
 
-    ghost view = { λ d. record { pass = held d.pass; seat = d.seat; place = d.place.number; was_shut = d.was_shut } };
+    ghost view = { λ d. record { pass = d.pass; seat = d.seat; place = d.place.number; was_shut = d.was_shut } };
 
-    ghost invariant = { λ d. (is_some d.pass ≡ true) × (d.seat.bell ≡ d.hall.now) };
+    ghost invariant = { λ d. d.seat.bell ≡ d.hall.now };
 }
 
-impl<'a, W: Ledger, L: Ledger, R: Wait + Clock> HallDesk<'a, W, L, R> {
+impl<'a, W: Ledger, L: HistoryName, R: Wait + Clock> HallDesk<'a, W, L, R> {
     /// The desk of a pass of the hall and a seat of its bell. It reads the broadcasts that are published from now on, and notes at `trusted` that a
     /// message with a valid signature came.
     pub fn new(
@@ -63,7 +64,7 @@ impl<'a, W: Ledger, L: Ledger, R: Wait + Clock> HallDesk<'a, W, L, R> {
             rt,
             hall,
             bulletin,
-            pass: Some(pass),
+            pass,
             seat,
             place: bulletin.join(rt),
             was_shut: false,
@@ -121,40 +122,24 @@ fn read_all<R: Wait>(
     Ok((kept, place))
 }
 
-impl<W: Ledger, L: Ledger, R: Wait + Clock> Desk for HallDesk<'_, W, L, R> {
+impl<W: Ledger, L: HistoryName, R: Wait + Clock> Desk for HallDesk<'_, W, L, R> {
     ghost use Rattle.kernel_desk.specs.HallDesk.{hall_desk_leads};
 
     ghost leads = { hall_desk_leads };
 
-    /// Where the post is refused, the desk holds the pass as before.
     fn job(&mut self, job: Job, wishes: Vec<Wish>) -> Result<Done, PostFault> {
-        let Some(pass) = self.pass.take() else {
-            unreachable!()
-        };
-        match self.hall.run(self.rt, pass, job, wishes) {
-            Ok((done, pass)) => {
-                self.pass = Some(pass);
-                Ok(done)
-            }
-            Err((fault, pass)) => {
-                self.pass = Some(pass);
-                Err(fault)
-            }
-        }
+        let HallDesk { rt, hall, pass, .. } = self;
+        hall.run(*rt, pass, job, wishes)
     }
 
     fn ask(&mut self, ask: Ask<'_>) -> Result<Answer, HallFault> {
-        let Some(pass) = &self.pass else {
-            unreachable!()
-        };
-        self.hall.ask(self.rt, pass, ask)
+        let HallDesk { rt, hall, pass, .. } = self;
+        hall.ask(*rt, pass, ask)
     }
 
     fn comm(&mut self, change: CommChange<'_>) -> Result<bool, HallFault> {
-        let Some(pass) = &self.pass else {
-            unreachable!()
-        };
-        self.hall.comm(self.rt, pass, change)
+        let HallDesk { rt, hall, pass, .. } = self;
+        hall.comm(*rt, pass, change)
     }
 
     fn ring(&mut self) {

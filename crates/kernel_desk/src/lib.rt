@@ -2,8 +2,9 @@
 //!
 //! [`HallDesk`] is the desk of one connection at a time before a hall: it holds a pass of the hall and a ringer's seat of the hall's bell. To the
 //! layer above it promises, of each call, what can be said exactly of what it holds (the pass and how many posts it made, the seat, the place on the
-//! board, whether a shutdown came), and of the kernel under the hall's lock that some legal kernel gave the answer: that the end of a job stands in
-//! its minutes, that an answer is that kernel's. [`QuietDesk`] is the desk of connections at which nothing is asked.
+//! board, whether a shutdown came), and of the kernel under the hall's lock that its minutes are those that the pass has seen then, which begin with
+//! all that it had seen: the job that was posted and its end stand there under one number, an answer is that kernel's. [`QuietDesk`] is the desk of
+//! connections at which nothing is asked.
 //!
 //! No contract says that a waiting thread wakes.
 //!
@@ -15,7 +16,8 @@ mod quiet;
 
 pub use hall_desk::HallDesk;
 pub use kernel_hall::{
-    Comms, Done, Gate, Hall, Job, Kernel, Moment, PARTS_OF_POSTS, PostFault, work,
+    Comms, Done, Entry, Gate, Hall, HistoryName, Job, Kernel, Moment, NewHistory, PARTS_OF_POSTS,
+    PostFault, work,
 };
 pub use kernel_session::{Desk, Socket, serve};
 pub use quiet::QuietDesk;

@@ -1,4 +1,5 @@
 -- The hall has no definitions of its own: those of what lies under its lock, passed on.
+pub use Rattle.hall_state.specs.HistoryNames
 pub use Rattle.hall_state.specs.Turns
 pub use Rattle.hall_state.specs.PendingResults
 pub use Rattle.hall_state.specs.declared.limit
@@ -10,6 +11,8 @@ pub use Rattle.hall_state.specs.Answer
 pub use Rattle.hall_state.specs.answer
 pub use Rattle.hall_state.specs.done
 -- Of kernel_core, given again.
+pub use Rattle.hall_state.specs.Minutes
+pub use Rattle.hall_state.specs.Request
 pub use Rattle.hall_state.specs.Runs
 pub use Rattle.hall_state.specs.LegalMinutes
 pub use Rattle.hall_state.specs.post

@@ -1,9 +1,12 @@
 //! The hall that threads share.
-ghost use Rattle.std.specs.Prelude.{◌≡◌, ℕ, ◌+◌, ◌-◌, ◌^◌, ◌≤◌, ◌↔◌, ◌⊎◌, [], List, IfOk, IfErr, length};
+ghost use Rattle.std.specs.Prelude.{◌≡◌, ℕ, ◌+◌, ◌-◌, ◌^◌, ◌≤◌, ◌↔◌, ◌⊎◌, [], List, IfOk, IfErr, OnErr, All};
+ghost use mathlib.Core.List.{IsPrefix};
 ghost use Rattle.hall_state.specs.Runs.{Machine, IsRefusal};
 ghost use Rattle.hall_state.specs.LegalMinutes.{IsLegalMachine};
 ghost use Rattle.hall_state.specs.Answer.{IsAnswer};
-ghost use Rattle.hall_state.specs.Passes.{pass_of, ticket_of};
+ghost use Rattle.hall_state.specs.Minutes.{posted_in};
+ghost use Rattle.hall_state.specs.Request.{request_of};
+ghost use Rattle.hall_state.specs.Passes.{ticket_of, AreLegal, HasSeen, HasPosted};
 ghost use Rattle.hall_state.specs.Turns.{IsTurn};
 ghost use Rattle.hall_state.specs.declared.limit.TheConstants.{PASSES, PARTS_OF_POSTS};
 ghost use Rattle.hall_state.specs.Ends.{HasEnd};
@@ -13,19 +16,19 @@ use crate::ends::Ends;
 use crate::entrance::Entrance;
 use crate::spin::{LOOKS_FOR_POST, watch};
 use hall_state::{
-    Answer, Ask, AuditFault, CommChange, Comms, Done, HallFault, Job, Kernel, Minutes, Pass,
-    PostFault, State, Ticket, Turn, Wish, judge,
+    Answer, Ask, AuditFault, CommChange, Comms, Done, Entry, HallFault, HistoryName, Job, Kernel,
+    Minutes, NewHistory, Pass, PostFault, State, Ticket, Turn, Wish, judge,
 };
 use kernel_bell::{Bell, RunnerSeat};
 use std::alloc::Global;
 use std::marker::Model;
 use std::sync::ledger::{Blank, Ledger};
-use std::sync::{Condvar, Mutex, MutexGuard, Wait};
+use std::sync::{Condvar, Mutex, Wait};
 
 /// One kernel for many threads. Each lock is held for one event of the kernel. Contracts see which bell it has. The type parameters name
-/// the ledger of the kernel's writes and that of the posts: a program picks each once.
+/// the ledger of the kernel's writes, and that of the posts with the history of the minutes: a program picks each once.
 #[derive(Drop)]
-pub struct Hall<W: Ledger, L: Ledger> {
+pub struct Hall<W: Ledger, L: HistoryName> {
     state: Mutex<State<W, L>>,
     /// Where frontends come to the lock.
     entrance: Entrance,
@@ -35,7 +38,7 @@ pub struct Hall<W: Ledger, L: Ledger> {
     bell: Bell,
 }
 
-impl<W: Ledger, L: Ledger> Model for Hall<W, L> {
+impl<W: Ledger, L: HistoryName> Model for Hall<W, L> {
     ghost use Rattle.atomic_table.specs.Seated.{TableId, table_id_coded};
 
     ghost Value = { TableId };
@@ -45,22 +48,25 @@ impl<W: Ledger, L: Ledger> Model for Hall<W, L> {
     ghost view = { λ h. h.bell };
 }
 
-impl<W: Ledger, L: Ledger> Hall<W, L> {
-    /// A hall round a kernel with no minutes. It takes no memory. The posts are counted in the ledger that is opened by this blank.
+impl<W: Ledger, L: HistoryName> Hall<W, L> {
+    /// A hall round a kernel with no minutes. It takes no memory. The posts are counted in the ledger that is opened by this blank, and its minutes
+    /// become this history.
     pub fn new(
         alloc: Global,
         blank: Blank,
+        history: NewHistory<Entry>,
         kernel: Kernel<W>,
         comms: Comms,
         bell: Bell,
     ) -> Hall<W, L>
         requires name { blank.name ≡ L.name }
         requires parts { (blank.parts ≡ PARTS_OF_POSTS) × (blank.parts ≡ L.parts) }
+        requires history { history ≡ L.history }
         requires fresh { kernel.machine.minutes ≡ [] }
         ensures { result ≡ bell }
     {
         let (book, rest) = blank.open::<L>();
-        let state = State::new(alloc, kernel, comms, book, rest);
+        let state = State::new(alloc, kernel, comms, book, rest, history);
         Hall {
             state: Mutex::new(state),
             entrance: Entrance::new(),
@@ -77,9 +83,10 @@ impl<W: Ledger, L: Ledger> Hall<W, L> {
         &self.bell
     }
 
-    /// A new pass, with no posts. It takes no memory, and is refused as `NoPass` once [`PASSES`](crate::PASSES) are given.
+    /// A new pass, with no posts, which has seen the minutes. It takes no memory, and is refused as `NoPass` once [`PASSES`](crate::PASSES) are given.
     pub fn pass<R: Wait>(&self, rt: &R) -> Result<Pass<L>, HallFault>
         ensures new { IfOk result (λ p. p.posts ≡ 0) }
+        ensures legal { IfOk result (λ p. AreLegal p.front) }
         ensures lane { IfOk result (λ p. (1 ≤ p.lane) × (p.lane ≤ PASSES)) }
         ensures refusal { IfErr result (λ f. f ≡ HallFault.NoPass) }
     {
@@ -89,8 +96,8 @@ impl<W: Ledger, L: Ledger> Hall<W, L> {
         }
     }
 
-    /// Posts a job. The pass comes back, and has counted it. A refused post leaves the pass, and drops the job and the wishes; the refusal is
-    /// that of the kernel that was met.
+    /// Posts a job. The pass comes back, and has counted it. Its post stands in the minutes that it has seen now, with the ticket's number. A refused
+    /// post drops the job and the wishes; the refusal is that of the kernel whose minutes the pass has seen now.
     pub fn post<R: Wait>(
         &self,
         rt: &R,
@@ -99,21 +106,46 @@ impl<W: Ledger, L: Ledger> Hall<W, L> {
         wishes: Vec<Wish>,
     ) -> Result<(Ticket, Pass<L>), (PostFault, Pass<L>)>
         ensures ticket { IfOk result (λ r. r.0 ≡ ticket_of pass r.0.number job) }
-        ensures counted { IfOk result (λ r. r.1 ≡ pass_of pass.lane (pass.posts + 1)) }
-        ensures refused { IfErr result (λ r. r.1 ≡ pass) }
-        ensures refusal { IfErr result (λ r. (k : Machine) × IsLegalMachine k × IsRefusal k r.0) }
+        ensures posted { IfOk result (λ r. HasPosted pass (request_of job) r.0.number r.1) }
+        ensures refused { IfErr result (λ r. HasSeen pass r.1) }
+        ensures refusal { IfErr result (λ r. (k : Machine) × IsLegalMachine k × (k.minutes ≡ r.1.front) × IsRefusal k r.0) }
     {
-        let posted = self
-            .entrance
-            .enter(rt, &self.state)
-            .post(&mut pass, job, wishes);
-        match posted {
-            Ok(ticket) => {
-                self.moved.notify_all();
-                Ok((ticket, pass))
-            }
+        let Ok(copy) = job.try_clone() else {
+            let fault = self.entrance.enter(rt, &self.state).refuse(&mut pass);
+            return Err((fault, pass));
+        };
+        match self.send(rt, &mut pass, copy, wishes) {
+            Ok(number) => Ok((
+                Ticket {
+                    lane: pass.lane(),
+                    nth: pass.posts(),
+                    number,
+                    job,
+                },
+                pass,
+            )),
             Err(fault) => Err((fault, pass)),
         }
+    }
+
+    /// Posts a job, whose number it answers, and tells the worker.
+    fn send<R: Wait>(
+        &self,
+        rt: &R,
+        pass: &mut Pass<L>,
+        job: Job,
+        wishes: Vec<Wish>,
+    ) -> Result<u64, PostFault>
+        ensures posted { IfOk result (λ n. HasPosted pass.old (request_of job) n pass.new) }
+        ensures refused { OnErr result (HasSeen pass.old pass.new) }
+        ensures refusal { IfErr result (λ f. (k : Machine) × IsLegalMachine k × (k.minutes ≡ pass.new.front) × IsRefusal k f) }
+    {
+        let number = self
+            .entrance
+            .enter(rt, &self.state)
+            .post(pass, job, wishes)?;
+        self.moved.notify_all();
+        Ok(number)
     }
 
     /// One turn of the runner: under the lock one slice of at most `m` steps, with one look at the bell, or one begin. It is `Worn`, and
@@ -138,56 +170,55 @@ impl<W: Ledger, L: Ledger> Hall<W, L> {
         turn
     }
 
-    /// Waits until the ticket's job has ended, and answers what came of it. The shown text and the values go to the first wait for it. Most jobs
-    /// end before a thread is asleep, so it watches for a while first.
-    pub fn wait<R: Wait>(&self, rt: &R, ticket: &Ticket) -> Done
+    /// Waits until the ticket's job has ended, and answers what came of it. The end stands in the minutes that the pass has seen now. The shown text
+    /// and the values go to the first wait for it. Most jobs end before a thread is asleep, so it watches for a while first.
+    pub fn wait<R: Wait>(&self, rt: &R, pass: &mut Pass<L>, ticket: &Ticket) -> Done
         ensures number { result.number ≡ ticket.now.number }
-        ensures end { (k : Machine) × IsLegalMachine k × HasEnd k.minutes result }
+        ensures end { HasEnd pass.new.front result }
+        ensures seen { HasSeen pass.old pass.new }
+        ensures legal { AreLegal pass.new.front }
     {
-        self.end_of(rt, ticket.number)
+        self.end_of(rt, pass, ticket.number)
     }
 
-    /// `post` and `wait` in one, for who keeps no ticket. What is answered is an end in the minutes, without a clause on whose it is, since no
-    /// ticket names the job. The pass comes back, and has counted it. A refused post leaves the pass, and
-    /// drops the job and the wishes; the refusal is that of the kernel that was met.
+    /// `post` and `wait` in one, for who keeps no ticket: posts a job, waits until it has ended, and answers what came of it. Post and end stand in the
+    /// minutes that the pass has seen now. A refused post drops the job and the wishes; the refusal is that of the kernel whose minutes the pass
+    /// has seen now.
     pub fn run<R: Wait>(
         &self,
         rt: &R,
-        mut pass: Pass<L>,
+        pass: &mut Pass<L>,
         job: Job,
         wishes: Vec<Wish>,
-    ) -> Result<(Done, Pass<L>), (PostFault, Pass<L>)>
-        ensures end { IfOk result (λ r. (k : Machine) × IsLegalMachine k × HasEnd k.minutes r.0) }
-        ensures counted { IfOk result (λ r. r.1 ≡ pass_of pass.lane (pass.posts + 1)) }
-        ensures refused { IfErr result (λ r. r.1 ≡ pass) }
-        ensures refusal { IfErr result (λ r. (k : Machine) × IsLegalMachine k × IsRefusal k r.0) }
+    ) -> Result<Done, PostFault>
+        ensures posted { IfOk result (λ done. HasPosted pass.old (request_of job) done.number pass.new) }
+        ensures end { IfOk result (λ done. HasEnd pass.new.front done) }
+        ensures refused { OnErr result (HasSeen pass.old pass.new) }
+        ensures refusal { IfErr result (λ f. (k : Machine) × IsLegalMachine k × (k.minutes ≡ pass.new.front) × IsRefusal k f) }
     {
-        let taken = self
-            .entrance
-            .enter(rt, &self.state)
-            .take(&mut pass, job, wishes);
-        match taken {
-            Ok(number) => {
-                self.moved.notify_all();
-                Ok((self.end_of(rt, number), pass))
-            }
-            Err(fault) => Err((fault, pass)),
-        }
+        let number = self.send(rt, pass, job, wishes)?;
+        Ok(self.end_of(rt, pass, number))
     }
 
-    /// Waits until the job of this number has ended.
-    fn end_of<R: Wait>(&self, rt: &R, number: u64) -> Done
+    /// Waits until the job of this number has ended, whose end the pass has seen then.
+    fn end_of<R: Wait>(&self, rt: &R, pass: &mut Pass<L>, number: u64) -> Done
         ensures number { result.number ≡ number }
-        ensures end { (k : Machine) × IsLegalMachine k × HasEnd k.minutes result }
+        ensures end { HasEnd pass.new.front result }
+        ensures seen { HasSeen pass.old pass.new }
+        ensures legal { AreLegal pass.new.front }
     {
         let seen = self.ended.wakings(number);
-        if let Some(done) = self.entrance.enter(rt, &self.state).done(number) {
+        let mut state = self.entrance.enter(rt, &self.state);
+        if let Some(done) = state.done(number) {
+            state.see(pass);
             return done;
         }
+        drop(state);
         self.ended.watch(number, seen);
         let mut state = self.entrance.enter(rt, &self.state);
         for _ in rt.forever() {
             if let Some(done) = state.done(number) {
+                state.see(pass);
                 return done;
             }
             state = self.ended.wait(rt, number, state);
@@ -195,14 +226,22 @@ impl<W: Ledger, L: Ledger> Hall<W, L> {
         unreachable!()
     }
 
-    /// Answers a question: `ask_on` under the lock, of a kernel with at least as many minutes as the pass has posts, which each is that
-    /// the pass's own hall has. Whether code can be executed as it stands is told with the lock free. The only refusal is `Memory`.
-    pub fn ask<R: Wait>(&self, rt: &R, pass: &Pass<L>, ask: Ask<'_>) -> Result<Answer, HallFault>
+    /// Answers a question: `ask_on` under the lock, of the kernel whose minutes the pass has seen now: what it had seen is a beginning of them, and all
+    /// its posts are among them. Whether code can be executed as it stands is told with the lock free. The only refusal is `Memory`.
+    pub fn ask<R: Wait>(
+        &self,
+        rt: &R,
+        pass: &mut Pass<L>,
+        ask: Ask<'_>,
+    ) -> Result<Answer, HallFault>
         ensures answer { IfOk result
-            (λ answer. (k : Machine) × (comms : List (List ℕ)) × IsLegalMachine k × (pass.now.posts ≤ length k.minutes) × IsAnswer k comms ask.entry answer) }
+            (λ answer. (k : Machine) × (comms : List (List ℕ)) × IsLegalMachine k × (k.minutes ≡ pass.new.front) × IsAnswer k comms ask.entry answer) }
+        ensures seen { HasSeen pass.old pass.new }
+        ensures own { pass.new.posts ≤ posted_in pass.new.front }
         ensures refusal { IfErr result (λ f. f ≡ HallFault.Memory) }
     {
-        let state = self.enter_behind(rt, pass);
+        let mut state = self.entrance.enter(rt, &self.state);
+        state.see(pass);
         match ask {
             // The text alone tells, so others have the lock meanwhile.
             Ask::IsComplete { code } => {
@@ -215,30 +254,20 @@ impl<W: Ledger, L: Ledger> Hall<W, L> {
         }
     }
 
-    /// Takes the lock, once the kernel has at least as many minutes as the pass has posts.
-    fn enter_behind<R: Wait>(&self, rt: &R, pass: &Pass<L>) -> MutexGuard<'_, State<W, L>>
-        ensures { pass.now.posts ≤ length result.value.kernel.machine.minutes }
-    {
-        let mut state = self.entrance.enter(rt, &self.state);
-        for _ in rt.forever() {
-            if state.has_seen(pass.posts()) {
-                return state;
-            }
-            state = self.moved.wait(rt, state);
-        }
-        unreachable!()
-    }
-
-    /// Opens or closes a comm, and tells whether it did: `comm_on` under the lock.
+    /// Opens or closes a comm, and tells whether it did: `comm_on` under the lock. The pass has seen the minutes beside it.
     pub fn comm<R: Wait>(
         &self,
         rt: &R,
-        _pass: &Pass<L>,
+        pass: &mut Pass<L>,
         change: CommChange<'_>,
     ) -> Result<bool, HallFault>
-        ensures { IfErr result (λ f. f ≡ HallFault.Memory) }
+        ensures seen { HasSeen pass.old pass.new }
+        ensures legal { AreLegal pass.new.front }
+        ensures refusal { IfErr result (λ f. f ≡ HallFault.Memory) }
     {
-        self.entrance.enter(rt, &self.state).comm(change)
+        let mut state = self.entrance.enter(rt, &self.state);
+        state.see(pass);
+        state.comm(change)
     }
 
     /// From now on each post is refused, and each job that is taken. It interrupts nothing, and takes no memory.
@@ -248,7 +277,7 @@ impl<W: Ledger, L: Ledger> Hall<W, L> {
     }
 
     /// Ends the hall, once its threads are joined, and compares its minutes with what the frontends came away with: `State::close` of the
-    /// kernel. All that it is handed is spent either way. It takes no memory.
+    /// kernel. All that it is handed is spent either way. What each of the passes has seen is a beginning of these minutes. It takes no memory.
     pub fn close(
         self,
         passes: Vec<Pass<L>>,
@@ -257,7 +286,9 @@ impl<W: Ledger, L: Ledger> Hall<W, L> {
     ) -> Result<Minutes<W>, AuditFault>
         ensures legal { IfOk result (λ m. IsLegalMachine m) }
         ensures audited { IfOk result (λ m. Audited m.minutes passes.items tickets.items dones.items) }
-        ensures fault { IfErr result (λ f. (k : Machine) × IsLegalMachine k × IsAuditFault k.minutes passes.items tickets.items dones.items f) }
+        ensures fronts { IfOk result (λ m. All (λ p. IsPrefix p.front m.minutes) passes.items) }
+        ensures fault { IfErr result (λ f. (k : Machine) × IsLegalMachine k × All (λ p. IsPrefix p.front k.minutes) passes.items
+            × IsAuditFault k.minutes passes.items tickets.items dones.items f) }
     {
         let Hall { state, .. } = self;
         state.into_inner().close(passes, tickets, dones)
@@ -296,6 +327,6 @@ impl<W: Ledger, L: Ledger> Hall<W, L> {
 }
 
 /// Whether nothing is to be done, and posts may still come.
-fn is_at_rest<W: Ledger, L: Ledger>(state: &State<W, L>) -> bool {
+fn is_at_rest<W: Ledger, L: HistoryName>(state: &State<W, L>) -> bool {
     state.is_idle() && !state.is_closing()
 }

@@ -2,7 +2,7 @@
 ghost use Rattle.std.specs.Prelude.{◌≡◌};
 
 use crate::hall::Hall;
-use hall_state::{Begun, STEPS_OF_A_SLICE, Sliced, Turn};
+use hall_state::{Begun, HistoryName, STEPS_OF_A_SLICE, Sliced, Turn};
 use kernel_bell::RunnerSeat;
 use std::sync::Wait;
 use std::sync::ledger::Ledger;
@@ -20,7 +20,7 @@ pub trait Gate {
 }
 
 /// Takes turns until the kernel is shut and nothing is left, or the bell's serials are used up.
-pub fn work<W: Ledger, L: Ledger, R: Wait, G: Gate>(
+pub fn work<W: Ledger, L: HistoryName, R: Wait, G: Gate>(
     hall: &Hall<W, L>,
     rt: &R,
     mut runner: RunnerSeat,

@@ -11,6 +11,7 @@ use Rattle.circular_buffer.proofs.cells.Deed.TheSendSync.{the_send as deed_send}
 use Rattle.kernel_board.specs.contracts.broadcast.Broadcast as Broadcast
 use Rattle.kernel_board.specs.contracts.log.BroadcastLog as BroadcastLog
 use Rattle.kernel_desk.proofs.HallCrosses.{Hall-sync}
+use Rattle.kernel_desk.specs.HistoryNames as HistoryName
 use Rattle.kernel_iopub.specs.contracts.bulletin.Bulletin as Bulletin
 use Rattle.kernel_sockets.specs.contracts.connections.Connections as Connections
 use Rattle.kernel_sockets.specs.contracts.listener.Listener as Listener
@@ -52,9 +53,9 @@ module _ (S : RattleType) (s : Ledger.Ghosts S.Denot) where
   Strangers-sync : IsSend S → IsSync (Strangers.the_field S s).row
   Strangers-sync u = let common = Common-send u in search (crosses, sendable) depth 60 fits 20000
 
-module _ (W L S : RattleType) (w : Ledger.Ghosts W.Denot) (l : Ledger.Ghosts L.Denot) (s : Ledger.Ghosts S.Denot) where
-  pub Service-sync : IsSend W → IsSend L → IsSend S → IsSync (Service.the_field W L S w l s).row
+module _ (W L S : RattleType) (w : Ledger.Ghosts W.Denot) (n : HistoryName.Ghosts L.Denot) (l : Ledger.Ghosts L.Denot) (s : Ledger.Ghosts S.Denot) where
+  pub Service-sync : IsSend W → IsSend L → IsSend S → IsSync (Service.the_field W L S w n l s).row
   Service-sync a b c =
-      let hall = Hall-sync W L w l a b in
+      let hall = Hall-sync W L w n l a b in
       let strangers = Strangers-sync S s c in
       search (crosses, Bulletin-sync, Connections-sync, Latch-sync, Door-sync, sendable) depth 60 fits 20000

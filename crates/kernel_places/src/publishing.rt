@@ -4,7 +4,7 @@ use crate::departures::Departures;
 use crate::places::share;
 use crate::service::Service;
 use crate::time::milliseconds;
-use kernel_desk::Socket;
+use kernel_desk::{HistoryName, Socket};
 use kernel_iopub::{HangUp, serve_subscriber};
 use kernel_sockets::{Allowance, ConnectionInput};
 use std::net::TcpStream;
@@ -20,7 +20,12 @@ impl<R: Clock> HangUp for Departures<'_, R> {
 }
 
 /// Serves a subscriber that was let in, to its end. The allowance of the place is given back.
-fn supply<W: Ledger + Sync, L: Ledger + Sync, S: Ledger + Sync, R: Threads + Wait + Clock + Sync>(
+fn supply<
+    W: Ledger + Sync,
+    L: HistoryName + Sync,
+    S: Ledger + Sync,
+    R: Threads + Wait + Clock + Sync,
+>(
     rt: &R,
     service: &Service<W, L, S>,
     index: usize,
@@ -53,7 +58,12 @@ fn supply<W: Ledger + Sync, L: Ledger + Sync, S: Ledger + Sync, R: Threads + Wai
 }
 
 /// Takes a subscriber in, serves it and sees it out. The allowance of the place is given back.
-fn receive<W: Ledger + Sync, L: Ledger + Sync, S: Ledger + Sync, R: Threads + Wait + Clock + Sync>(
+fn receive<
+    W: Ledger + Sync,
+    L: HistoryName + Sync,
+    S: Ledger + Sync,
+    R: Threads + Wait + Clock + Sync,
+>(
     rt: &R,
     service: &Service<W, L, S>,
     index: usize,
@@ -77,7 +87,7 @@ fn receive<W: Ledger + Sync, L: Ledger + Sync, S: Ledger + Sync, R: Threads + Wa
 /// A place of the iopub socket: it serves subscribers until all is to end.
 pub(crate) fn attend_subscribers<
     W: Ledger + Send + Sync,
-    L: Ledger + Send + Sync,
+    L: HistoryName + Send + Sync,
     S: Ledger + Send + Sync,
     R: Threads + Wait + Clock + Sync,
 >(rt: &R, service: &Service<W, L, S>, index: usize) {

@@ -4,7 +4,7 @@ use crate::departures::Departures;
 use crate::places::{Place, share};
 use crate::service::Service;
 use crate::time::milliseconds;
-use kernel_desk::{Desk, HallDesk, QuietDesk, Socket, serve};
+use kernel_desk::{Desk, HallDesk, HistoryName, QuietDesk, Socket, serve};
 use kernel_sockets::{Allowance, ConnectionInput};
 use std::net::TcpStream;
 use std::sync::Wait;
@@ -12,7 +12,7 @@ use std::sync::ledger::Ledger;
 use std::time::Clock;
 
 /// Serves a connection that was let in, to its end. The allowance of the place is given back.
-fn converse<W: Ledger, L: Ledger, S: Ledger, D: Desk, R: Wait + Clock>(
+fn converse<W: Ledger, L: HistoryName, S: Ledger, D: Desk, R: Wait + Clock>(
     rt: &R,
     service: &Service<W, L, S>,
     desk: &mut D,
@@ -52,7 +52,7 @@ fn converse<W: Ledger, L: Ledger, S: Ledger, D: Desk, R: Wait + Clock>(
 }
 
 /// Takes a connection in, serves it and sees it out. The allowance of the place is given back.
-fn receive<W: Ledger, L: Ledger, S: Ledger, D: Desk, R: Wait + Clock>(
+fn receive<W: Ledger, L: HistoryName, S: Ledger, D: Desk, R: Wait + Clock>(
     rt: &R,
     service: &Service<W, L, S>,
     desk: &mut D,
@@ -76,7 +76,7 @@ fn receive<W: Ledger, L: Ledger, S: Ledger, D: Desk, R: Wait + Clock>(
 }
 
 /// A place of shell or control: it serves connections until all is to end, and says so itself once a shutdown came to it.
-pub(crate) fn attend<W: Ledger, L: Ledger, S: Ledger, R: Wait + Clock>(
+pub(crate) fn attend<W: Ledger, L: HistoryName, S: Ledger, R: Wait + Clock>(
     rt: &R,
     service: &Service<W, L, S>,
     place: Place,
@@ -98,7 +98,7 @@ pub(crate) fn attend<W: Ledger, L: Ledger, S: Ledger, R: Wait + Clock>(
 }
 
 /// A place of stdin or heartbeat, on which nothing is asked of the kernel: it serves connections until all is to end.
-pub(crate) fn attend_silently<W: Ledger, L: Ledger, S: Ledger, R: Wait + Clock>(
+pub(crate) fn attend_silently<W: Ledger, L: HistoryName, S: Ledger, R: Wait + Clock>(
     rt: &R,
     service: &Service<W, L, S>,
     place: Place,

@@ -6,7 +6,7 @@ use crate::door::Doors;
 use crate::latch::Latch;
 use crate::places::{ALL_PLACES, PLACES};
 use jupyter_msg::Key;
-use kernel_desk::{Hall, Socket};
+use kernel_desk::{Hall, HistoryName, Socket};
 use kernel_iopub::Bulletin;
 use kernel_message::Stamp;
 use kernel_sockets::{Connections, Strangers};
@@ -22,7 +22,7 @@ const NO_DATE: [u8; 20] = *b"1970-01-01T00:00:00Z";
 
 /// What all places share.
 #[derive(Drop)]
-pub struct Service<W: Ledger, L: Ledger, S: Ledger> {
+pub struct Service<W: Ledger, L: HistoryName, S: Ledger> {
     pub(crate) alloc: Global,
     pub(crate) session: String,
     pub(crate) key: Key,
@@ -54,7 +54,7 @@ fn shared(alloc: Global) -> Result<(Bulletin, Connections, Connections), AllocEr
     Ok((bulletin, callers, subscribers))
 }
 
-impl<W: Ledger, L: Ledger, S: Ledger> Service<W, L, S> {
+impl<W: Ledger, L: HistoryName, S: Ledger> Service<W, L, S> {
     /// What the places of a kernel share, before any of them is started: its session's name, the key under which messages are signed, and
     /// its hall; with the ledger of what strangers hold.
     ///

@@ -6,7 +6,7 @@ use crate::service::Service;
 use crate::task::Task;
 use crate::worker::Worker;
 use kernel_bell::{RingerSeat, RunnerSeat};
-use kernel_desk::{HallDesk, Socket};
+use kernel_desk::{HallDesk, HistoryName, Socket};
 use kernel_sockets::Connections;
 use std::alloc::AllocError;
 use std::io::Write;
@@ -30,7 +30,7 @@ pub struct Seats {
 
 /// The desks of the places of shell and control, as many as there are seats, that of the last place first. Each notes at its place that a
 /// message with a valid signature came.
-fn desks_of<'a, W: Ledger, L: Ledger, S: Ledger, R: Wait + Clock>(
+fn desks_of<'a, W: Ledger, L: HistoryName, S: Ledger, R: Wait + Clock>(
     rt: &'a R,
     service: &'a Service<W, L, S>,
     seats: Vec<RingerSeat>,
@@ -64,7 +64,7 @@ fn start<
     's,
     E,
     W: Ledger + Send + Sync,
-    L: Ledger + Send + Sync,
+    L: HistoryName + Send + Sync,
     S: Ledger + Send + Sync,
     R: Threads + Wait + Clock + Sync,
 >(
@@ -84,7 +84,7 @@ fn start_attending<
     's,
     E,
     W: Ledger + Send + Sync,
-    L: Ledger + Send + Sync,
+    L: HistoryName + Send + Sync,
     S: Ledger + Send + Sync,
     R: Threads + Wait + Clock + Sync,
 >(
@@ -112,7 +112,7 @@ fn start_without_desks<
     's,
     E,
     W: Ledger + Send + Sync,
-    L: Ledger + Send + Sync,
+    L: HistoryName + Send + Sync,
     S: Ledger + Send + Sync,
     R: Threads + Wait + Clock + Sync,
 >(
@@ -140,7 +140,7 @@ fn start_worker<
     's,
     E,
     W: Ledger + Send + Sync,
-    L: Ledger + Send + Sync,
+    L: HistoryName + Send + Sync,
     S: Ledger + Send + Sync,
     R: Threads + Wait + Sync,
 >(
@@ -164,7 +164,7 @@ fn start_ushers<
     's,
     E,
     W: Ledger + Send + Sync,
-    L: Ledger + Send + Sync,
+    L: HistoryName + Send + Sync,
     S: Ledger + Send + Sync,
     R: Threads + Wait + Clock + Sync,
 >(
@@ -193,7 +193,7 @@ fn start_all<
     's,
     E,
     W: Ledger + Send + Sync,
-    L: Ledger + Send + Sync,
+    L: HistoryName + Send + Sync,
     S: Ledger + Send + Sync,
     R: Threads + Wait + Clock + Sync,
 >(
@@ -220,7 +220,7 @@ fn tell_ready<O: Write>(out: &mut O) {
 }
 
 /// Tells all places and the worker that all is to come to an end, and lets no more connections in. What comes on those that are served comes to its end.
-fn end_all<W: Ledger, L: Ledger, S: Ledger, R: Wait>(
+fn end_all<W: Ledger, L: HistoryName, S: Ledger, R: Wait>(
     rt: &R,
     service: &Service<W, L, S>,
     listeners: &Listeners,
@@ -240,7 +240,7 @@ fn see_out<R: Wait + Clock>(rt: &R, connections: &Connections) {
 }
 
 /// Brings the subscribers to an end, behind what was published last.
-fn end_subscribers<W: Ledger, L: Ledger, S: Ledger, R: Wait + Clock>(
+fn end_subscribers<W: Ledger, L: HistoryName, S: Ledger, R: Wait + Clock>(
     rt: &R,
     service: &Service<W, L, S>,
 ) {
@@ -252,7 +252,7 @@ fn end_subscribers<W: Ledger, L: Ledger, S: Ledger, R: Wait + Clock>(
 /// Serves requests until a shutdown was answered, and brings all that serve them to an end. False where a thread could not be made.
 fn serve_callers<
     W: Ledger + Send + Sync,
-    L: Ledger + Send + Sync,
+    L: HistoryName + Send + Sync,
     S: Ledger + Send + Sync,
     R: Threads + Wait + Clock + Sync,
     O: Write,
@@ -286,7 +286,7 @@ fn serve_callers<
 /// `AllocError` where there is no memory before the first thread, or where the hall has no passes left for its places.
 pub fn serve_all<
     W: Ledger + Send + Sync,
-    L: Ledger + Send + Sync,
+    L: HistoryName + Send + Sync,
     S: Ledger + Send + Sync,
     R: Threads + Wait + Clock + Sync,
     O: Write,

@@ -4,7 +4,7 @@ use crate::publishing::attend_subscribers;
 use crate::requests::{attend, attend_silently};
 use crate::service::Service;
 use crate::usher::usher;
-use kernel_desk::{HallDesk, Socket};
+use kernel_desk::{HallDesk, HistoryName, Socket};
 use std::sync::Wait;
 use std::sync::ledger::Ledger;
 use std::thread::Threads;
@@ -12,7 +12,7 @@ use std::time::Clock;
 
 /// What a thread does until all is to end.
 #[derive(Drop)]
-pub(crate) enum Task<'a, W: Ledger, L: Ledger, R: Wait + Clock> {
+pub(crate) enum Task<'a, W: Ledger, L: HistoryName, R: Wait + Clock> {
     /// Serves the connections of a place of shell or control.
     Attend(Place, HallDesk<'a, W, L, R>),
     /// Serves those of a place of stdin or heartbeat.
@@ -23,7 +23,7 @@ pub(crate) enum Task<'a, W: Ledger, L: Ledger, R: Wait + Clock> {
     LetIn(Socket),
 }
 
-impl<W: Ledger + Send + Sync, L: Ledger + Send + Sync, R: Threads + Wait + Clock + Sync> Task<
+impl<W: Ledger + Send + Sync, L: HistoryName + Send + Sync, R: Threads + Wait + Clock + Sync> Task<
     '_,
     W,
     L,

@@ -4,7 +4,7 @@ use crate::places::{Listeners, PLACES, Place};
 use crate::service::Service;
 use crate::sockets::silence;
 use crate::time::milliseconds;
-use kernel_desk::Socket;
+use kernel_desk::{HistoryName, Socket};
 use kernel_sockets::{Connections, Listener};
 use std::net::TcpStream;
 use std::sync::Wait;
@@ -20,7 +20,7 @@ const WAIT_MILLISECONDS: u64 = 10;
 
 /// The next connection of a socket, with its number. `None` where none could be accepted, after a rest: no descriptor may be free for
 /// a while, and the usher is not to spin.
-fn accept<W: Ledger, L: Ledger, S: Ledger, R: Wait + Clock>(
+fn accept<W: Ledger, L: HistoryName, S: Ledger, R: Wait + Clock>(
     rt: &R,
     service: &Service<W, L, S>,
     listener: &Listener,
@@ -48,7 +48,7 @@ fn see_in<R: Wait + Clock>(rt: &R, connections: &Connections, door: &Door, socke
 }
 
 /// Accepts the connections of a socket until all is to end, and then closes its door. No connection is accepted before all threads stand.
-pub(crate) fn usher<W: Ledger, L: Ledger, S: Ledger, R: Wait + Clock>(
+pub(crate) fn usher<W: Ledger, L: HistoryName, S: Ledger, R: Wait + Clock>(
     rt: &R,
     service: &Service<W, L, S>,
     listeners: &Listeners,

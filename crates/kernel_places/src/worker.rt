@@ -3,7 +3,7 @@ ghost use Rattle.std.specs.Prelude.{◌≡◌};
 
 use crate::latch::Latch;
 use kernel_bell::RunnerSeat;
-use kernel_desk::{Gate, Hall, Moment, work};
+use kernel_desk::{Gate, Hall, HistoryName, Moment, work};
 use std::sync::Wait;
 use std::sync::ledger::Ledger;
 
@@ -17,13 +17,13 @@ impl Gate for OpenGate {
 
 /// The worker before it begins. Its type keeps that the seat is that of the hall's bell.
 #[derive(Drop)]
-pub(crate) struct Worker<'a, W: Ledger, L: Ledger> {
+pub(crate) struct Worker<'a, W: Ledger, L: HistoryName> {
     hall: &'a Hall<W, L>,
     seat: RunnerSeat,
     ghost own: { seat.bell ≡ hall.now },
 }
 
-impl<'a, W: Ledger, L: Ledger> Worker<'a, W, L> {
+impl<'a, W: Ledger, L: HistoryName> Worker<'a, W, L> {
     /// The worker of a hall.
     pub fn new(hall: &'a Hall<W, L>, seat: RunnerSeat) -> Worker<'a, W, L>
         requires { seat.bell ≡ hall.now }

@@ -12,7 +12,8 @@ use clap::error::ErrorKind as ClapErrorKind;
 use jupyter_msg::Key;
 use kernel_bell::{Bell, RINGERS};
 use kernel_places::{
-    ALL_PLACES, Comms, Hall, Kernel, Listeners, PARTS_OF_POSTS, PLACES, Seats, Service, serve_all,
+    ALL_PLACES, Comms, Entry, Hall, HistoryName, Kernel, Listeners, NewHistory, PARTS_OF_POSTS,
+    PLACES, Seats, Service, serve_all,
 };
 use program_words::{send_unread_words, unread_words_status, words_status};
 use rand::make_rng;
@@ -46,39 +47,43 @@ fn new_session<R: RandomSource>(rt: &R, alloc: Global) -> Result<String, Program
 }
 
 /// A hall round a new kernel, with the seats of its bell.
-fn new_hall<W: Ledger, L: Ledger>(
+fn new_hall<W: Ledger, L: HistoryName>(
     alloc: Global,
     writes: Blank,
     posts: Blank,
+    history: NewHistory<Entry>,
 ) -> Result<(Hall<W, L>, Seats), AllocError>
     requires writes { (writes.name ≡ W.name) × (writes.parts ≡ W.parts) × (0 < W.parts) }
     requires posts { (posts.name ≡ L.name) × (posts.parts ≡ PARTS_OF_POSTS) × (posts.parts ≡ L.parts) }
+    requires history { history ≡ L.history }
     ensures runner { IfOk result (λ made. made.1.runner.bell ≡ made.0) }
     ensures ringers { IfOk result (λ made. All (λ seat. seat.bell ≡ made.0) made.1.ringers.items) }
 {
     let (bell, runner, ringers) = Bell::new(alloc, RINGERS)?;
     let kernel = Kernel::<W>::new(alloc, writes)?;
-    let hall = Hall::<W, L>::new(alloc, posts, kernel, Comms::new(alloc), bell);
+    let hall = Hall::<W, L>::new(alloc, posts, history, kernel, Comms::new(alloc), bell);
     Ok((hall, Seats { runner, ringers }))
 }
 
 /// Builds a new kernel and all that its places share.
-fn new_service<W: Ledger, L: Ledger, S: Ledger, R: RandomSource>(
+fn new_service<W: Ledger, L: HistoryName, S: Ledger, R: RandomSource>(
     rt: &R,
     alloc: Global,
     writes: Blank,
     posts: Blank,
+    history: NewHistory<Entry>,
     strangers: Blank,
     key: Key,
 ) -> Result<(Service<W, L, S>, Seats), ProgramFault>
     requires writes { (writes.name ≡ W.name) × (writes.parts ≡ W.parts) × (0 < W.parts) }
     requires posts { (posts.name ≡ L.name) × (posts.parts ≡ PARTS_OF_POSTS) × (posts.parts ≡ L.parts) }
+    requires history { history ≡ L.history }
     requires strangers { (strangers.name ≡ S.name) × (strangers.parts ≡ S.parts) × (strangers.parts ≡ 160) }
     ensures runner { IfOk result (λ made. made.1.runner.bell ≡ made.0.hall) }
     ensures ringers { IfOk result (λ made. All (λ seat. seat.bell ≡ made.0.hall) made.1.ringers.items) }
 {
     let session = new_session(rt, alloc)?;
-    let (hall, seats) = new_hall::<W, L>(alloc, writes, posts)?;
+    let (hall, seats) = new_hall::<W, L>(alloc, writes, posts, history)?;
     let service = Service::new(alloc, session, key, hall, strangers)?;
     Ok((service, seats))
 }
@@ -86,7 +91,7 @@ fn new_service<W: Ledger, L: Ledger, S: Ledger, R: RandomSource>(
 /// Builds a new kernel and all that its places share, and serves these sockets until a shutdown.
 fn serve_new_kernel<
     W: Ledger + Send + Sync,
-    L: Ledger + Send + Sync,
+    L: HistoryName + Send + Sync,
     S: Ledger + Send + Sync,
     R,
     O: Write,
@@ -95,6 +100,7 @@ fn serve_new_kernel<
     alloc: Global,
     writes: Blank,
     posts: Blank,
+    history: NewHistory<Entry>,
     strangers: Blank,
     listeners: &Listeners,
     key: Key,
@@ -104,9 +110,12 @@ where
     R: RandomSource + Threads + Wait + Clock + Sync,
     requires writes { (writes.name ≡ W.name) × (writes.parts ≡ W.parts) × (0 < W.parts) }
     requires posts { (posts.name ≡ L.name) × (posts.parts ≡ PARTS_OF_POSTS) × (posts.parts ≡ L.parts) }
+    requires history { history ≡ L.history }
     requires strangers { (strangers.name ≡ S.name) × (strangers.parts ≡ S.parts) × (strangers.parts ≡ 160) }
 {
-    let (service, seats) = new_service::<W, L, S, R>(rt, alloc, writes, posts, strangers, key)?;
+    let (service, seats) = new_service::<W, L, S, R>(
+        rt, alloc, writes, posts, history, strangers, key,
+    )?;
     let served = serve_all(rt, &service, listeners, seats, out);
     service.discard();
     match served {
@@ -153,6 +162,7 @@ where
         alloc,
         Blank::new(1),
         Blank::new(PARTS_OF_POSTS),
+        NewHistory::new(alloc)?,
         Blank::new(ALL_PLACES),
         &listeners,
         key,

@@ -5,7 +5,9 @@ ghost use Rattle.std.specs.Prelude.{◌≡◌, ◌<◌, IfOk};
 
 use kernel_bell::{Bell, RingerSeat};
 use kernel_board::Broadcast;
-use kernel_desk::{Comms, Desk, Done, Hall, HallDesk, Job, Kernel, PostFault};
+use kernel_desk::{
+    Comms, Desk, Done, Entry, Hall, HallDesk, HistoryName, Job, Kernel, NewHistory, PostFault,
+};
 use kernel_iopub::Bulletin;
 use std::alloc::{AllocError, Global};
 use std::marker::Brand;
@@ -26,17 +28,31 @@ pub(crate) fn tell<R: Wait + Clock>(rt: &R, calls: &str, sheet: &mut Sheet) {
 
 /// Writes the calls at a desk before a hall of its own with their answers.
 fn tell_owned<R: Wait + Clock>(rt: &R, calls: String, sheet: &mut Sheet) {
-    tell_in::<Brand, Brand, R>(rt, Blank::new(1), Blank::new(65_537), calls, sheet);
+    match NewHistory::new(sheet.alloc()) {
+        Ok(history) => {
+            tell_in::<Brand, Brand, R>(
+                rt,
+                Blank::new(1),
+                Blank::new(65_537),
+                history,
+                calls,
+                sheet,
+            );
+        }
+        Err(_) => sheet.refuse(),
+    }
 }
 
 /// A hall round a new kernel, and a seat of its bell.
-fn new_hall<W: Ledger, L: Ledger>(
+fn new_hall<W: Ledger, L: HistoryName>(
     alloc: Global,
     writes: Blank,
     posts: Blank,
+    history: NewHistory<Entry>,
 ) -> Result<(Hall<W, L>, RingerSeat), AllocError>
     requires writes { (writes.name ≡ W.name) × (writes.parts ≡ W.parts) × (0 < W.parts) }
     requires posts { (posts.name ≡ L.name) × (posts.parts ≡ 65537) × (posts.parts ≡ L.parts) }
+    requires history { history ≡ L.history }
     ensures { IfOk result (λ made. made.1.bell ≡ made.0) }
 {
     let (bell, _runner, mut ringers) = Bell::new(alloc, 1)?;
@@ -44,22 +60,24 @@ fn new_hall<W: Ledger, L: Ledger>(
         unreachable!()
     };
     let kernel = Kernel::<W>::new(alloc, writes)?;
-    let hall = Hall::<W, L>::new(alloc, posts, kernel, Comms::new(alloc), bell);
+    let hall = Hall::<W, L>::new(alloc, posts, history, kernel, Comms::new(alloc), bell);
     Ok((hall, seat))
 }
 
 /// Writes the calls at a desk with their answers, before a hall over these ledgers.
-fn tell_in<W: Ledger, L: Ledger, R: Wait + Clock>(
+fn tell_in<W: Ledger, L: HistoryName, R: Wait + Clock>(
     rt: &R,
     writes: Blank,
     posts: Blank,
+    history: NewHistory<Entry>,
     calls: String,
     sheet: &mut Sheet,
 )
     requires writes { (writes.name ≡ W.name) × (writes.parts ≡ W.parts) × (0 < W.parts) }
     requires posts { (posts.name ≡ L.name) × (posts.parts ≡ 65537) × (posts.parts ≡ L.parts) }
+    requires history { history ≡ L.history }
 {
-    match new_hall::<W, L>(sheet.alloc(), writes, posts) {
+    match new_hall::<W, L>(sheet.alloc(), writes, posts, history) {
         Ok((hall, seat)) => {
             sit_down(rt, &hall, seat, &calls, sheet);
             hall.discard();
@@ -69,7 +87,7 @@ fn tell_in<W: Ledger, L: Ledger, R: Wait + Clock>(
 }
 
 /// Sits down at a desk before a hall, with a seat of its bell.
-fn sit_down<W: Ledger, L: Ledger, R: Wait + Clock>(
+fn sit_down<W: Ledger, L: HistoryName, R: Wait + Clock>(
     rt: &R,
     hall: &Hall<W, L>,
     seat: RingerSeat,
@@ -85,7 +103,7 @@ fn sit_down<W: Ledger, L: Ledger, R: Wait + Clock>(
 }
 
 /// Sits down at a desk before a hall and a bulletin.
-fn sit_at<W: Ledger, L: Ledger, R: Wait + Clock>(
+fn sit_at<W: Ledger, L: HistoryName, R: Wait + Clock>(
     rt: &R,
     hall: &Hall<W, L>,
     bulletin: &Bulletin,
@@ -106,7 +124,7 @@ fn sit_at<W: Ledger, L: Ledger, R: Wait + Clock>(
 }
 
 /// Writes the calls with their answers.
-fn tell_calls<W: Ledger, L: Ledger, R: Wait + Clock>(
+fn tell_calls<W: Ledger, L: HistoryName, R: Wait + Clock>(
     desk: &mut HallDesk<'_, W, L, R>,
     calls: &str,
     sheet: &mut Sheet,
@@ -120,7 +138,7 @@ fn tell_calls<W: Ledger, L: Ledger, R: Wait + Clock>(
 }
 
 /// Writes the answer to a call.
-fn answer<W: Ledger, L: Ledger, R: Wait + Clock>(
+fn answer<W: Ledger, L: HistoryName, R: Wait + Clock>(
     desk: &mut HallDesk<'_, W, L, R>,
     call: &str,
     sheet: &mut Sheet,
@@ -136,7 +154,7 @@ fn answer<W: Ledger, L: Ledger, R: Wait + Clock>(
 }
 
 /// Publishes a broadcast of this topic.
-fn publish<W: Ledger, L: Ledger, R: Wait + Clock>(
+fn publish<W: Ledger, L: HistoryName, R: Wait + Clock>(
     desk: &mut HallDesk<'_, W, L, R>,
     topic: &str,
     sheet: &mut Sheet,
@@ -149,7 +167,7 @@ fn publish<W: Ledger, L: Ledger, R: Wait + Clock>(
 }
 
 /// Reads broadcasts, and writes their topics.
-fn broadcasts<W: Ledger, L: Ledger, R: Wait + Clock>(
+fn broadcasts<W: Ledger, L: HistoryName, R: Wait + Clock>(
     desk: &mut HallDesk<'_, W, L, R>,
     sheet: &mut Sheet,
 ) {
@@ -160,7 +178,7 @@ fn broadcasts<W: Ledger, L: Ledger, R: Wait + Clock>(
 }
 
 /// Shuts the kernel.
-fn shut<W: Ledger, L: Ledger, R: Wait + Clock>(
+fn shut<W: Ledger, L: HistoryName, R: Wait + Clock>(
     desk: &mut HallDesk<'_, W, L, R>,
     sheet: &mut Sheet,
 ) {
@@ -169,7 +187,7 @@ fn shut<W: Ledger, L: Ledger, R: Wait + Clock>(
 }
 
 /// Has cells undone.
-fn undo<W: Ledger, L: Ledger, R: Wait + Clock>(
+fn undo<W: Ledger, L: HistoryName, R: Wait + Clock>(
     desk: &mut HallDesk<'_, W, L, R>,
     count: &str,
     sheet: &mut Sheet,

@@ -5,7 +5,8 @@ ghost use Rattle.std.specs.Prelude.{◌≡◌, ◌<◌};
 use crate::lines::note;
 use kernel_bell::{Bell, RingerSeat, RunnerSeat};
 use kernel_hall::{
-    Begun, Comms, Gate, Hall, Kernel, Outcome, STEPS_OF_A_SLICE, Sliced, Turn, work,
+    Begun, Comms, Entry, Gate, Hall, HistoryName, Kernel, NewHistory, Outcome, STEPS_OF_A_SLICE,
+    Sliced, Turn, work,
 };
 use std::alloc::{AllocError, Global};
 use std::sync::Wait;
@@ -17,7 +18,7 @@ const TURNS: u32 = 10;
 
 /// A hall, with its runner's seat and a ringer's.
 #[derive(Drop)]
-pub(crate) struct Desk<W: Ledger, L: Ledger> {
+pub(crate) struct Desk<W: Ledger, L: HistoryName> {
     pub hall: Hall<W, L>,
     pub seat: RunnerSeat,
     ringer: RingerSeat,
@@ -25,18 +26,24 @@ pub(crate) struct Desk<W: Ledger, L: Ledger> {
     ghost hears: { ringer.bell ≡ hall },
 }
 
-impl<W: Ledger, L: Ledger> Desk<W, L> {
+impl<W: Ledger, L: HistoryName> Desk<W, L> {
     /// A hall round a new kernel.
-    pub fn new(alloc: Global, writes: Blank, posts: Blank) -> Result<Desk<W, L>, AllocError>
+    pub fn new(
+        alloc: Global,
+        writes: Blank,
+        posts: Blank,
+        history: NewHistory<Entry>,
+    ) -> Result<Desk<W, L>, AllocError>
         requires writes { (writes.name ≡ W.name) × (writes.parts ≡ W.parts) × (0 < W.parts) }
         requires posts { (posts.name ≡ L.name) × (posts.parts ≡ 65537) × (posts.parts ≡ L.parts) }
+        requires history { history ≡ L.history }
     {
         let (bell, seat, mut ringers) = Bell::new(alloc, 1)?;
         let Some(ringer) = ringers.pop() else {
             unreachable!()
         };
         let kernel = Kernel::new(alloc, writes)?;
-        let hall = Hall::new(alloc, posts, kernel, Comms::new(alloc), bell);
+        let hall = Hall::new(alloc, posts, history, kernel, Comms::new(alloc), bell);
         Ok(Desk { hall, seat, ringer })
     }
 
@@ -86,13 +93,13 @@ fn tell_turn(turn: Turn, sheet: &mut Sheet) {
 
 /// The worker's side of a hall.
 #[derive(Drop)]
-pub(crate) struct Worker<'a, W: Ledger, L: Ledger> {
+pub(crate) struct Worker<'a, W: Ledger, L: HistoryName> {
     pub hall: &'a Hall<W, L>,
     pub seat: RunnerSeat,
     ghost own: { seat.bell ≡ hall.now },
 }
 
-impl<W: Ledger, L: Ledger> Worker<'_, W, L> {
+impl<W: Ledger, L: HistoryName> Worker<'_, W, L> {
     /// Takes turns until the hall is shut, and passes this gate.
     pub fn serve<R: Wait, G: Gate + Drop>(self, rt: &R, mut gate: G) {
         let Worker { hall, seat } = self;

@@ -5,14 +5,14 @@
 //! and why there is no further one. `post` (a pass, and a job) gives the lane of the ticket, which of the posts of the pass it is, and its number; or
 //! why the post is refused, with the lane and the posts of the pass. A job is `undo` with a number, or a `cell` with its code. `wish` (a name and an
 //! expression, and behind a `|` what stands behind `post`) posts with a user expression. `wait` (a ticket) gives the number, the outcome, the
-//! counter, the node, the shown text and the values of its job. `state` (a pass) gives how many minutes the hall has seen and the shown world,
-//! `comms` (a pass) the same with the open comms; `open` and `close` (a pass, and an id) whether a comm was opened or closed. `shut` shuts the hall.
-//! `lose` loses the last pass, which it gives. `first` (a ticket) puts a ticket to the front of the others. `claim` (three numbers, and a code)
-//! claims a ticket of a cell. `alter` gives the outcome of the last end, and puts another one in its place.
+//! counter, the node, the shown text and the values of its job; the pass of its lane waits. `state` (a pass) gives how many minutes the hall has
+//! seen and the shown world, `comms` (a pass) the same with the open comms; `open` and `close` (a pass, and an id) whether a comm was opened or
+//! closed. `shut` shuts the hall. `lose` loses the last pass, which it gives. `first` (a ticket) puts a ticket to the front of the others. `claim`
+//! (three numbers, and a code) claims a ticket of a cell. `alter` gives the outcome of the last end, and puts another one in its place.
 use crate::lines::note;
 use kernel_hall::{
-    Answer, Ask, CellText, CommChange, Content, Done, Hall, HallFault, Job, Outcome, Pass,
-    PostFault, Ticket, Wish,
+    Answer, Ask, CellText, CommChange, Content, Done, Hall, HallFault, HistoryName, Job, Outcome,
+    Pass, PostFault, Ticket, Wish,
 };
 use std::alloc::{AllocError, Global};
 use std::sync::Wait;
@@ -21,7 +21,7 @@ use tests_rows::{Sheet, cut, cut_cell, number};
 
 /// What frontends came away with.
 #[derive(Drop)]
-pub(crate) struct Away<L: Ledger> {
+pub(crate) struct Away<L: HistoryName> {
     pub passes: Vec<Pass<L>>,
     pub tickets: Vec<Ticket>,
     pub dones: Vec<Done>,
@@ -31,7 +31,7 @@ pub(crate) struct Away<L: Ledger> {
     pub is_refused: bool,
 }
 
-impl<L: Ledger> Away<L> {
+impl<L: HistoryName> Away<L> {
     pub fn new(alloc: Global) -> Away<L> {
         Away {
             passes: Vec::new(alloc),
@@ -44,7 +44,7 @@ impl<L: Ledger> Away<L> {
 }
 
 /// Writes the answer to a call.
-pub(crate) fn answer<W: Ledger, L: Ledger, R: Wait>(
+pub(crate) fn answer<W: Ledger, L: HistoryName, R: Wait>(
     rt: &R,
     hall: &Hall<W, L>,
     away: &mut Away<L>,
@@ -65,16 +65,16 @@ pub(crate) fn answer<W: Ledger, L: Ledger, R: Wait>(
 }
 
 /// Writes the answer to a call for which a pass is shown.
-fn answer_with<W: Ledger, L: Ledger, R: Wait>(
+fn answer_with<W: Ledger, L: HistoryName, R: Wait>(
     rt: &R,
     hall: &Hall<W, L>,
-    away: &Away<L>,
+    away: &mut Away<L>,
     word: &str,
     rest: &str,
     sheet: &mut Sheet,
 ) {
     let (at, id) = cut(rest);
-    let Some(pass) = away.passes.get(place(at)) else {
+    let Some(pass) = away.passes.get_mut(place(at)) else {
         return;
     };
     match word {
@@ -89,7 +89,7 @@ fn answer_with<W: Ledger, L: Ledger, R: Wait>(
 }
 
 /// Writes the answer to a call by which what the frontends came away with is counted or changed.
-fn change<L: Ledger>(away: &mut Away<L>, word: &str, rest: &str, sheet: &mut Sheet) {
+fn change<L: HistoryName>(away: &mut Away<L>, word: &str, rest: &str, sheet: &mut Sheet) {
     match word {
         "lose" => lose(&mut away.passes, sheet),
         "first" => first(&mut away.tickets, rest, sheet),
@@ -111,13 +111,13 @@ fn keep<T: Drop>(list: &mut Vec<T>, value: T, sheet: &mut Sheet) {
 }
 
 /// Writes the lane of a pass and how many posts it made.
-fn tell_pass<L: Ledger>(pass: &Pass<L>, sheet: &mut Sheet) {
+fn tell_pass<L: HistoryName>(pass: &Pass<L>, sheet: &mut Sheet) {
     note("lane ", &pass.lane(), sheet);
     note(", posts ", &pass.posts(), sheet);
 }
 
 /// Takes a new pass.
-fn pass<W: Ledger, L: Ledger, R: Wait>(
+fn pass<W: Ledger, L: HistoryName, R: Wait>(
     rt: &R,
     hall: &Hall<W, L>,
     away: &mut Away<L>,
@@ -133,7 +133,7 @@ fn pass<W: Ledger, L: Ledger, R: Wait>(
 }
 
 /// Takes passes on the next lanes, until there is none or one that is on another lane or has posts: how many, and why there is no further one.
-fn taken_passes<W: Ledger, L: Ledger, R: Wait>(
+fn taken_passes<W: Ledger, L: HistoryName, R: Wait>(
     rt: &R,
     hall: &Hall<W, L>,
 ) -> (u32, Option<HallFault>) {
@@ -151,7 +151,7 @@ fn taken_passes<W: Ledger, L: Ledger, R: Wait>(
 }
 
 /// Takes all passes of a new hall.
-fn passes<W: Ledger, L: Ledger, R: Wait>(rt: &R, hall: &Hall<W, L>, sheet: &mut Sheet) {
+fn passes<W: Ledger, L: HistoryName, R: Wait>(rt: &R, hall: &Hall<W, L>, sheet: &mut Sheet) {
     let (given, fault) = taken_passes(rt, hall);
     note("", &given, sheet);
     note(" ", &fault, sheet);
@@ -172,7 +172,7 @@ pub(crate) fn job_of(alloc: Global, row: &str) -> Result<Job, AllocError> {
 }
 
 /// Posts the job of a row with these wishes.
-fn post<W: Ledger, L: Ledger, R: Wait>(
+fn post<W: Ledger, L: HistoryName, R: Wait>(
     rt: &R,
     hall: &Hall<W, L>,
     away: &mut Away<L>,
@@ -194,7 +194,7 @@ fn post<W: Ledger, L: Ledger, R: Wait>(
 }
 
 /// Writes what came of a post, and keeps the ticket, and the pass where it was.
-fn tell_post<L: Ledger>(
+fn tell_post<L: HistoryName>(
     posted: Result<(Ticket, Pass<L>), (PostFault, Pass<L>)>,
     at: usize,
     away: &mut Away<L>,
@@ -247,7 +247,7 @@ fn wishes_of(alloc: Global, row: &str) -> Result<Vec<Wish>, AllocError> {
 }
 
 /// Posts a job with a user expression.
-fn wish<W: Ledger, L: Ledger, R: Wait>(
+fn wish<W: Ledger, L: HistoryName, R: Wait>(
     rt: &R,
     hall: &Hall<W, L>,
     away: &mut Away<L>,
@@ -262,17 +262,26 @@ fn wish<W: Ledger, L: Ledger, R: Wait>(
 }
 
 /// Waits for the job of a ticket, and keeps what came of it.
-fn wait<W: Ledger, L: Ledger, R: Wait>(
+fn wait<W: Ledger, L: HistoryName, R: Wait>(
     rt: &R,
     hall: &Hall<W, L>,
     away: &mut Away<L>,
     row: &str,
     sheet: &mut Sheet,
 ) {
-    if let Some(ticket) = away.tickets.get(place(row)) {
-        let done = hall.wait(rt, ticket);
+    let Away {
+        passes,
+        tickets,
+        dones,
+        ..
+    } = away;
+    let Some(ticket) = tickets.get(place(row)) else {
+        return;
+    };
+    if let Some(pass) = passes.iter_mut().find(|pass| pass.lane() == ticket.lane) {
+        let done = hall.wait(rt, pass, ticket);
         tell_done(&done, sheet);
-        keep(&mut away.dones, done, sheet);
+        keep(dones, done, sheet);
     }
 }
 
@@ -315,13 +324,13 @@ fn tell_change(change: Result<bool, HallFault>, sheet: &mut Sheet) {
 }
 
 /// Shuts the hall.
-fn shut<W: Ledger, L: Ledger, R: Wait>(rt: &R, hall: &Hall<W, L>, sheet: &mut Sheet) {
+fn shut<W: Ledger, L: HistoryName, R: Wait>(rt: &R, hall: &Hall<W, L>, sheet: &mut Sheet) {
     hall.shut(rt);
     sheet.write("done");
 }
 
 /// Loses the last pass.
-fn lose<L: Ledger>(passes: &mut Vec<Pass<L>>, sheet: &mut Sheet) {
+fn lose<L: HistoryName>(passes: &mut Vec<Pass<L>>, sheet: &mut Sheet) {
     if let Some(pass) = passes.pop() {
         tell_pass(&pass, sheet);
     }

@@ -11,7 +11,7 @@ use crate::frontends::Away;
 use crate::gate::{await_held, gate, let_go};
 use crate::lines::{begin, note};
 use crate::posters::posters;
-use kernel_hall::Hall;
+use kernel_hall::{Entry, Hall, HistoryName, NewHistory};
 use std::marker::Brand;
 use std::sync::atomic::AtomicU64;
 use std::sync::ledger::{Blank, Ledger};
@@ -30,29 +30,44 @@ pub(crate) fn tell<R: Threads + Wait + Sync>(rt: &R, calls: &str, holds: bool, s
 
 /// Writes the calls before a new hall with their answers.
 fn tell_owned<R: Threads + Wait + Sync>(rt: &R, calls: String, holds: bool, sheet: &mut Sheet) {
-    tell_in::<Brand, Brand, R>(rt, Blank::new(1), Blank::new(65_537), calls, holds, sheet);
+    match NewHistory::new(sheet.alloc()) {
+        Ok(history) => {
+            tell_in::<Brand, Brand, R>(
+                rt,
+                Blank::new(1),
+                Blank::new(65_537),
+                history,
+                calls,
+                holds,
+                sheet,
+            );
+        }
+        Err(_) => sheet.refuse(),
+    }
 }
 
 /// Writes the calls with their answers, before a hall over these ledgers.
-fn tell_in<W: Ledger + Send + Sync, L: Ledger + Send + Sync, R: Threads + Wait + Sync>(
+fn tell_in<W: Ledger + Send + Sync, L: HistoryName + Send + Sync, R: Threads + Wait + Sync>(
     rt: &R,
     writes: Blank,
     posts: Blank,
+    history: NewHistory<Entry>,
     calls: String,
     holds: bool,
     sheet: &mut Sheet,
 )
     requires writes { (writes.name ≡ W.name) × (writes.parts ≡ W.parts) × (0 < W.parts) }
     requires posts { (posts.name ≡ L.name) × (posts.parts ≡ 65537) × (posts.parts ≡ L.parts) }
+    requires history { history ≡ L.history }
 {
-    match Desk::<W, L>::new(sheet.alloc(), writes, posts) {
+    match Desk::<W, L>::new(sheet.alloc(), writes, posts, history) {
         Ok(desk) => tell_desk(rt, desk, &calls, holds, sheet),
         Err(_) => sheet.refuse(),
     }
 }
 
 /// Writes the calls with their answers, and ends the hall as its last row says.
-fn tell_desk<W: Ledger + Send + Sync, L: Ledger + Send + Sync, R: Threads + Wait + Sync>(
+fn tell_desk<W: Ledger + Send + Sync, L: HistoryName + Send + Sync, R: Threads + Wait + Sync>(
     rt: &R,
     desk: Desk<W, L>,
     calls: &str,
@@ -67,7 +82,7 @@ fn tell_desk<W: Ledger + Send + Sync, L: Ledger + Send + Sync, R: Threads + Wait
 }
 
 /// Writes the calls of the parts of a block with their answers.
-fn tell_parts<W: Ledger + Send + Sync, L: Ledger + Send + Sync, R: Threads + Wait + Sync>(
+fn tell_parts<W: Ledger + Send + Sync, L: HistoryName + Send + Sync, R: Threads + Wait + Sync>(
     rt: &R,
     mut desk: Desk<W, L>,
     all: &Mutex<Away<L>>,
@@ -92,7 +107,7 @@ fn tell_parts<W: Ledger + Send + Sync, L: Ledger + Send + Sync, R: Threads + Wai
 }
 
 /// Writes the calls beside the worker, and those behind its end, with their answers; there may be none.
-fn tell_rest<'a, W: Ledger + Send + Sync, L: Ledger + Send + Sync, R: Threads + Wait + Sync>(
+fn tell_rest<'a, W: Ledger + Send + Sync, L: HistoryName + Send + Sync, R: Threads + Wait + Sync>(
     rt: &R,
     worker: Worker<'a, W, L>,
     all: &Mutex<Away<L>>,
@@ -113,7 +128,7 @@ fn tell_rest<'a, W: Ledger + Send + Sync, L: Ledger + Send + Sync, R: Threads + 
 }
 
 /// Writes calls with their answers, where this thread is the runner's too.
-fn tell_alone<W: Ledger + Send + Sync, L: Ledger + Send + Sync, R: Threads + Wait + Sync>(
+fn tell_alone<W: Ledger + Send + Sync, L: HistoryName + Send + Sync, R: Threads + Wait + Sync>(
     rt: &R,
     desk: &mut Desk<W, L>,
     all: &Mutex<Away<L>>,
@@ -131,7 +146,7 @@ fn tell_alone<W: Ledger + Send + Sync, L: Ledger + Send + Sync, R: Threads + Wai
 }
 
 /// Writes calls with their answers.
-fn tell_rows<W: Ledger + Send + Sync, L: Ledger + Send + Sync, R: Threads + Wait + Sync>(
+fn tell_rows<W: Ledger + Send + Sync, L: HistoryName + Send + Sync, R: Threads + Wait + Sync>(
     rt: &R,
     hall: &Hall<W, L>,
     all: &Mutex<Away<L>>,
@@ -147,7 +162,7 @@ fn tell_rows<W: Ledger + Send + Sync, L: Ledger + Send + Sync, R: Threads + Wait
 }
 
 /// Writes the answer to a call that isn't the runner's.
-fn answer<W: Ledger + Send + Sync, L: Ledger + Send + Sync, R: Threads + Wait + Sync>(
+fn answer<W: Ledger + Send + Sync, L: HistoryName + Send + Sync, R: Threads + Wait + Sync>(
     rt: &R,
     hall: &Hall<W, L>,
     all: &Mutex<Away<L>>,
@@ -168,7 +183,7 @@ fn answer<W: Ledger + Send + Sync, L: Ledger + Send + Sync, R: Threads + Wait + 
 }
 
 /// Writes calls with their answers beside the worker, and waits until it ends. It does where the hall is shut by one of them, or was before.
-fn tell_beside<'a, W: Ledger + Send + Sync, L: Ledger + Send + Sync, R: Threads + Wait + Sync>(
+fn tell_beside<'a, W: Ledger + Send + Sync, L: HistoryName + Send + Sync, R: Threads + Wait + Sync>(
     rt: &R,
     worker: Worker<'a, W, L>,
     all: &Mutex<Away<L>>,
@@ -189,7 +204,7 @@ fn tell_beside<'a, W: Ledger + Send + Sync, L: Ledger + Send + Sync, R: Threads 
 }
 
 /// Closes a hall, or lets it go.
-fn end_hall<W: Ledger, L: Ledger>(
+fn end_hall<W: Ledger, L: HistoryName>(
     hall: Hall<W, L>,
     away: Away<L>,
     closes: bool,
@@ -204,7 +219,7 @@ fn end_hall<W: Ledger, L: Ledger>(
 }
 
 /// Closes a hall, and writes how many minutes it had, or what is missing or untrue.
-fn close<W: Ledger, L: Ledger>(hall: Hall<W, L>, away: Away<L>, sheet: &mut Sheet) {
+fn close<W: Ledger, L: HistoryName>(hall: Hall<W, L>, away: Away<L>, sheet: &mut Sheet) {
     let Away {
         passes,
         tickets,

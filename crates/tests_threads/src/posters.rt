@@ -3,7 +3,7 @@
 //! steps.
 use crate::frontends::{Away, job_of};
 use crate::lines::note;
-use kernel_hall::{Done, Hall, HallFault, Outcome, Pass, PostFault, Refusal, Ticket};
+use kernel_hall::{Done, Hall, HallFault, HistoryName, Outcome, Pass, PostFault, Refusal, Ticket};
 use std::alloc::Global;
 use std::sync::ledger::Ledger;
 use std::sync::{Mutex, Wait};
@@ -14,7 +14,7 @@ use tests_rows::{Sheet, cut, number};
 /// The job that is posted.
 const JOB: &str = "cell x += 1";
 
-impl<L: Ledger> Away<L> {
+impl<L: HistoryName> Away<L> {
     /// Counts a job that went wrong.
     fn note_wrong(&mut self) {
         self.wrong = self.wrong.saturating_add(1);
@@ -67,18 +67,19 @@ fn is_pushed<T: Drop>(list: &mut Vec<T>, value: T) -> bool {
 }
 
 /// Waits for the job of a ticket, and keeps what came of it.
-fn wait<W: Ledger, L: Ledger, R: Wait>(
+fn wait<W: Ledger, L: HistoryName, R: Wait>(
     rt: &R,
     hall: &Hall<W, L>,
     all: &Mutex<Away<L>>,
+    own: &mut Pass<L>,
     ticket: Ticket,
 ) {
-    let done = hall.wait(rt, &ticket);
+    let done = hall.wait(rt, own, &ticket);
     all.lock(rt).keep_done(ticket, done);
 }
 
 /// Posts the job and waits for it. The pass comes back.
-fn post_once<W: Ledger, L: Ledger, R: Wait>(
+fn post_once<W: Ledger, L: HistoryName, R: Wait>(
     rt: &R,
     alloc: Global,
     hall: &Hall<W, L>,
@@ -87,8 +88,8 @@ fn post_once<W: Ledger, L: Ledger, R: Wait>(
 ) -> Pass<L> {
     match job_of(alloc, JOB) {
         Ok(job) => match hall.post(rt, own, job, Vec::new(alloc)) {
-            Ok((ticket, own)) => {
-                wait(rt, hall, all, ticket);
+            Ok((ticket, mut own)) => {
+                wait(rt, hall, all, &mut own, ticket);
                 own
             }
             Err((fault, own)) => {
@@ -104,7 +105,7 @@ fn post_once<W: Ledger, L: Ledger, R: Wait>(
 }
 
 /// Posts the job for this pass and waits for it, a number of times.
-fn post_for<W: Ledger, L: Ledger, R: Wait>(
+fn post_for<W: Ledger, L: HistoryName, R: Wait>(
     rt: &R,
     alloc: Global,
     hall: &Hall<W, L>,
@@ -119,7 +120,7 @@ fn post_for<W: Ledger, L: Ledger, R: Wait>(
 }
 
 /// Posts the job for a new pass and waits for it, a number of times.
-fn post_often<W: Ledger, L: Ledger, R: Wait>(
+fn post_often<W: Ledger, L: HistoryName, R: Wait>(
     rt: &R,
     alloc: Global,
     hall: &Hall<W, L>,
@@ -135,14 +136,11 @@ fn post_often<W: Ledger, L: Ledger, R: Wait>(
 }
 
 /// Each of the threads posts.
-fn posted_by_threads<W: Ledger + Send + Sync, L: Ledger + Send + Sync, R: Threads + Wait + Sync>(
-    rt: &R,
-    alloc: Global,
-    hall: &Hall<W, L>,
-    all: &Mutex<Away<L>>,
-    threads: usize,
-    times: usize,
-) {
+fn posted_by_threads<
+    W: Ledger + Send + Sync,
+    L: HistoryName + Send + Sync,
+    R: Threads + Wait + Sync,
+>(rt: &R, alloc: Global, hall: &Hall<W, L>, all: &Mutex<Away<L>>, threads: usize, times: usize) {
     thread::scope(thread::scope_env(), rt, |scope| {
         for _ in 0..threads {
             let started = scope.spawn(move || post_often(rt, alloc, hall, all, times));
@@ -154,20 +152,18 @@ fn posted_by_threads<W: Ledger + Send + Sync, L: Ledger + Send + Sync, R: Thread
 }
 
 /// Has the threads post, and writes what they came away with.
-pub(crate) fn posters<W: Ledger + Send + Sync, L: Ledger + Send + Sync, R: Threads + Wait + Sync>(
-    rt: &R,
-    hall: &Hall<W, L>,
-    all: &Mutex<Away<L>>,
-    row: &str,
-    sheet: &mut Sheet,
-) {
+pub(crate) fn posters<
+    W: Ledger + Send + Sync,
+    L: HistoryName + Send + Sync,
+    R: Threads + Wait + Sync,
+>(rt: &R, hall: &Hall<W, L>, all: &Mutex<Away<L>>, row: &str, sheet: &mut Sheet) {
     let (threads, times) = cut(row);
     posted_by_threads(rt, sheet.alloc(), hall, all, number(threads), number(times));
     tell_away(&*all.lock(rt), sheet);
 }
 
 /// Writes how many jobs went wrong, and how many passes, tickets and ends there are.
-fn tell_away<L: Ledger>(away: &Away<L>, sheet: &mut Sheet) {
+fn tell_away<L: HistoryName>(away: &Away<L>, sheet: &mut Sheet) {
     if away.is_refused {
         sheet.refuse();
     }

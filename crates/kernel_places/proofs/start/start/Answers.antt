@@ -12,8 +12,8 @@ pub spawn-requires-send-F : goal.spawn-requires-send-F
 spawn-requires-send-F g c κs h =
     let rt = c.type_bounds.sync-R in
     let service =
-    Service-sync (param 1 g.row.W) (param 2 g.row.L) (param 3 g.row.S) g.W.Ledger g.L.Ledger g.S.Ledger c.type_bounds.send-W c.type_bounds.send-L
-    c.type_bounds.send-S in
-    let hall = Hall-sync (param 1 g.row.W) (param 2 g.row.L) g.W.Ledger g.L.Ledger c.type_bounds.send-W c.type_bounds.send-L in
-    let pass = Pass-send (param 2 g.row.L) g.L.Ledger c.type_bounds.send-L in
+    Service-sync (param 1 g.row.W) (param 2 g.row.L) (param 3 g.row.S) g.W.Ledger g.L.HistoryName g.L.Ledger g.S.Ledger c.type_bounds.send-W
+    c.type_bounds.send-L c.type_bounds.send-S in
+    let hall = Hall-sync (param 1 g.row.W) (param 2 g.row.L) g.W.Ledger g.L.HistoryName g.L.Ledger c.type_bounds.send-W c.type_bounds.send-L in
+    let pass = Pass-send (param 2 g.row.L) g.L.HistoryName g.L.Ledger c.type_bounds.send-L in
     search (crosses, RingerSeat-send, Bulletin-sync, Listeners-sync, sendable) depth 40 fits 20000

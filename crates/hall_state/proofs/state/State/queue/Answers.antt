@@ -13,7 +13,7 @@ invariant_of-self-2 g c =
     let old = c.args.self.now.kernel.machine in
     let more : posted_in c.post.new.self.machine.minutes ≡ _ =
     ap (λ (m : Machine). posted_in m.minutes) c.in_ok-number.ensures.post.2 ∙ one_more old c.lane.result (request_of c.args.job) in
-    record { counted = omega arith }
+    record { counted = omega arith; told = c.follow.ensures }
 
 pub returns-clause-pending_result : goal.returns-clause-pending_result
 returns-clause-pending_result g c =

@@ -1,16 +1,30 @@
-use Rattle.std.proofs.Common.{arith, ◌≤◌, [], length, sym, subst}
-use Rattle.std.proofs.lemmas.Grind.{common_steps}
+use Rattle.std.proofs.Common.{◌≡◌, ℕ, List, [], Result, Ok, Err, IfOk, rules, sym, subst}
+use Rattle.hall_state.specs.Minutes.{Entry}
+use Rattle.hall_state.specs.Runs.{Machine}
+use Rattle.hall_state.specs.LegalMinutes.{IsLegalMachine}
 use Rattle.hall_state.specs.Answer.{IsAnswer}
 use Rattle.hall_state.specs.answer.Ask.{Ask}
+use Rattle.hall_state.specs.answer.Answer.{Answer}
+use Rattle.hall_state.specs.answer.HallFault.{HallFault}
 use Rattle.kernel_hall.proofs.hall.Hall.ask.Goals as goal
 
+-- an answer of the kernel whose minutes were seen
+answered : (r : Result Answer HallFault) (k : Machine) (comms : List (List ℕ)) (front : List Entry) (a : Ask) → IfOk r (IsAnswer k comms a)
+    → IsLegalMachine k → k.minutes ≡ front
+    → IfOk r (λ answer. (x : Machine) × (y : List (List ℕ)) × IsLegalMachine x × (x.minutes ≡ front) × IsAnswer x y a answer)
+answered (Ok answer) k comms front a is legal seen = (k, comms, legal, seen, is)
+answered (Err fault) k comms front a is legal seen = tt
+
+-- what the text alone tells is the answer of that kernel too
 pub returns-in-IsComplete-clause-answer : goal.returns-in-IsComplete-clause-answer
 returns-in-IsComplete-clause-answer g c =
-    let k = c.deref-in-IsComplete.result.now.kernel.machine in
-    let posts : c.args.pass.now.posts ≤ length k.minutes = grind (arith, common_steps) in (
+    let k = c.deref-in-IsComplete.result.now.kernel.machine in (
       k,
       [],
       c.seen-seen.ensures.legal,
-      posts,
+      search rules,
       subst (λ (a : Ask). IsAnswer k [] a c.judge.result) (sym c.in-IsComplete.is) (c.judge.ensures k [] c.seen-seen.ensures.seen),
     )
+
+pub returns-in_default-clause-answer : goal.returns-in_default-clause-answer
+returns-in_default-clause-answer g c = answered c.ask.result _ _ c.see.new.pass.front c.args.ask c.ask.ensures.answer c.ask.ensures.legal (search rules)

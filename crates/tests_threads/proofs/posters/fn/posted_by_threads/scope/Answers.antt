@@ -14,6 +14,6 @@ spawn-started-requires-send-F g c κs h =
     let sync_R : IsSync g.row.R = search sendable depth 10 in
     let W = param_send 0 g.row.W send_W in
     let L = param_send 1 g.row.L send_L in
-    let hall = Hall-sync (param 0 g.row.W) (param 1 g.row.L) g.W.Ledger g.L.Ledger W L in
-    let pass = Pass-send (param 1 g.row.L) g.L.Ledger L in
+    let hall = Hall-sync (param 0 g.row.W) (param 1 g.row.L) g.W.Ledger g.L.HistoryName g.L.Ledger W L in
+    let pass = Pass-send (param 1 g.row.L) g.L.HistoryName g.L.Ledger L in
     search (crosses, Ticket-send, Done-send, sendable) depth 40 fits 20000

@@ -1,0 +1,38 @@
+-- What was seen of the minutes stands in what is seen later.
+use Rattle.std.proofs.Common.{ℕ, ◌+◌, suc, List, [], ◌∷◌, ◌++◌, map, refl, sym, ap, ◌∙◌, append_assoc}
+use mathlib.Core.List.{IsPrefix, map-append}
+use Rattle.kernel_ask.specs.Request.{Request}
+use Rattle.kernel_ask.specs.Minutes.{Entry, Post, Posted, posts_of, posted_in, IsNumberOf}
+use Rattle.kernel_ask.proofs.Posts.{posts-append}
+use Rattle.kernel_audit.specs.Passes.{PassOf, AreLegal, HasSeen, HasPosted}
+
+pub prefix_map : {A B : Type 0} (f : A → B) (xs ys : List A) → IsPrefix xs ys → IsPrefix (map f xs) (map f ys)
+prefix_map f xs ys p = (map f p.0, sym (map-append f xs p.0) ∙ ap (map f) p.1)
+
+pub prefix_trans : {A : Type 0} (xs ys zs : List A) → IsPrefix xs ys → IsPrefix ys zs → IsPrefix xs zs
+prefix_trans xs ys zs p q = (p.0 ++ q.0, sym (append_assoc xs p.0 q.0) ∙ (ap (λ w. w ++ q.0) p.1 ∙ q.1))
+
+-- a post keeps its number
+pub number_stays : (xs ys : List Entry) (number : ℕ) (post : Post) → IsPrefix xs ys → IsNumberOf xs number post → IsNumberOf ys number post
+number_stays xs ys number post p (before, after, is, numbered) = (
+  before,
+  after ++ posts_of p.0,
+  ap posts_of (sym p.1) ∙ posts-append xs p.0 ∙ ap (λ (l : List Post). l ++ posts_of p.0) is ∙ append_assoc before (post ∷ after) (posts_of p.0),
+  numbered,
+)
+
+-- what was posted last has the highest number
+pub number_of_last : (xs : List Entry) (lane : ℕ) (job : Request)
+    → IsNumberOf (xs ++ Posted lane job ∷ []) (suc (posted_in xs)) (record { lane = lane; job = job })
+number_of_last xs lane job = (posts_of xs, [], posts-append xs (Posted lane job ∷ []), refl)
+
+-- who has posted and sees on has still posted
+pub posted_on : (old mid new : PassOf) (job : Request) (number : ℕ) → HasPosted old job number mid → HasSeen mid new → AreLegal new.front
+    → HasPosted old job number new
+posted_on old mid new job number p s legal = record {
+  lane = s.lane ∙ p.lane;
+  posts = s.posts ∙ p.posts;
+  onward = prefix_trans old.front mid.front new.front p.onward s.onward;
+  legal = legal;
+  posted = number_stays mid.front new.front number (record { lane = old.lane; job = job }) s.onward p.posted;
+}
