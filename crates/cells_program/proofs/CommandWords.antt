@@ -10,7 +10,7 @@ use Rattle.clap.specs.Faults.{bundle_fault, bundle_step_fault, flag_word_fault, 
 use Rattle.clap.specs.Faults.{turn_fault, use_fault, walk_fault}
 use Rattle.clap.specs.Kinds.{Kinds, or_else}
 use Rattle.clap.specs.Lexer.{has_byte, long_of, long_of_rest, name_and_value, short_of, strip_byte}
-use Rattle.clap.specs.Simple.{App, Shape, built, filled, help_rule, new_app, new_rule, with_rule}
+use Rattle.clap.specs.Simple.{App, Shape, built, filled, help_rule, new_app, new_rule, on_top, version_rule, with_rule}
 use Rattle.clap.specs.Walk.{Held, Rule, Row, Step, Text, Waiting, Walk, after_flag, after_step, arg_by_long, arg_by_short, bundle_met, bundle_step, idle}
 use Rattle.clap.specs.Walk.{long_met, long_or_other, option, plain, plain_word, pushed, pending_count, reacted, settled, short_or_plain, trailing, walked}
 use Rattle.clap.specs.declared.builder.value_parser.ValueParser.TheVariants as vp
@@ -29,8 +29,11 @@ steps_rule = record (new_rule (codes "steps")) {
   parser = Some (vp.Unsigned 1 1000000000000);
 }
 
+abbrev pub versioned : Shape → Shape
+versioned s = record s { has_version = true }
+
 abbrev pub program : App
-program = with_rule (new_app (codes "janus-cells")) steps_rule
+program = with_rule (on_top versioned (new_app (codes "janus-cells"))) steps_rule
 
 -- what building makes of it
 abbrev pub top : Shape
@@ -164,43 +167,67 @@ behind_end h some word rest e = let none : kind.UnknownArgument ∷ [] ≡ [] = 
 abbrev help : Rule
 help = filled help_rule
 
--- which option a name names
-found_long : (name : Text) → ((bytes_eq (codes "steps") name ≡ true) × (arg_by_long rules name ≡ Some given)) ⊎
-    ((arg_by_long rules name ≡ Some help) ⊎ (arg_by_long rules name ≡ None))
-found_long name = go (bytes_eq (codes "steps") name) refl (bytes_eq (codes "help") name) refl
-  where
-    go : (a : Bool) → bytes_eq (codes "steps") name ≡ a → (b : Bool) → bytes_eq (codes "help") name ≡ b
-        → ((bytes_eq (codes "steps") name ≡ true) × (arg_by_long rules name ≡ Some given)) ⊎
-        ((arg_by_long rules name ≡ Some help) ⊎ (arg_by_long rules name ≡ None))
-    go true e b f = inl (e, rw e)
-    go false e true f = inr (inl (rw (e, f)))
-    go false e false f = inr (inr (rw (e, f)))
+abbrev version : Rule
+version = filled version_rule
 
-found_short : (x : ℕ) → (arg_by_short rules x ≡ Some help) ⊎ (arg_by_short rules x ≡ None)
-found_short x = go (104 == x) refl
+-- a flag by which something is printed, and nothing else
+pub data Prints : Rule → Type 0 where
+  prints_help : Prints help
+  prints_version : Prints version
+
+-- such a flag was named, or none
+abbrev PrintsOrNone : Option Rule → Type 0
+PrintsOrNone f = ((r : Rule) × Prints r × (f ≡ Some r)) ⊎ (f ≡ None)
+
+-- which option a name names
+found_long : (name : Text) → ((bytes_eq (codes "steps") name ≡ true) × (arg_by_long rules name ≡ Some given)) ⊎ PrintsOrNone (arg_by_long rules name)
+found_long name =
+    go (bytes_eq (codes "steps") name) refl (bytes_eq (codes "help") name) refl (bytes_eq (codes "version") name) refl
   where
-    go : (b : Bool) → (104 == x) ≡ b → (arg_by_short rules x ≡ Some help) ⊎ (arg_by_short rules x ≡ None)
-    go true e = inl (rw e)
-    go false e = inr (rw e)
+    go : (a : Bool) → bytes_eq (codes "steps") name ≡ a → (b : Bool) → bytes_eq (codes "help") name ≡ b → (c : Bool) → bytes_eq (codes "version") name ≡ c
+        → ((bytes_eq (codes "steps") name ≡ true) × (arg_by_long rules name ≡ Some given)) ⊎ PrintsOrNone (arg_by_long rules name)
+    go true e b f c g = inl (e, rw e)
+    go false e true f c g = inr (inl (help, prints_help, rw (e, f)))
+    go false e false f true g = inr (inl (version, prints_version, rw (e, f, g)))
+    go false e false f false g = inr (inr (rw (e, f, g)))
+
+found_short : (x : ℕ) → PrintsOrNone (arg_by_short rules x)
+found_short x = go (104 == x) refl (86 == x) refl
+  where
+    go : (b : Bool) → (104 == x) ≡ b → (c : Bool) → (86 == x) ≡ c → PrintsOrNone (arg_by_short rules x)
+    go true e c f = inl (help, prints_help, rw e)
+    go false e true f = inl (version, prints_version, rw (e, f))
+    go false e false f = inr (rw (e, f))
 
 unknown_first : (b : Kinds) → or_else (kind.UnknownArgument ∷ []) b ≡ [] → ⊥
 unknown_first b e = cc
 
-shows_help : (h : Held) → react_fault rules false help [] h ≡ [] → ⊥
-shows_help h e =
+prints : (r : Rule) → Prints r → (h : Held) → react_fault rules false r [] h ≡ [] → ⊥
+prints r prints_help h e =
     let shown : use_fault false help [] (settled rules h).rows ≡ [] =
     or_else_second (settle_fault rules false h) (use_fault false help [] (settled rules h).rows) e in
     let none : kind.DisplayHelp ∷ [] ≡ [] = shown in
     cc
+prints r prints_version h e =
+    let shown : use_fault false version [] (settled rules h).rows ≡ [] =
+    or_else_second (settle_fault rules false h) (use_fault false version [] (settled rules h).rows) e in
+    let none : kind.DisplayVersion ∷ [] ≡ [] = shown in
+    cc
 
-help_first : (h : Held) (b c : Kinds) → or_else (or_else (react_fault rules false help [] h) b) c ≡ [] → ⊥
-help_first h b c e =
-    shows_help h (or_else_first (react_fault rules false help [] h) b (or_else_first (or_else (react_fault rules false help [] h) b) c e))
+prints_first : (r : Rule) → Prints r → (h : Held) (b c : Kinds) → or_else (or_else (react_fault rules false r [] h) b) c ≡ [] → ⊥
+prints_first r p h b c e =
+    prints r p h (or_else_first (react_fault rules false r [] h) b (or_else_first (or_else (react_fault rules false r [] h) b) c e))
 
-no_short : (f : Option Rule) → (f ≡ Some help) ⊎ (f ≡ None) → (rest : Text) (h : Held) (next : Held → Kinds) (c : Kinds) →
+-- such a flag takes no value, and has one letter
+short_prints : (r : Rule) → Prints r → (rest : Text) (h : Held) (next : Held → Kinds) (c : Kinds) →
+    or_else (short_fault rules false (Some r) rest h next) c ≡ [] → ⊥
+short_prints r prints_help rest h next c e = prints_first help prints_help h (next (reacted rules help [] h)) c e
+short_prints r prints_version rest h next c e = prints_first version prints_version h (next (reacted rules version [] h)) c e
+
+no_short : (f : Option Rule) → PrintsOrNone f → (rest : Text) (h : Held) (next : Held → Kinds) (c : Kinds) →
     or_else (short_fault rules false f rest h next) c ≡ [] → ⊥
-no_short f (inl is) rest h next c e =
-    help_first h (next (reacted rules help [] h)) c (subst (λ g. or_else (short_fault rules false g rest h next) c ≡ []) is e)
+no_short f (inl (r, p, is)) rest h next c e =
+    short_prints r p rest h next c (subst (λ g. or_else (short_fault rules false g rest h next) c ≡ []) is e)
 no_short f (inr is) rest h next c e = unknown_first c (subst (λ g. or_else (short_fault rules false g rest h next) c ≡ []) is e)
 
 -- what a step passes, and where it leads
@@ -248,10 +275,14 @@ steps_pass rows pending word some (Some v) (inr (w, same, h)) e =
     let q : v ≡ w = cc in
     joins (h ∙ ap (λ t. codes "--steps=" ++ t) (sym q)) (or_else_first (react_fault rules false given (v ∷ []) (held rows pending)) [] e)
 
-help_passes : (rows : List Row) (pending : Option (Text × List Text)) (word : Text) (some : Bool) (value : Option Text) →
-    LongPasses rows pending word some (Some help) value
-help_passes rows pending word some None e = absurd (shows_help (held rows pending) (or_else_first (react_fault rules false help [] (held rows pending)) [] e))
-help_passes rows pending word some (Some v) e = let none : kind.TooManyValues ∷ [] ≡ [] = e in cc
+print_passes : (r : Rule) → Prints r → (rows : List Row) (pending : Option (Text × List Text)) (word : Text) (some : Bool) (value : Option Text) →
+    LongPasses rows pending word some (Some r) value
+print_passes r prints_help rows pending word some None e =
+    absurd (prints help prints_help (held rows pending) (or_else_first (react_fault rules false help [] (held rows pending)) [] e))
+print_passes r prints_version rows pending word some None e =
+    absurd (prints version prints_version (held rows pending) (or_else_first (react_fault rules false version [] (held rows pending)) [] e))
+print_passes r prints_help rows pending word some (Some v) e = let none : kind.TooManyValues ∷ [] ≡ [] = e in cc
+print_passes r prints_version rows pending word some (Some v) e = let none : kind.TooManyValues ∷ [] ≡ [] = e in cc
 
 unknown_passes : (rows : List Row) (pending : Option (Text × List Text)) (word : Text) (some : Bool) (value : Option Text) →
     LongPasses rows pending word some None value
@@ -261,11 +292,11 @@ long_passes : (rows : List Row) (pending : Option (Text × List Text)) (word nam
     long_of word ≡ Some (name, value) → LongPasses rows pending word some (arg_by_long rules name) value
 long_passes rows pending word name value some is = go (found_long name)
   where
-    go : ((bytes_eq (codes "steps") name ≡ true) × (arg_by_long rules name ≡ Some given)) ⊎
-        ((arg_by_long rules name ≡ Some help) ⊎ (arg_by_long rules name ≡ None)) → LongPasses rows pending word some (arg_by_long rules name) value
+    go : ((bytes_eq (codes "steps") name ≡ true) × (arg_by_long rules name ≡ Some given)) ⊎ PrintsOrNone (arg_by_long rules name)
+        → LongPasses rows pending word some (arg_by_long rules name) value
     go (inl h) = subst (λ f. LongPasses rows pending word some f value) (sym h.1)
         (steps_pass rows pending word some value (steps_word_is word name value is h.0))
-    go (inr (inl h)) = subst (λ f. LongPasses rows pending word some f value) (sym h) (help_passes rows pending word some value)
+    go (inr (inl (r, p, h))) = subst (λ f. LongPasses rows pending word some f value) (sym h) (print_passes r p rows pending word some value)
     go (inr (inr h)) = subst (λ f. LongPasses rows pending word some f value) (sym h) (unknown_passes rows pending word some value)
 
 -- any word but `--`

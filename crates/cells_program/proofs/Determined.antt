@@ -1,5 +1,5 @@
 -- Where memory is ample, each request is served in one way, and so is a list of actions.
-use Rattle.std.proofs.Common.{◌≡◌, ◌∙◌, ℕ, List, [], ◌∷◌, ◌++◌, Bool, inl, inr, refl, sym, ap, subst, append_assoc, Result, Ok, Err, true, false, arith}
+use Rattle.std.proofs.Common.{◌≡◌, ◌∙◌, ℕ, List, [], ◌∷◌, ◌++◌, Bool, inl, inr, refl, sym, ap, subst, append_assoc, append-nil, Result, Ok, Err, true, false, arith}
 use Rattle.std.specs.Prelude.{codes}
 use Rattle.std.specs.Fmt.{digits}
 use Rattle.janus_meaning.specs.Limit.{step_limit}
@@ -26,16 +26,19 @@ use Rattle.kernel_core.specs.outcome.Sliced.{Sliced}
 use Rattle.kernel_core.specs.outcome.Sliced.TheVariants as sliced
 use Rattle.kernel_core.specs.outcome.Outcome.{Outcome}
 use Rattle.kernel_core.specs.outcome.Outcome.TheVariants as outcome
+use Rattle.kernel_core.specs.outcome.Refusal.{Refusal}
 use Rattle.kernel_core.specs.outcome.Refusal.TheVariants as refusal
 use Rattle.kernel_core.specs.outcome.TravelEnd.TheVariants.{NoMemory}
 use Rattle.cells_program.specs.Determined.{Holds, TellsWant}
 use Rattle.cells_program.specs.Lines.{ended_line}
-use Rattle.kernel_text.specs.Lines.{counted_text}
+use Rattle.kernel_text.specs.Lines.{counted_text, outcome_line, refusal_text}
 use Rattle.cells_program.specs.Listing.{IsListed}
 use Rattle.cells_program.specs.Script.{Action, RunText, UndoCells, RedoCells, GoToNode, ShowWorld, ListProcedures, BadCommand}
 use Rattle.cells_program.specs.Served.{lane, GoesBack, is_back, not_yet_back, CellFinishes, in_time, interrupted, faulted, FinishesAs, Finishes, ended, going}
 use Rattle.cells_program.specs.Served.{backing, next_cell, no_next_cell, Came, NotPosted, Finished, Serves, not_posted, at_once, later}
-use Rattle.cells_program.specs.Transcript.{came_line, Answers, ActionServes, ActionsServe}
+use Rattle.cells_program.specs.declared.choice.Choice.{Choice}
+use Rattle.cells_program.specs.Explained.{explained}
+use Rattle.cells_program.specs.Transcript.{came_line, told as told_of, told_cell, told_outcome, told_refusal, Answers, ActionServes, ActionsServe}
 use Rattle.cells_program.proofs.OneListing.{one_list_text}
 
 -- ---- one begin, one slice, one post
@@ -376,15 +379,50 @@ lacks_told (Finished o) (inr (travel, e)) =
     let is : o ≡ finished travel NoMemory = ap over_of e in
     subst (λ (p : Outcome). TellsWant (ended_line (came_line (Finished p)))) (sym is) (travel_tells travel.aim travel.went_up travel.went_down)
 
+-- what is told of a request begins with the line of what came of it
+abbrev Begins : List ℕ → List ℕ → Type 0
+Begins text line = (rest : List ℕ) × (text ≡ line ++ rest)
+
+begins_whole : (line : List ℕ) → Begins line line
+begins_whole line = ([], sym (append-nil line))
+
+refusal_begins : (explains : Bool) (text : List ℕ) (r : Refusal) → Begins (told_refusal explains text r) (ended_line (refusal_text r))
+refusal_begins false text r = begins_whole (ended_line (refusal_text r))
+refusal_begins true text r = (explained text r, refl)
+
+outcome_begins : (explains : Bool) (text : List ℕ) (o : Outcome) → Begins (told_outcome explains text o) (ended_line (outcome_line o))
+outcome_begins explains text (outcome.Ran node steps) = begins_whole (ended_line (outcome_line (outcome.Ran node steps)))
+outcome_begins explains text (outcome.Failed f steps) = begins_whole (ended_line (outcome_line (outcome.Failed f steps)))
+outcome_begins explains text (outcome.Interrupted steps) = begins_whole (ended_line (outcome_line (outcome.Interrupted steps)))
+outcome_begins explains text (outcome.Undid cells end) = begins_whole (ended_line (outcome_line (outcome.Undid cells end)))
+outcome_begins explains text (outcome.Redid cells end) = begins_whole (ended_line (outcome_line (outcome.Redid cells end)))
+outcome_begins explains text (outcome.Went up down end) = begins_whole (ended_line (outcome_line (outcome.Went up down end)))
+outcome_begins explains text (outcome.Refused r) = refusal_begins explains text r
+
+cell_begins : (explains : Bool) (text : List ℕ) (came : Came) → Begins (told_cell explains text came) (ended_line (came_line came))
+cell_begins explains text (NotPosted f) = begins_whole (ended_line (came_line (NotPosted f)))
+cell_begins explains text (Finished o) = outcome_begins explains text o
+
+told_begins : (explains : Bool) (r : Request) (came : Came) → Begins (told_of explains r came) (ended_line (came_line came))
+told_begins explains (RunCell text silent store) came = cell_begins explains text came
+told_begins explains (Undo k) came = begins_whole (ended_line (came_line came))
+told_begins explains (Redo k) came = begins_whole (ended_line (came_line came))
+told_begins explains (Goto n) came = begins_whole (ended_line (came_line came))
+
+lacks_told_as : (explains : Bool) (r : Request) (came : Came) → Lacks came → TellsWant (told_of explains r came)
+lacks_told_as explains r came l =
+    let b = told_begins explains r came in
+    subst TellsWant (sym b.1) (tells_first (ended_line (came_line came)) b.0 (lacks_told came l))
+
 -- ---- actions
 
-answers_same : StepIsDetermined → StaysLegal → (steps : ℕ) (old new other : Machine) (r : Request) (out more : List ℕ) → IsLegalState old.state →
-    Answers steps old r out new → (TellsWant out → ⊥) → Answers steps old r more other → (TellsWant more → ⊥)
+answers_same : StepIsDetermined → StaysLegal → (choice : Choice) (old new other : Machine) (r : Request) (out more : List ℕ) → IsLegalState old.state →
+    Answers choice old r out new → (TellsWant out → ⊥) → Answers choice old r more other → (TellsWant more → ⊥)
     → (out ≡ more) × (new ≡ other)
-answers_same determined stays steps old new other r out more legal (a, s, e) ample (b, s2, e2) enough =
-    let same = serves_same determined stays steps old new other r a b legal s (λ l. ample (subst TellsWant (sym e) (lacks_told a l))) s2
-    (λ l. enough (subst TellsWant (sym e2) (lacks_told b l))) in
-    (e ∙ ap (λ (c : Came). ended_line (came_line c)) same.0 ∙ sym e2, same.1)
+answers_same determined stays choice old new other r out more legal (a, s, e) ample (b, s2, e2) enough =
+    let same = serves_same determined stays choice.steps old new other r a b legal s (λ l. ample (subst TellsWant (sym e) (lacks_told_as choice.explains r a l)))
+    s2 (λ l. enough (subst TellsWant (sym e2) (lacks_told_as choice.explains r b l))) in
+    (e ∙ ap (told_of choice.explains r) same.0 ∙ sym e2, same.1)
 
 -- where nothing tells want of memory, a world's procedures are listed in one way
 listed_same : (w : World) (out more : List ℕ) → IsListed w out → (TellsWant out → ⊥) → IsListed w more → (TellsWant more → ⊥) → out ≡ more
@@ -392,43 +430,43 @@ listed_same w out more (inl text) ample (inl other) enough = one_list_text w out
 listed_same w out more (inl text) ample (inr want) enough = absurd (enough (subst TellsWant (sym want) (lacks_told (NotPosted Memory) refl)))
 listed_same w out more (inr want) ample b enough = absurd (ample (subst TellsWant (sym want) (lacks_told (NotPosted Memory) refl)))
 
-action_same : StepIsDetermined → StaysLegal → (steps : ℕ) (action : Action) (old new other : Machine) (out more : List ℕ) → IsLegalState old.state →
-    ActionServes steps action old out new → (TellsWant out → ⊥) → ActionServes steps action old more other → (TellsWant more → ⊥)
+action_same : StepIsDetermined → StaysLegal → (choice : Choice) (action : Action) (old new other : Machine) (out more : List ℕ) → IsLegalState old.state →
+    ActionServes choice action old out new → (TellsWant out → ⊥) → ActionServes choice action old more other → (TellsWant more → ⊥)
     → (out ≡ more) × (new ≡ other)
-action_same determined stays steps (RunText text) old new other out more legal a ample b enough =
-    answers_same determined stays steps old new other _ out more legal a ample b enough
-action_same determined stays steps (UndoCells k) old new other out more legal a ample b enough =
-    answers_same determined stays steps old new other _ out more legal a ample b enough
-action_same determined stays steps (RedoCells k) old new other out more legal a ample b enough =
-    answers_same determined stays steps old new other _ out more legal a ample b enough
-action_same determined stays steps (GoToNode n) old new other out more legal a ample b enough =
-    answers_same determined stays steps old new other _ out more legal a ample b enough
-action_same determined stays steps ShowWorld old new other out more legal a ample b enough = (a.0 ∙ sym b.0, a.1 ∙ sym b.1)
-action_same determined stays steps ListProcedures old new other out more legal a ample b enough =
+action_same determined stays choice (RunText text) old new other out more legal a ample b enough =
+    answers_same determined stays choice old new other _ out more legal a ample b enough
+action_same determined stays choice (UndoCells k) old new other out more legal a ample b enough =
+    answers_same determined stays choice old new other _ out more legal a ample b enough
+action_same determined stays choice (RedoCells k) old new other out more legal a ample b enough =
+    answers_same determined stays choice old new other _ out more legal a ample b enough
+action_same determined stays choice (GoToNode n) old new other out more legal a ample b enough =
+    answers_same determined stays choice old new other _ out more legal a ample b enough
+action_same determined stays choice ShowWorld old new other out more legal a ample b enough = (a.0 ∙ sym b.0, a.1 ∙ sym b.1)
+action_same determined stays choice ListProcedures old new other out more legal a ample b enough =
     (listed_same (here old.state.past) out more a.0 ample b.0 enough, a.1 ∙ sym b.1)
-action_same determined stays steps BadCommand old new other out more legal a ample b enough = (a.0 ∙ sym b.0, a.1 ∙ sym b.1)
+action_same determined stays choice BadCommand old new other out more legal a ample b enough = (a.0 ∙ sym b.0, a.1 ∙ sym b.1)
 
-action_legal : StaysLegal → (steps : ℕ) (action : Action) (old new : Machine) (out : List ℕ) → IsLegalState old.state → ActionServes steps action old out new →
+action_legal : StaysLegal → (choice : Choice) (action : Action) (old new : Machine) (out : List ℕ) → IsLegalState old.state → ActionServes choice action old out new →
     IsLegalState new.state
-action_legal stays steps (RunText text) old new out legal a = serves_legal stays steps legal a.1
-action_legal stays steps (UndoCells k) old new out legal a = serves_legal stays steps legal a.1
-action_legal stays steps (RedoCells k) old new out legal a = serves_legal stays steps legal a.1
-action_legal stays steps (GoToNode n) old new out legal a = serves_legal stays steps legal a.1
-action_legal stays steps ShowWorld old new out legal a = subst (λ (m : Machine). IsLegalState m.state) (sym a.1) legal
-action_legal stays steps ListProcedures old new out legal a = subst (λ (m : Machine). IsLegalState m.state) (sym a.1) legal
-action_legal stays steps BadCommand old new out legal a = subst (λ (m : Machine). IsLegalState m.state) (sym a.1) legal
+action_legal stays choice (RunText text) old new out legal a = serves_legal stays choice.steps legal a.1
+action_legal stays choice (UndoCells k) old new out legal a = serves_legal stays choice.steps legal a.1
+action_legal stays choice (RedoCells k) old new out legal a = serves_legal stays choice.steps legal a.1
+action_legal stays choice (GoToNode n) old new out legal a = serves_legal stays choice.steps legal a.1
+action_legal stays choice ShowWorld old new out legal a = subst (λ (m : Machine). IsLegalState m.state) (sym a.1) legal
+action_legal stays choice ListProcedures old new out legal a = subst (λ (m : Machine). IsLegalState m.state) (sym a.1) legal
+action_legal stays choice BadCommand old new out legal a = subst (λ (m : Machine). IsLegalState m.state) (sym a.1) legal
 
-pub actions_same : StepIsDetermined → StaysLegal → (steps : ℕ) (actions : List Action) (old new other : Machine) (out more : List ℕ) → IsLegalState old.state →
-    ActionsServe steps actions old out new → (TellsWant out → ⊥) → ActionsServe steps actions old more other → (TellsWant more → ⊥)
+pub actions_same : StepIsDetermined → StaysLegal → (choice : Choice) (actions : List Action) (old new other : Machine) (out more : List ℕ) → IsLegalState old.state →
+    ActionsServe choice actions old out new → (TellsWant out → ⊥) → ActionsServe choice actions old more other → (TellsWant more → ⊥)
     → out ≡ more
-actions_same determined stays steps [] old new other out more legal a ample b enough = a.0 ∙ sym b.0
-actions_same determined stays steps (action ∷ rest) old new other out more legal (mid, first, second, s, r, e) ample (mid2, first2, second2, s2, r2, e2)
+actions_same determined stays choice [] old new other out more legal a ample b enough = a.0 ∙ sym b.0
+actions_same determined stays choice (action ∷ rest) old new other out more legal (mid, first, second, s, r, e) ample (mid2, first2, second2, s2, r2, e2)
     enough =
     let told = λ (h : TellsWant (first ++ second)). ample (subst TellsWant (sym e) h) in
     let told2 = λ (h : TellsWant (first2 ++ second2)). enough (subst TellsWant (sym e2) h) in
-    let same = action_same determined stays steps action old mid mid2 first first2 legal s (λ h. told (tells_first first second h)) s2
+    let same = action_same determined stays choice action old mid mid2 first first2 legal s (λ h. told (tells_first first second h)) s2
     (λ h. told2 (tells_first first2 second2 h)) in
-    let later = actions_same determined stays steps rest mid new other second second2 (action_legal stays steps action old mid first legal s) r
+    let later = actions_same determined stays choice rest mid new other second second2 (action_legal stays choice action old mid first legal s) r
     (λ h. told (tells_second first second h))
-    (subst (λ (m : Machine). ActionsServe steps rest m second2 other) (sym same.1) r2) (λ h. told2 (tells_second first2 second2 h)) in
+    (subst (λ (m : Machine). ActionsServe choice rest m second2 other) (sym same.1) r2) (λ h. told2 (tells_second first2 second2 h)) in
     e ∙ ap (λ t. t ++ second) same.0 ∙ ap (λ t. first2 ++ t) later ∙ sym e2

@@ -6,7 +6,7 @@ use Rattle.kernel_core.specs.Language.{Code, CodePart}
 use Rattle.kernel_core.specs.progress.Progress.{Progress}
 use Rattle.kernel_core.specs.progress.Progress.TheVariants.{Went, Ended, Stopped}
 use Rattle.kernel_core.specs.Reached.{Reaches}
-use Rattle.kernel_core.specs.State.{Past, State, Work, Posted, Move, Entered, Job, Idle, Border, Inside, here, code_of}
+use Rattle.kernel_core.specs.State.{Past, State, Work, Posted, Move, Job, Idle, Border, Inside, here, code_of}
 use Rattle.kernel_core.specs.Slices.{cells, stepped, moved, Backs, Arrives, Settles, Comes, SlicesIn, SlicesAt}
 use Rattle.kernel_core.specs.Begins.{Enters}
 use Rattle.kernel_core.specs.Runs.{Machine, IsBegin, BeginsAt, IsSliceOf}

@@ -2,6 +2,7 @@ pub mod CommandLemmas
 pub mod CommandReads
 pub mod CommandWords
 pub mod Determined
+pub mod Explaining
 pub mod Finishing
 pub mod GoingBack
 pub mod InputLemmas

@@ -1,14 +1,13 @@
 -- A request that is served is a run of the machine, and what stops it.
-use Rattle.std.proofs.Common.{◌≡◌, ◌∙◌, ◌≤◌, ◌<◌, ℕ, zero, suc, ◌+◌, ◌-◌, Bool, true, false, List, [], ◌∷◌, ◌++◌, ◌⊎◌, inl, inr, refl, sym, ap, subst, arith}
-use Rattle.std.proofs.Common.{⊎_elim, IsTrue, Result, Ok, Err}
+use Rattle.std.proofs.Common.{◌≡◌, ◌∙◌, ℕ, zero, suc, ◌+◌, ◌-◌, Bool, true, false, List, [], ◌∷◌, ◌++◌, inl, inr, refl, sym, ap, subst, arith}
+use Rattle.std.proofs.Common.{⊎_elim, Ok}
 use Rattle.janus_meaning.specs.World.{World, Cell}
 use Rattle.janus_meaning.specs.Limit.{step_limit}
 use Rattle.janus_meaning.specs.declared.fault.Fault.{Fault}
-use Rattle.kernel_core.specs.LegalState.{IsLegalState}
 use Rattle.kernel_core.specs.Legal.{IsLegal}
 use Rattle.kernel_core.specs.progress.Progress.{Progress}
 use Rattle.kernel_core.specs.progress.Progress.TheVariants.{Went, Ended, Stopped}
-use Rattle.kernel_core.specs.State.{Past, State, Work, Posted, Move, Job, Idle, Border, Inside, is_full}
+use Rattle.kernel_core.specs.State.{Past, State, Posted, Job, Idle, Inside}
 use Rattle.kernel_core.specs.Slices.{Backs, Comes, SlicesIn, SlicesAt, turned}
 use Rattle.kernel_core.specs.Begins.{TakesCell}
 use Rattle.kernel_core.specs.Runs.{Machine, IsPost, IsBegin, IsSliceOf, BeginsAt, TakesUnless, Run, IsNext}
@@ -18,7 +17,7 @@ use Rattle.kernel_core.specs.heading.Why.TheVariants.{WasAsked, Faulted}
 use Rattle.kernel_core.specs.heading.Heading.{Heading}
 use Rattle.kernel_core.specs.heading.Heading.TheVariants.{GoesOn, GoesBack as TurnedBack}
 use Rattle.kernel_core.specs.Theorems.{EndsAs, JobsEnd, WasStopped, HasAsked, OnlyAskedSlicesStop}
-use Rattle.kernel_core.specs.Ends.{EndsUnless, JobEnds, CellEnds, TextEnds}
+use Rattle.kernel_core.specs.Ends.{EndsUnless, JobEnds, CellEnds}
 use Rattle.kernel_core.specs.events.Event.{Event}
 use Rattle.kernel_core.specs.events.Event.TheVariants as event
 use Rattle.kernel_core.specs.events.Told.{Told}

@@ -1,12 +1,9 @@
 -- A request that is posted to a kernel without an open job is the one that is begun.
-use Rattle.std.proofs.Common.{◌≡◌, ℕ, ◌+◌, zero, suc, Bool, true, false, List, [], ◌∷◌, ◌++◌, Ok, Err, refl, ap, ◌∙◌, sym, subst, ⊎_elim}
-use Rattle.kernel_core.specs.State.{Past, State, Job, Idle, Border}
-use Rattle.kernel_core.specs.Begins.{travel_to, Enters, Departs, TakesCell, TakesMove, TakesGoto}
-use Rattle.kernel_core.specs.Runs.{Machine, Takes, TakesUnless, BeginsAt, IsPost, IsBegin, IsSliceOf}
+use Rattle.std.proofs.Common.{◌≡◌, ℕ, Bool, true, false, List, [], ◌∷◌, ◌++◌, Ok, Err, refl, ap, ◌∙◌, sym, subst, ⊎_elim}
+use Rattle.kernel_core.specs.State.{Past, State, Idle, Border}
+use Rattle.kernel_core.specs.Begins.{TakesCell}
+use Rattle.kernel_core.specs.Runs.{Machine, TakesUnless, BeginsAt, IsPost, IsBegin, IsSliceOf}
 use Rattle.kernel_core.specs.Request.{Request, RunCell, Undo, Redo, Goto}
-use Rattle.kernel_core.specs.travel.Aim.TheVariants as aim
-use Rattle.kernel_core.specs.travel.Travel.{Travel}
-use Rattle.kernel_core.specs.Slices.{cells}
 use Rattle.kernel_core.specs.post.PostFault.{PostFault}
 use Rattle.kernel_core.specs.outcome.Begun.{Begun}
 use Rattle.kernel_core.specs.outcome.Begun.TheVariants as begun
@@ -14,7 +11,7 @@ use Rattle.kernel_core.specs.outcome.Outcome.{Outcome}
 use Rattle.kernel_core.specs.outcome.Sliced.{Sliced}
 use Rattle.cells_program.specs.OpenJob.{IsInCell, is_cell}
 use Rattle.cells_program.specs.Served.{lane, CellFinishes, Finishes, FinishesAs}
-use Rattle.kernel_core.proofs.Taken.{IsInside, IsBorder, Took, taken_took}
+use Rattle.kernel_core.proofs.Taken.{IsBorder, Took, taken_took}
 
 -- a cell that is taken and goes is entered
 cell_in : (s : Past) (text : List ℕ) (full : Bool) (new : State) → TakesCell s text full begun.Going new → IsInCell new.job

@@ -1,7 +1,10 @@
--- Which words of a command line run, and how many steps they give each cell.
-use Rattle.std.specs.Prelude.{◌≡◌, ◌≤◌, ℕ, List, [], ◌∷◌, ◌++◌, codes}
+-- Which words of a command line run, how many steps they give each cell, and whether they ask for explanations.
+use Rattle.std.specs.Prelude.{◌≡◌, ◌≤◌, ℕ, Bool, List, [], ◌∷◌, ◌++◌, codes, drop, filter, not, ◌||◌, if◌then◌else◌}
+use Rattle.std.specs.List.{list_any}
+use Rattle.std.specs.Str.{bytes_eq}
 use Rattle.std.specs.Str.Parse.{IsNumeral, digits_value, without_leading_plus}
 use Rattle.janus_meaning.specs.Limit.{step_limit}
+use Rattle.cells_program.specs.declared.choice.Choice.{Choice}
 
 -- the number of steps where the words name none
 abbrev pub default_steps : ℕ
@@ -27,3 +30,20 @@ pub data Runs : List (List ℕ) → ℕ → Type 0 where
   with_option : {name : List ℕ} {option : List (List ℕ)} {n : ℕ} → Chooses option n → Runs (name ∷ option) n
   with_end : {name : List ℕ} {option : List (List ℕ)} {n : ℕ}
       → Chooses option n → Runs (name ∷ (option ++ codes "--" ∷ [])) n
+
+-- the word that asks for explanations
+abbrev pub is_explain : List ℕ → Bool
+is_explain word = bytes_eq word (codes "--explain")
+
+-- the words but those; the first one is the program's name, whatever it is
+abbrev pub plain_words : List (List ℕ) → List (List ℕ)
+plain_words [] = []
+plain_words (name ∷ words) = name ∷ filter (λ word. not (is_explain word)) words
+
+-- words that run for this choice: behind the name those that ask for explanations may stand anywhere, and the others run for its steps
+abbrev pub RunsFor : List (List ℕ) → Choice → Type 0
+RunsFor words choice = Runs (plain_words words) choice.steps × (choice.explains ≡ list_any is_explain (drop 1 words))
+
+-- what one more word adds to the plain ones: a word for the contract of a private function
+abbrev pub plain_of : Bool → List ℕ → List (List ℕ)
+plain_of is_name word = if is_name || not (is_explain word) then word ∷ [] else []

@@ -8,6 +8,8 @@ pub mod Shown
 pub mod ByName
 pub mod Listing
 pub mod Script
+pub mod Place
+pub mod Explained
 pub mod Transcript
 pub mod Loop
 pub mod Gathering

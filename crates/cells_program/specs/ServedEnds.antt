@@ -1,5 +1,5 @@
 -- What a served request comes to, in the kernel's own words: the laws above `Served`.
-use Rattle.std.specs.Prelude.{◌≡◌, ℕ, Bool, true, false, List, [], ◌∷◌, Ok}
+use Rattle.std.specs.Prelude.{◌≡◌, ℕ, true, List, [], ◌∷◌, Ok}
 use Rattle.kernel_core.specs.LegalState.{IsLegalState}
 use Rattle.kernel_core.specs.Request.{Request}
 use Rattle.kernel_core.specs.Runs.{Machine, IsPost, Run}

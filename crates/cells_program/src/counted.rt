@@ -3,8 +3,9 @@ ghost use Rattle.std.specs.Prelude.{◌≡◌, ◌≢◌, ◌+◌, ◌<◌, ℕ,
 ghost use Rattle.std.specs.Io.KnownBytes.{Appends, Keeps};
 ghost use Rattle.exact_write.specs.Sent.{SentSome};
 ghost use Rattle.cells_program.specs.RunFault.{IsServed, IsWhyUnread, TakesAtMost, input_limit};
-ghost use Rattle.cells_program.specs.Transcript.{IsTranscript};
+ghost use Rattle.cells_program.specs.Transcript.{IsTranscriptFor};
 
+use crate::choice::Choice;
 use crate::fault::RunFault;
 use crate::input::read_text;
 use crate::transcript::run_text;
@@ -13,11 +14,11 @@ use std::alloc::Global;
 use std::io::{Read, Write};
 use std::sync::ledger::{Blank, Ledger};
 
-/// Does what [`run`](crate::transcript::run) says. The blank opens the ledger of the kernel.
+/// Does what [`run_for`](crate::transcript::run_for) says. The blank opens the ledger of the kernel.
 pub(crate) fn run_counted<L: Ledger, R: Read, W: Write>(
     alloc: Global,
     blank: Blank,
-    steps: u64,
+    choice: Choice,
     reader: &mut R,
     writer: &mut W,
 ) -> Result<(), RunFault>
@@ -25,11 +26,11 @@ pub(crate) fn run_counted<L: Ledger, R: Read, W: Write>(
     requires parts { blank.parts ≡ L.parts }
     requires some { 0 < L.parts }
     ensures written { OnOk result (IfSome (R.remaining reader.old) (λ input.
-        (out : List ℕ) × IsTranscript steps input out × Appends (W.contents writer.old) (W.contents writer.new) out)) }
+        (out : List ℕ) × IsTranscriptFor choice input out × Appends (W.contents writer.old) (W.contents writer.new) out)) }
     ensures served { MatchResult result (λ _. IfSome (R.remaining reader.old) IsServed)
         (λ fault. fault ≡ RunFault.Write → IfSome (R.remaining reader.old) IsServed) }
     ensures cut { IfErr result (λ fault. fault ≡ RunFault.Write → IfSome (R.remaining reader.old) (λ input.
-        (out : List ℕ) × IsTranscript steps input out × SentSome (W.contents writer.old) (W.contents writer.new) out)) }
+        (out : List ℕ) × IsTranscriptFor choice input out × SentSome (W.contents writer.old) (W.contents writer.new) out)) }
     ensures unread { IfErr result (λ fault. fault ≢ RunFault.Write → IfSome (R.remaining reader.old) (IsWhyUnread fault)) }
     ensures unwritten { IfErr result (λ fault. fault ≢ RunFault.Write → Keeps (W.contents writer.old) (W.contents writer.new)) }
     ensures taken { TakesAtMost (input_limit + 1) (R.remaining reader.old) (R.remaining reader.new) }
@@ -46,7 +47,7 @@ pub(crate) fn run_counted<L: Ledger, R: Read, W: Write>(
             return Err(fault);
         }
     };
-    let served = run_text(alloc, steps, &mut kernel, &text, writer);
+    let served = run_text(alloc, choice, &mut kernel, &text, writer);
     kernel.discard();
     match served {
         Ok(()) => Ok(()),

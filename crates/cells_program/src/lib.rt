@@ -6,14 +6,17 @@
 //! those whose octets are known, as over memory, and std's `Stdin` and `Stdout` tell none. [`program`] takes the words of the
 //! command line before it; `serve` brings one request of a
 //! kernel to its end; [`laws`] says that an input has at most one transcript that nowhere tells want of memory, and how a request
-//! that is served ends; `fault` and `words` say with which status and line the program ends. The language is Janus (Yokoyama and Glück 2007).
+//! that is served ends; `explanation` writes behind a refused text where and why it is refused, in words, if the command line asks
+//! for it; `fault` and `words` say with which status and line the program ends. The language is Janus (Yokoyama and Glück 2007).
 //!
 //! It gives `WriteFailed` of `kernel_text` again, which its transcript answers.
 #![tactic(auto)]
 
+mod choice;
 mod command;
 mod command_line;
 mod counted;
+mod explanation;
 mod fault;
 mod gathered;
 mod input;
@@ -21,14 +24,16 @@ pub mod laws;
 mod lines;
 mod listing;
 mod output;
+mod place;
 mod serve;
 mod transcript;
 mod words;
 
+pub use choice::Choice;
 pub use command_line::{program, without_output};
 pub use fault::{RunFault, status};
 pub use input::INPUT_LIMIT;
 pub use kernel_text::WriteFailed;
 pub use output::send_run_fault;
 pub use transcript::run;
-pub use words::{steps_of, unread_words_status, words_status};
+pub use words::{choice_of, steps_of, unread_words_status, words_status};

@@ -14,15 +14,16 @@ ghost use Rattle.cells_program.specs.RunFault.{IsServed, IsWhyUnread, TakesAtMos
 ghost use Rattle.cells_program.specs.Script.{script};
 ghost use Rattle.cells_program.specs.Served.{Came, Serves};
 ghost use Rattle.cells_program.specs.Shown.{world_text};
-ghost use Rattle.cells_program.specs.Transcript.{ActionsServe, IsTranscript, came_line};
+ghost use Rattle.cells_program.specs.Transcript.{ActionsServe, IsTranscript, IsTranscriptFor, came_line, told_cell};
 
+use crate::choice::Choice;
 use crate::command::Command;
 use crate::counted::run_counted;
 use crate::fault::RunFault;
 use crate::gathered::Gathered;
 use crate::lines::{is_command_line, split_line};
 use crate::listing::list_text;
-use crate::output::{send_outcome, send_position, send_post_fault, send_value};
+use crate::output::{send_outcome, send_position, send_post_fault, send_told, send_value};
 use crate::serve::serve;
 use kernel_core::{CellText, Job, Kernel, PostFault};
 use kernel_text::{WriteFailed, send};
@@ -60,31 +61,57 @@ pub fn run<R: Read, W: Write>(
     ensures within { MatchResult result (λ _. TakesAtMost input_limit (R.remaining reader.old) (R.remaining reader.new))
         (λ fault. fault ≢ RunFault.TooLong → TakesAtMost input_limit (R.remaining reader.old) (R.remaining reader.new)) }
 {
-    run_counted::<Brand, R, W>(alloc, Blank::new(1), steps, reader, writer)
+    let choice = Choice {
+        steps,
+        explains: false,
+    };
+    run_for(alloc, choice, reader, writer)
+}
+
+/// Does what [`run`] says, for what the words of a command line choose.
+pub(crate) fn run_for<R: Read, W: Write>(
+    alloc: Global,
+    choice: Choice,
+    reader: &mut R,
+    writer: &mut W,
+) -> Result<(), RunFault>
+    ensures written { OnOk result (IfSome (R.remaining reader.old) (λ input.
+        (out : List ℕ) × IsTranscriptFor choice input out × Appends (W.contents writer.old) (W.contents writer.new) out)) }
+    ensures served { MatchResult result (λ _. IfSome (R.remaining reader.old) IsServed)
+        (λ fault. fault ≡ RunFault.Write → IfSome (R.remaining reader.old) IsServed) }
+    ensures cut { IfErr result (λ fault. fault ≡ RunFault.Write → IfSome (R.remaining reader.old) (λ input.
+        (out : List ℕ) × IsTranscriptFor choice input out × SentSome (W.contents writer.old) (W.contents writer.new) out)) }
+    ensures unread { IfErr result (λ fault. fault ≢ RunFault.Write → IfSome (R.remaining reader.old) (IsWhyUnread fault)) }
+    ensures unwritten { IfErr result (λ fault. fault ≢ RunFault.Write → Keeps (W.contents writer.old) (W.contents writer.new)) }
+    ensures taken { TakesAtMost (input_limit + 1) (R.remaining reader.old) (R.remaining reader.new) }
+    ensures within { MatchResult result (λ _. TakesAtMost input_limit (R.remaining reader.old) (R.remaining reader.new))
+        (λ fault. fault ≢ RunFault.TooLong → TakesAtMost input_limit (R.remaining reader.old) (R.remaining reader.new)) }
+{
+    run_counted::<Brand, R, W>(alloc, Blank::new(1), choice, reader, writer)
 }
 
 /// Runs the lines of a text, and then what is still gathered.
 pub(crate) fn run_text<L: Ledger, W: Write>(
     alloc: Global,
-    steps: u64,
+    choice: Choice,
     kernel: &mut Kernel<L>,
     text: &str,
     writer: &mut W,
 ) -> Result<(), WriteFailed>
     requires idle { kernel.old.machine.state.job ≡ Idle }
     requires alone { kernel.old.machine.queue ≡ [] }
-    ensures ok { OnOk result ((out : List ℕ) × (new : Machine) × ActionsServe steps (script text.now) kernel.old.machine out new
+    ensures ok { OnOk result ((out : List ℕ) × (new : Machine) × ActionsServe choice (script text.now) kernel.old.machine out new
         × Appends (W.contents writer.old) (W.contents writer.new) out) }
-    ensures err { OnErr result ((out : List ℕ) × (new : Machine) × ActionsServe steps (script text.now) kernel.old.machine out new
+    ensures err { OnErr result ((out : List ℕ) × (new : Machine) × ActionsServe choice (script text.now) kernel.old.machine out new
         × SentSome (W.contents writer.old) (W.contents writer.new) out) }
 {
     let mut gathered = Gathered::new(alloc);
     let mut rest = text;
     while let Some((line, more)) = split_line(rest) {
-        run_line(alloc, steps, kernel, &mut gathered, line, writer)?;
+        run_line(alloc, choice, kernel, &mut gathered, line, writer)?;
         rest = more;
     }
-    run_end(alloc, steps, kernel, &mut gathered, rest, writer)?;
+    run_end(alloc, choice, kernel, &mut gathered, rest, writer)?;
     match writer.flush() {
         Ok(()) => Ok(()),
         Err(_) => Err(WriteFailed),
@@ -94,7 +121,7 @@ pub(crate) fn run_text<L: Ledger, W: Write>(
 /// Runs what is behind the last LF, a line unless it is empty, and then what is still gathered.
 fn run_end<L: Ledger, W: Write>(
     alloc: Global,
-    steps: u64,
+    choice: Choice,
     kernel: &mut Kernel<L>,
     gathered: &mut Gathered,
     rest: &str,
@@ -104,23 +131,23 @@ fn run_end<L: Ledger, W: Write>(
     requires alone { kernel.old.machine.queue ≡ [] }
     requires last { position_or_len (λ b. b == 10) rest.now ≡ length rest.now }
     ensures ok { OnOk result ((text : List ℕ) → IsGathered gathered.old text →
-        (out : List ℕ) × LinesServe steps kernel.old.machine text (lines rest.now) out kernel.new.machine
+        (out : List ℕ) × LinesServe choice kernel.old.machine text (lines rest.now) out kernel.new.machine
         × Appends (W.contents writer.old) (W.contents writer.new) out) }
     ensures err { OnErr result ((text : List ℕ) → IsGathered gathered.old text →
-        (out : List ℕ) × (new : Machine) × LinesServe steps kernel.old.machine text (lines rest.now) out new
+        (out : List ℕ) × (new : Machine) × LinesServe choice kernel.old.machine text (lines rest.now) out new
         × SentSome (W.contents writer.old) (W.contents writer.new) out) }
 {
     if rest.is_empty() {
-        return run_rest(alloc, steps, kernel, gathered, writer);
+        return run_rest(alloc, choice, kernel, gathered, writer);
     }
-    run_line(alloc, steps, kernel, gathered, rest, writer)?;
-    run_rest(alloc, steps, kernel, gathered, writer)
+    run_line(alloc, choice, kernel, gathered, rest, writer)?;
+    run_rest(alloc, choice, kernel, gathered, writer)
 }
 
 /// Gathers a line, or does what it commands.
 fn run_line<L: Ledger, W: Write>(
     alloc: Global,
-    steps: u64,
+    choice: Choice,
     kernel: &mut Kernel<L>,
     gathered: &mut Gathered,
     line: &str,
@@ -133,23 +160,23 @@ fn run_line<L: Ledger, W: Write>(
     ensures gathers { (text : List ℕ) → IsGathered gathered.old text →
         IsGathered gathered.new (text_after text line.now) }
     ensures ok { OnOk result ((text : List ℕ) → IsGathered gathered.old text →
-        (out : List ℕ) × LineServes steps kernel.old.machine text line.now out kernel.new.machine
+        (out : List ℕ) × LineServes choice kernel.old.machine text line.now out kernel.new.machine
         × Appends (W.contents writer.old) (W.contents writer.new) out) }
     ensures err { OnErr result ((text : List ℕ) → IsGathered gathered.old text →
-        (out : List ℕ) × (new : Machine) × LineServes steps kernel.old.machine text line.now out new
+        (out : List ℕ) × (new : Machine) × LineServes choice kernel.old.machine text line.now out new
         × SentSome (W.contents writer.old) (W.contents writer.new) out) }
 {
     if !is_command_line(line) {
         gathered.add(line);
         return Ok(());
     }
-    run_command(alloc, steps, kernel, gathered, Command::read(line), writer)
+    run_command(alloc, choice, kernel, gathered, Command::read(line), writer)
 }
 
 /// Does what a command asks for. Before any but `%%`, which runs the gathered text in any case, that is run unless it is blank.
 fn run_command<L: Ledger, W: Write>(
     alloc: Global,
-    steps: u64,
+    choice: Choice,
     kernel: &mut Kernel<L>,
     gathered: &mut Gathered,
     command: Command,
@@ -161,23 +188,23 @@ fn run_command<L: Ledger, W: Write>(
     ensures alone { kernel.new.machine.queue ≡ [] }
     ensures taken { IsGathered gathered.new [] }
     ensures ok { OnOk result ((text : List ℕ) → IsGathered gathered.old text →
-        (out : List ℕ) × CommandServes steps command kernel.old.machine text out kernel.new.machine
+        (out : List ℕ) × CommandServes choice command kernel.old.machine text out kernel.new.machine
         × Appends (W.contents writer.old) (W.contents writer.new) out) }
     ensures err { OnErr result ((text : List ℕ) → IsGathered gathered.old text →
-        (out : List ℕ) × (new : Machine) × CommandServes steps command kernel.old.machine text out new
+        (out : List ℕ) × (new : Machine) × CommandServes choice command kernel.old.machine text out new
         × SentSome (W.contents writer.old) (W.contents writer.new) out) }
 {
     if let Command::Run = command {
-        return run_cell(alloc, steps, kernel, gathered, writer);
+        return run_cell(alloc, choice, kernel, gathered, writer);
     }
-    run_rest(alloc, steps, kernel, gathered, writer)?;
-    obey(alloc, steps, kernel, command, writer)
+    run_rest(alloc, choice, kernel, gathered, writer)?;
+    obey(alloc, choice, kernel, command, writer)
 }
 
 /// Does what a command other than `%%` asks for.
 fn obey<L: Ledger, W: Write>(
     alloc: Global,
-    steps: u64,
+    choice: Choice,
     kernel: &mut Kernel<L>,
     command: Command,
     writer: &mut W,
@@ -187,15 +214,15 @@ fn obey<L: Ledger, W: Write>(
     requires alone { kernel.old.machine.queue ≡ [] }
     ensures idle { kernel.new.machine.state.job ≡ Idle }
     ensures alone { kernel.new.machine.queue ≡ [] }
-    ensures ok { OnOk result ((out : List ℕ) × Does steps command kernel.old.machine out kernel.new.machine
+    ensures ok { OnOk result ((out : List ℕ) × Does choice command kernel.old.machine out kernel.new.machine
         × Appends (W.contents writer.old) (W.contents writer.new) out) }
-    ensures err { OnErr result ((out : List ℕ) × Does steps command kernel.old.machine out kernel.new.machine
+    ensures err { OnErr result ((out : List ℕ) × Does choice command kernel.old.machine out kernel.new.machine
         × SentSome (W.contents writer.old) (W.contents writer.new) out) }
 {
     match command {
-        Command::Undo(k) => run_job(steps, kernel, Job::Undo(k), writer),
-        Command::Redo(k) => run_job(steps, kernel, Job::Redo(k), writer),
-        Command::Goto(n) => run_job(steps, kernel, Job::Goto(n), writer),
+        Command::Undo(k) => run_job(choice.steps, kernel, Job::Undo(k), writer),
+        Command::Redo(k) => run_job(choice.steps, kernel, Job::Redo(k), writer),
+        Command::Goto(n) => run_job(choice.steps, kernel, Job::Goto(n), writer),
         Command::Show => show(kernel, writer),
         Command::List => list(alloc, kernel, writer),
         Command::Run | Command::Unknown => send(writer, b"refused 80 BadCommand\n"),
@@ -205,7 +232,7 @@ fn obey<L: Ledger, W: Write>(
 /// Runs the gathered text as a cell, unless it is blank; it is gathered no longer.
 fn run_rest<L: Ledger, W: Write>(
     alloc: Global,
-    steps: u64,
+    choice: Choice,
     kernel: &mut Kernel<L>,
     gathered: &mut Gathered,
     writer: &mut W,
@@ -216,14 +243,14 @@ fn run_rest<L: Ledger, W: Write>(
     ensures alone { kernel.new.machine.queue ≡ [] }
     ensures taken { IsGathered gathered.new [] }
     ensures ok { OnOk result ((text : List ℕ) → IsGathered gathered.old text →
-        (out : List ℕ) × RunsRest steps kernel.old.machine text out kernel.new.machine
+        (out : List ℕ) × RunsRest choice kernel.old.machine text out kernel.new.machine
         × Appends (W.contents writer.old) (W.contents writer.new) out) }
     ensures err { OnErr result ((text : List ℕ) → IsGathered gathered.old text →
-        (out : List ℕ) × RunsRest steps kernel.old.machine text out kernel.new.machine
+        (out : List ℕ) × RunsRest choice kernel.old.machine text out kernel.new.machine
         × SentSome (W.contents writer.old) (W.contents writer.new) out) }
 {
     if gathered.has_text {
-        return run_cell(alloc, steps, kernel, gathered, writer);
+        return run_cell(alloc, choice, kernel, gathered, writer);
     }
     let _blank = gathered.take(alloc);
     Ok(())
@@ -232,7 +259,7 @@ fn run_rest<L: Ledger, W: Write>(
 /// Runs the gathered text as a cell; it is gathered no longer.
 fn run_cell<L: Ledger, W: Write>(
     alloc: Global,
-    steps: u64,
+    choice: Choice,
     kernel: &mut Kernel<L>,
     gathered: &mut Gathered,
     writer: &mut W,
@@ -243,24 +270,45 @@ fn run_cell<L: Ledger, W: Write>(
     ensures alone { kernel.new.machine.queue ≡ [] }
     ensures taken { IsGathered gathered.new [] }
     ensures ok { OnOk result ((text : List ℕ) → IsGathered gathered.old text →
-        (came : Came) × Serves steps kernel.old.machine (RunCell text false true) came kernel.new.machine
-        × Appends (W.contents writer.old) (W.contents writer.new) (ended_line (came_line came))) }
+        (came : Came) × Serves choice.steps kernel.old.machine (RunCell text false true) came kernel.new.machine
+        × Appends (W.contents writer.old) (W.contents writer.new) (told_cell choice.explains text came)) }
     ensures err { OnErr result ((text : List ℕ) → IsGathered gathered.old text →
-        (came : Came) × Serves steps kernel.old.machine (RunCell text false true) came kernel.new.machine
-        × SentSome (W.contents writer.old) (W.contents writer.new) (ended_line (came_line came))) }
+        (came : Came) × Serves choice.steps kernel.old.machine (RunCell text false true) came kernel.new.machine
+        × SentSome (W.contents writer.old) (W.contents writer.new) (told_cell choice.explains text came)) }
 {
     match shared_text(alloc, gathered) {
-        Some(code) => run_job(
-            steps,
-            kernel,
-            Job::Cell {
-                code,
-                silent: false,
-                store: true,
-            },
-            writer,
-        ),
+        Some(code) => run_code(choice, kernel, code, writer),
         None => send_post_fault(writer, lost_text(kernel)),
+    }
+}
+
+/// Runs a cell of this text, and writes what came of it.
+fn run_code<L: Ledger, W: Write>(
+    choice: Choice,
+    kernel: &mut Kernel<L>,
+    code: CellText,
+    writer: &mut W,
+) -> Result<(), WriteFailed>
+    requires idle { kernel.old.machine.state.job ≡ Idle }
+    requires alone { kernel.old.machine.queue ≡ [] }
+    ensures ok { OnOk result ((came : Came) × Serves choice.steps kernel.old.machine (RunCell code false true) came kernel.new.machine
+        × Appends (W.contents writer.old) (W.contents writer.new) (told_cell choice.explains code came)) }
+    ensures err { OnErr result ((came : Came) × Serves choice.steps kernel.old.machine (RunCell code false true) came kernel.new.machine
+        × SentSome (W.contents writer.old) (W.contents writer.new) (told_cell choice.explains code came)) }
+    ensures idle { kernel.new.machine.state.job ≡ Idle }
+    ensures alone { kernel.new.machine.queue ≡ [] }
+{
+    let Ok(text) = code.clone() else {
+        return send_post_fault(writer, lost_text(kernel));
+    };
+    let job = Job::Cell {
+        code,
+        silent: false,
+        store: true,
+    };
+    match serve(kernel, choice.steps, job) {
+        Ok(outcome) => send_told(writer, choice.explains, text.as_str(), &outcome),
+        Err(fault) => send_post_fault(writer, fault),
     }
 }
 
@@ -284,7 +332,7 @@ fn lost_text<L: Ledger>(kernel: &Kernel<L>) -> PostFault
     }
 }
 
-/// Brings a job to its end, and writes what came of it.
+/// Brings a job that is no cell to its end, and writes what came of it.
 fn run_job<L: Ledger, W: Write>(
     steps: u64,
     kernel: &mut Kernel<L>,

@@ -1,5 +1,5 @@
 //! The program over its command line and its two output streams.
-ghost use Rattle.std.specs.Prelude.{◌≡◌, ◌≢◌, string_bytes, IfOk, IfErr, OnErr};
+ghost use Rattle.std.specs.Prelude.{◌≡◌, ◌≢◌, codes, string_bytes, IfOk, IfErr, OnErr};
 ghost use Rattle.console_talk.specs.Faults.{status_of as fault_status};
 ghost use Rattle.console_talk.specs.Lines.{status_of as told_status};
 ghost use Rattle.console_words.specs.Refusals.{status_of as refusal_status};
@@ -62,12 +62,20 @@ fn socket_fault(error: io::Error) -> ConsoleFault {
     }
 }
 
+/// Where a kernel is that listens at this `ip` of its connection file: for each interface of the machine Jupyter writes `*`.
+fn address_of(ip: &str) -> &str
+    ensures every { ip.now ≡ codes "*" → result.now ≡ codes "127.0.0.1" }
+    ensures other { ip.now ≢ codes "*" → result.now ≡ ip.now }
+{
+    if ip == "*" { "127.0.0.1" } else { ip }
+}
+
 /// Connects to a port of the kernel.
 fn dial<R>(rt: &R, file: &Connection, port: u16) -> Result<TcpStream, ConsoleFault>
 where
     R: Net<Listener = TcpListener, Stream = TcpStream>,
 {
-    let ip = file.ip.as_str();
+    let ip = address_of(&file.ip);
     let stream = match TcpStream::connect(rt, (ip, port)) {
         Ok(stream) => stream,
         Err(error) => return Err(socket_fault(error)),

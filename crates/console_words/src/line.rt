@@ -1,5 +1,6 @@
 //! The program's command line, as `clap` reads it.
 use clap::{Arg, Command};
+use program_words::VERSION;
 use std::alloc::{AllocError, Global};
 
 /// The id of the connection file.
@@ -96,6 +97,7 @@ fn connect<'a>(alloc: Global) -> Arg<'a> {
 fn bare<'a>(alloc: Global) -> Result<Command<'a>, AllocError> {
     Command::new(alloc, "janus-console")
         .bin_name("janus-console")?
+        .version(VERSION)
         .about("Has a running kernel of Janus do one thing, and prints what came of it.")
         .subcommand_required(true)
         .disable_help_subcommand(true)

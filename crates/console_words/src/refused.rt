@@ -10,7 +10,7 @@ use std::alloc::{AllocError, Global};
 /// Why the words ask for nothing that the kernel is to do.
 #[derive(Clone, Copy)]
 pub enum RefusalKind {
-    /// They ask for the help.
+    /// They ask for the help or the version.
     Help,
     /// They are wrong.
     Wrong,
@@ -19,7 +19,7 @@ pub enum RefusalKind {
 }
 
 impl RefusalKind {
-    /// The status with which the program ends: 0 for the help, 2 for wrong words, 3 for want of memory.
+    /// The status with which the program ends: 0 for the help or the version, 2 for wrong words, 3 for want of memory.
     pub fn status(self) -> u8
         ensures { result ≡ table.status_of self }
     {
@@ -36,7 +36,7 @@ impl RefusalKind {
 pub struct Refused {
     /// Why.
     pub kind: RefusalKind,
-    /// The help, or what is wrong; empty for want of memory.
+    /// The help, the version, or what is wrong; empty for want of memory.
     pub text: String,
 }
 

@@ -1,13 +1,19 @@
 //! What is opened before anything is served: the connection file and the five sockets.
+ghost use Rattle.std.specs.Prelude.{◌≡◌, ◌≢◌, codes};
+
 use crate::fault::ProgramFault;
 use jupyter_msg::{Connection, MsgFault, Setting};
 use kernel_places::Listeners;
 use kernel_sockets::Listener;
 use std::alloc::Global;
 use std::fs;
-use std::io::ErrorKind;
+use std::io::{ErrorKind, Write};
 use std::net::{Net, TcpListener, TcpStream};
+use std::os::unix::fs::PermissionsExt;
 use std::rt::Files;
+
+/// The bits of a file's mode by which its group and all others read it.
+const OTHERS_READ: u32 = 0o044;
 
 /// Reads the connection file.
 ///
@@ -31,6 +37,22 @@ pub(crate) fn connection_of<R: Files>(
     }
 }
 
+/// Tells that other users of this machine can read the connection file, where that is so: who has its key can run cells. A fault of the stream, and a file
+/// whose mode can't be had, are passed over.
+pub(crate) fn tell_readers<R: Files, E: Write>(rt: &R, path: &str, err: &mut E) {
+    let Ok(metadata) = fs::metadata(rt, path) else {
+        return;
+    };
+    if metadata.permissions().mode() & OTHERS_READ == 0 {
+        return;
+    }
+    let _ = writeln!(
+        err,
+        "janus-kernel: other users can read {path}, and who has its key can run cells; chmod 600 keeps them out"
+    );
+    let _ = err.flush();
+}
+
 /// Binds one socket.
 fn bind<R: Net<Listener = TcpListener, Stream = TcpStream>>(
     rt: &R,
@@ -45,6 +67,14 @@ fn bind<R: Net<Listener = TcpListener, Stream = TcpStream>>(
     }
 }
 
+/// The address that a connection file's `ip` stands for: Jupyter writes `*` for each interface of the machine.
+fn address_of(ip: &str) -> &str
+    ensures every { ip.now ≡ codes "*" → result.now ≡ codes "0.0.0.0" }
+    ensures other { ip.now ≢ codes "*" → result.now ≡ ip.now }
+{
+    if ip == "*" { "0.0.0.0" } else { ip }
+}
+
 /// Binds the five sockets of a connection file, in the order of its fields.
 ///
 /// # Errors
@@ -54,7 +84,7 @@ pub(crate) fn listeners_of<R: Net<Listener = TcpListener, Stream = TcpStream>>(
     rt: &R,
     file: &Connection,
 ) -> Result<Listeners, ProgramFault> {
-    let ip = file.ip.as_str();
+    let ip = address_of(&file.ip);
     let shell = bind(rt, ip, file.shell_port, Setting::ShellPort)?;
     let iopub = bind(rt, ip, file.iopub_port, Setting::IopubPort)?;
     let stdin = bind(rt, ip, file.stdin_port, Setting::StdinPort)?;

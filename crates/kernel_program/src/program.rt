@@ -5,7 +5,7 @@ ghost use Rattle.program_words.specs.Status.{status_of};
 ghost use Rattle.kernel_places.specs.limit.TheConstants.{PARTS_OF_POSTS};
 
 use crate::fault::ProgramFault;
-use crate::opening::{connection_of, listeners_of};
+use crate::opening::{connection_of, listeners_of, tell_readers};
 use crate::words::file_of;
 use clap::Error;
 use clap::error::ErrorKind as ClapErrorKind;
@@ -31,7 +31,7 @@ use std::sync::ledger::{Blank, Ledger};
 use std::thread::Threads;
 use std::time::Clock;
 
-/// The status of a program that was shut down, or told its help.
+/// The status of a program that was shut down, or told its help or its version.
 const DONE: u8 = 0;
 
 /// Each place of shell and of control has a ringer's seat.
@@ -154,6 +154,7 @@ where
         + Sync,
 {
     let file = connection_of(rt, alloc, path)?;
+    tell_readers(rt, path, err);
     let listeners = listeners_of(rt, &file)?;
     tell_reach(&listeners, &file.ip, err);
     let key = Key::new(file.key.into_bytes());
@@ -170,7 +171,7 @@ where
     )
 }
 
-/// Tells why words run nothing: the help to the output, all else to the errors. A fault of the streams is passed over.
+/// Tells why words run nothing: the help and the version to the output, all else to the errors. A fault of the streams is passed over.
 fn refuse_words<O: Write, E: Write>(error: &Error, out: &mut O, err: &mut E) -> u8
     ensures { result ≡ status_of 1 (kind_of error.now) }
 {
@@ -201,9 +202,10 @@ pub fn refuse_unread_words<E: Write>(kind: ErrorKind, err: &mut E) -> u8
 }
 
 /// The program `janus-kernel`, over the words of its command line, of which the first is its name, and its two output streams: it serves
-/// the sockets of the connection file until a shutdown, and answers its status. 0 after a shutdown, and for help; 2 for wrong words or a
+/// the sockets of the connection file until a shutdown, and answers its status. 0 after a shutdown, for help and for the version; 2 for wrong words or a
 /// wrong connection file, 3 where a socket can't be bound, 1 where there is no memory at the start, each with a line to the errors. A
-/// line there also tells that the sockets are not of the loopback. A fault of the two streams is passed over.
+/// line there also tells that the sockets are not of the loopback, and one that other users can read the connection file. A fault of the two streams is
+/// passed over.
 pub fn kernel_main<R, S: AsStr, O: Write, E: Write>(
     rt: &R,
     alloc: Global,

@@ -1,4 +1,4 @@
-//! What a program answers where the words of its command line run nothing.
+//! What a program answers where the words of its command line run nothing, and the version of all of them.
 //!
 //! To the programs above this crate promises their exit statuses, and the line that tells of words which are no UTF-8: all of it, or a
 //! beginning of it where the writer fails. 0 for help and 2 for wrong words are the statuses of `clap`; for want of memory each program has
@@ -13,6 +13,9 @@ ghost use Rattle.program_words.specs.Status.{status_of, unread_line};
 use clap::error::ErrorKind;
 use exact_write::{WriteFailed, send};
 use std::io::{ErrorKind as ReadErrorKind, Write};
+
+/// The version of each program, as `--version` prints it.
+pub const VERSION: &str = "1.0.0";
 
 /// The exit status of wrong words.
 const WRONG: u8 = 2;

@@ -1,9 +1,11 @@
 //! Rows of the program `janus-cells`, over memory. `;` stands for the end of a line. `run` gives what is written for an input, where each cell may take
 //! this number of steps; `words` the number of steps that the words of a command line give a cell, or their status and whether it is standard error that tells
-//! them; `program` the words and, behind `|`, an input. Streams that fail are those of the module `streams`.
+//! them; `choice` the same with whether refused texts are explained; `program` the words and, behind `|`, an input. Streams that fail are those of the
+//! module `streams`.
 use crate::streams::{Broken, Full, Unflushed};
 use cells_program::{
-    RunFault, program, run, send_run_fault, status, steps_of, unread_words_status, words_status,
+    RunFault, choice_of, program, run, send_run_fault, status, steps_of, unread_words_status,
+    words_status,
 };
 use std::alloc::{AllocError, Global};
 use std::io;
@@ -19,6 +21,7 @@ pub(crate) fn answer(call: &str, sheet: &mut Sheet) {
     match word {
         "run" => run_row(rest, sheet),
         "words" => tell_words(rest, sheet),
+        "choice" => tell_choice(rest, sheet),
         "program" => run_by_words(rest, sheet),
         _ => end(word, rest, sheet),
     }
@@ -98,6 +101,22 @@ fn tell_words(row: &str, sheet: &mut Sheet) {
 fn tell_steps(words: &[&str], sheet: &mut Sheet) {
     match steps_of(sheet.alloc(), words) {
         Ok(steps) => sheet.show(&steps),
+        Err(error) => sheet.show(&(words_status(error.kind()), error.use_stderr())),
+    }
+}
+
+/// What the words of a row choose, or their status.
+fn tell_choice(row: &str, sheet: &mut Sheet) {
+    match words_of(sheet.alloc(), row) {
+        Ok(words) => tell_chosen(&words, sheet),
+        Err(_) => sheet.refuse(),
+    }
+}
+
+/// What words choose, or their status.
+fn tell_chosen(words: &[&str], sheet: &mut Sheet) {
+    match choice_of(sheet.alloc(), words) {
+        Ok(choice) => sheet.show(&(choice.steps, choice.explains)),
         Err(error) => sheet.show(&(words_status(error.kind()), error.use_stderr())),
     }
 }

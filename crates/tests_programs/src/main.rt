@@ -74,6 +74,7 @@ where
         "3.0" => make_site(rt, LOOPBACK, 0, sheet),
         "3.1" => make_site(rt, LOOPBACK, 1, sheet),
         "reach" => make_site(rt, "0.0.0.0", 1, sheet),
+        "every" => make_site(rt, "*", 1, sheet),
         _ => {
             without_kernel::tell(rt, calls, sheet);
             None

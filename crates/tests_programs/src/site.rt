@@ -2,8 +2,10 @@
 use crate::content::KEY;
 use crate::told::tell_error;
 use std::alloc::Global;
+use std::fs::Permissions;
 use std::io::{ErrorKind, Result};
 use std::net::{Net, TcpListener, TcpStream};
+use std::os::unix::fs::PermissionsExt;
 use std::rt::Files;
 use std::time::{Clock, Duration};
 use std::{fs, thread};
@@ -101,6 +103,12 @@ fn connection_text(alloc: Global, ip: &str, ports: [u16; 5], key: &str) -> Resul
     }
 }
 
+/// Writes a file that nobody reads but its owner.
+pub(crate) fn write_own<R: Files>(rt: &R, path: &str, octets: &[u8]) -> Result<()> {
+    fs::write(rt, path, octets)?;
+    fs::set_permissions(rt, path, Permissions::from_mode(0o600))
+}
+
 /// Writes a connection file with this address and these ports.
 pub(crate) fn write_connection<R: Files>(
     rt: &R,
@@ -111,7 +119,7 @@ pub(crate) fn write_connection<R: Files>(
     key: &str,
 ) -> Result<()> {
     match connection_text(alloc, ip, ports, key) {
-        Ok(text) => fs::write(rt, path, text.as_bytes()),
+        Ok(text) => write_own(rt, path, text.as_bytes()),
         Err(error) => Err(error),
     }
 }

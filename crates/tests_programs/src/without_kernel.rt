@@ -2,15 +2,16 @@
 //! command line) run a program over its words, and give no more than this number of octets of each of its two streams. `file` (a text) runs both
 //! programs on a connection file with this text, and `missing` on one that isn't there. `alone` runs a console at ports where no kernel listens, and
 //! `unanswered` where one listens that says nothing. `taken` (a socket, of shell, iopub, stdin, control and heartbeat the first is 1) runs a kernel whose
-//! port for this socket another one has.
+//! port for this socket another one has. `readable` (a mode in octal digits) runs a kernel on a connection file of this mode, whose ports another one has.
 use crate::content::KEY;
 use crate::programs::{ask, run_console, run_kernel};
-use crate::site::{LOOPBACK, free_ports, listen, listen_anywhere, write_connection};
+use crate::site::{LOOPBACK, free_ports, listen, listen_anywhere, write_connection, write_own};
 use crate::talk::place;
 use crate::told::tell_error;
-use std::fs;
+use std::fs::{self, Permissions};
 use std::io::Result;
 use std::net::{Net, TcpListener, TcpStream};
+use std::os::unix::fs::PermissionsExt;
 use std::random::RandomSource;
 use std::rt::Files;
 use std::sync::Wait;
@@ -59,6 +60,7 @@ where
         "alone" => alone(rt, sheet),
         "unanswered" => unanswered(rt, sheet),
         "taken" => taken(rt, place(rest), sheet),
+        "readable" => readable(rt, rest, sheet),
         _ => {
             run_words(rt, word, rest, sheet);
             Ok(())
@@ -107,7 +109,7 @@ where
         + Clock
         + Sync,
 {
-    fs::write(rt, PATH, text.as_bytes())?;
+    write_own(rt, PATH, text.as_bytes())?;
     run_both(rt, sheet);
     fs::remove_file(rt, PATH)
 }
@@ -157,6 +159,29 @@ where
     let ports = free_ports(rt, sheet.alloc())?;
     write_connection(rt, sheet.alloc(), PATH, LOOPBACK, ports, "")?;
     match listen(rt, ports.get(at).copied().unwrap_or(0)) {
+        Ok(_taken) => run_kernel_on_file(rt, sheet),
+        Err(error) => return Err(error),
+    }
+    fs::remove_file(rt, PATH)
+}
+
+/// Runs a kernel on a connection file of this mode; another one has its ports.
+fn readable<R>(rt: &R, mode: &str, sheet: &mut Sheet) -> Result<()>
+where
+    R: Net<Listener = TcpListener, Stream = TcpStream>
+        + Files
+        + RandomSource
+        + Threads
+        + Wait
+        + Clock
+        + Sync,
+{
+    let ports = free_ports(rt, sheet.alloc())?;
+    write_connection(rt, sheet.alloc(), PATH, LOOPBACK, ports, "")?;
+    let mode = u32::from_str_radix(mode, 8).unwrap_or(0);
+    fs::set_permissions(rt, PATH, Permissions::from_mode(mode))?;
+    let [shell, ..] = ports;
+    match listen(rt, shell) {
         Ok(_taken) => run_kernel_on_file(rt, sheet),
         Err(error) => return Err(error),
     }

@@ -7,6 +7,7 @@ import json
 import re
 import sys
 
+VERSION = '1.0.0'
 RUN, PART = '%%', '//|%%'
 KINDS = {'markdown': 'text', 'raw': 'commands', 'code': 'code'}
 METADATA = {'kernelspec': {'display_name': 'Janus', 'language': 'janus', 'name': 'janus'},
@@ -103,6 +104,9 @@ def to_notebook(cells):
 
 def main(words):
     """to-cells NOTEBOOK writes on standard output a file of its cells; to-cells --back FILE writes the notebook of such a file."""
+    if words == ['--version']:
+        print('janus-to-cells', VERSION)
+        return 0
     back = words[:1] == ['--back']
     if len(words) != 1 + back or words[-1].startswith('-'):
         print('usage:', main.__doc__, file=sys.stderr)

@@ -11,6 +11,7 @@ try:
 except ImportError as missing:
     sys.exit(f"janus-interrupt: {missing}; Debian's python3-jupyter-client brings it")
 
+VERSION = '1.0.0'
 SECONDS = 10
 
 
@@ -29,6 +30,9 @@ def interrupt(file):
 
 
 def main(words):
+    if words == ['--version']:
+        print('janus-interrupt', VERSION)
+        return 0
     if len(words) != 1 or words[0].startswith('-'):
         print(__doc__.split('\n')[2], file=sys.stderr)
         return 2

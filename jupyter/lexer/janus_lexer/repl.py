@@ -28,6 +28,7 @@ try:
     from prompt_toolkit.lexers import PygmentsLexer
 
     from janus_lexer import JanusLexer
+    from janus_lexer.cells import VERSION
     from janus_lexer.refusals import REFUSALS
     from janus_lexer.slips import meant
     from janus_lexer.tree import Tree
@@ -254,6 +255,9 @@ class Console:
 
 
 def main(words):
+    if words == ['--version']:
+        print('janus-repl', VERSION)
+        return 0
     if words and (len(words) != 2 or words[0] != '--existing'):
         print(__doc__.split('\n')[2], file=sys.stderr)
         return 2

@@ -26,7 +26,7 @@ try:
     from jupyter_client import BlockingKernelClient, KernelManager
     from jupyter_core.paths import jupyter_runtime_dir
 
-    from janus_lexer.cells import RUN, code_lines
+    from janus_lexer.cells import RUN, VERSION, code_lines
 except ImportError as missing:
     sys.exit(f"janus-save-session: {missing}; Debian's python3-jupyter-client brings it")
 
@@ -501,6 +501,9 @@ def usage():
 
 
 def main(words):
+    if words == ['--version']:
+        print('janus-save-session', VERSION)
+        return 0
     is_check = '--check' in words
     words = [it for it in words if it != '--check']
     file = None

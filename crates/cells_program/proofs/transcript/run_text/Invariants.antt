@@ -10,7 +10,7 @@ use Rattle.cells_program.proofs.transcript.run_text.Given as goal
 abbrev pub invariant-loop-line : goal.invariant-loop-line
 invariant-loop-line g l =
     shadow (Utf8 l.rest) × (l.kernel.machine.state.job ≡ Idle) × (l.kernel.machine.queue ≡ [])
-    × Served l.fn.steps l.fn.kernel.machine l.fn.text l.kernel.machine l.gathered (lines l.rest) (g.W.Write.contents l.fn.writer) (g.W.Write.contents l.writer)
+    × Served l.fn.choice l.fn.kernel.machine l.fn.text l.kernel.machine l.gathered (lines l.rest) (g.W.Write.contents l.fn.writer) (g.W.Write.contents l.writer)
 
 abbrev pub decreases-loop-line : goal.decreases-loop-line
 decreases-loop-line g l = length l.rest

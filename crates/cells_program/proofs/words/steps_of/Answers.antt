@@ -4,11 +4,11 @@ use Rattle.std.specs.Int.{saturate_unsigned, w64}
 use Rattle.std.specs.Str.Parse.{ExplainsUnsignedError, HasUnsignedDigitsIfOk, ParsesUnsigned}
 use Rattle.std.proofs.lemmas.Result.{err_from_is_err_and}
 use Rattle.clap.specs.Values.{unsigned_up_to}
-use Rattle.clap.specs.Simple.{app_of_fields}
+use Rattle.clap.specs.Simple.{app_of_fields, on_top}
 use Rattle.clap.specs.Words.{app_of, rule_of, with_rule}
 use Rattle.clap.specs.declared.builder.value_parser.ValueParser.TheVariants as vp
 use Rattle.cells_program.proofs.CommandReads.{IsGiven, given_number, never_none, never_served, refused_help, refused_memory, steps_given}
-use Rattle.cells_program.proofs.CommandWords.{program, steps_rule}
+use Rattle.cells_program.proofs.CommandWords.{program, steps_rule, versioned}
 use Rattle.cells_program.proofs.words.steps_of.Goals as goal
 
 pub returns-in_err-matches-clause-err : goal.returns-in_err-matches-clause-err
@@ -21,7 +21,8 @@ returns-in_err-matches-clause-err g c =
     ∙ ap (λ q. Some q) (c.value_parser-2.ensures.given.2 ∙ made) in
     let rule : rule_of c.help-steps.result ≡ steps_rule = search rules in
     let program_is : app_of c.in_ok-command.command ≡ program = c.in_ok-command.ensures.shape (search rules)
-    ∙ ap₂ with_rule (ap app_of_fields c.about.ensures ∙ c.new-3.ensures.app) rule in
+    ∙ ap₂ with_rule (ap app_of_fields c.after_help.ensures ∙ ap app_of_fields c.about.ensures ∙ ap app_of_fields c.version.ensures
+    ∙ ap (on_top versioned) c.new-3.ensures.app) rule in
     let p = err_from_is_err_and c.from_residual-in_err-matches.result c.from_residual-in_err-matches.ensures.1 in
     rw (p.1, p.2)
     (refused_memory (app_of c.in_ok-command.command) (map g.S.AsStr.text c.args.words.now) c.in_err-matches.field-0.0 program_is
@@ -37,7 +38,8 @@ returns-in_err-matches-clause-help g c =
     ∙ ap (λ q. Some q) (c.value_parser-2.ensures.given.2 ∙ made) in
     let rule : rule_of c.help-steps.result ≡ steps_rule = search rules in
     let program_is : app_of c.in_ok-command.command ≡ program = c.in_ok-command.ensures.shape (search rules)
-    ∙ ap₂ with_rule (ap app_of_fields c.about.ensures ∙ c.new-3.ensures.app) rule in
+    ∙ ap₂ with_rule (ap app_of_fields c.after_help.ensures ∙ ap app_of_fields c.about.ensures ∙ ap app_of_fields c.version.ensures
+    ∙ ap (on_top versioned) c.new-3.ensures.app) rule in
     let p = err_from_is_err_and c.from_residual-in_err-matches.result c.from_residual-in_err-matches.ensures.1 in
     rw (p.1, p.2)
     (refused_help (app_of c.in_ok-command.command) (map g.S.AsStr.text c.args.words.now) c.in_err-matches.field-0.0 program_is
@@ -53,7 +55,8 @@ unreachable-requires g c =
     ∙ ap (λ q. Some q) (c.value_parser-2.ensures.given.2 ∙ made) in
     let rule : rule_of c.help-steps.result ≡ steps_rule = search rules in
     let program_is : app_of c.in_ok-command.command ≡ program = c.in_ok-command.ensures.shape (search rules)
-    ∙ ap₂ with_rule (ap app_of_fields c.about.ensures ∙ c.new-3.ensures.app) rule in
+    ∙ ap₂ with_rule (ap app_of_fields c.after_help.ensures ∙ ap app_of_fields c.about.ensures ∙ ap app_of_fields c.version.ensures
+    ∙ ap (on_top versioned) c.new-3.ensures.app) rule in
     let given : IsGiven (map g.S.AsStr.text c.args.words.now) c.get_one.result =
     steps_given _ (λ bs r. ParsesUnsigned 64 10 bs r × ExplainsUnsignedError 10 bs r × HasUnsignedDigitsIfOk bs r) (app_of c.in_ok-command.command)
     c.in_ok-matches.matches (map g.S.AsStr.text c.args.words.now) c.get_one.result (λ u x h. h.0) program_is c.in_ok-matches.ensures.kinds
@@ -70,7 +73,8 @@ returns-clause-ok g c =
     ∙ ap (λ q. Some q) (c.value_parser-2.ensures.given.2 ∙ made) in
     let rule : rule_of c.help-steps.result ≡ steps_rule = search rules in
     let program_is : app_of c.in_ok-command.command ≡ program = c.in_ok-command.ensures.shape (search rules)
-    ∙ ap₂ with_rule (ap app_of_fields c.about.ensures ∙ c.new-3.ensures.app) rule in
+    ∙ ap₂ with_rule (ap app_of_fields c.after_help.ensures ∙ ap app_of_fields c.about.ensures ∙ ap app_of_fields c.version.ensures
+    ∙ ap (on_top versioned) c.new-3.ensures.app) rule in
     let given : IsGiven (map g.S.AsStr.text c.args.words.now) c.get_one.result =
     steps_given _ (λ bs r. ParsesUnsigned 64 10 bs r × ExplainsUnsignedError 10 bs r × HasUnsignedDigitsIfOk bs r) (app_of c.in_ok-command.command)
     c.in_ok-matches.matches (map g.S.AsStr.text c.args.words.now) c.get_one.result (λ u x h. h.0) program_is c.in_ok-matches.ensures.kinds
@@ -87,7 +91,8 @@ returns-clause-range g c =
     ∙ ap (λ q. Some q) (c.value_parser-2.ensures.given.2 ∙ made) in
     let rule : rule_of c.help-steps.result ≡ steps_rule = search rules in
     let program_is : app_of c.in_ok-command.command ≡ program = c.in_ok-command.ensures.shape (search rules)
-    ∙ ap₂ with_rule (ap app_of_fields c.about.ensures ∙ c.new-3.ensures.app) rule in
+    ∙ ap₂ with_rule (ap app_of_fields c.after_help.ensures ∙ ap app_of_fields c.about.ensures ∙ ap app_of_fields c.version.ensures
+    ∙ ap (on_top versioned) c.new-3.ensures.app) rule in
     let given : IsGiven (map g.S.AsStr.text c.args.words.now) c.get_one.result =
     steps_given _ (λ bs r. ParsesUnsigned 64 10 bs r × ExplainsUnsignedError 10 bs r × HasUnsignedDigitsIfOk bs r) (app_of c.in_ok-command.command)
     c.in_ok-matches.matches (map g.S.AsStr.text c.args.words.now) c.get_one.result (λ u x h. h.0) program_is c.in_ok-matches.ensures.kinds
@@ -104,5 +109,6 @@ returns-clause-help g c =
     ∙ ap (λ q. Some q) (c.value_parser-2.ensures.given.2 ∙ made) in
     let rule : rule_of c.help-steps.result ≡ steps_rule = search rules in
     let program_is : app_of c.in_ok-command.command ≡ program = c.in_ok-command.ensures.shape (search rules)
-    ∙ ap₂ with_rule (ap app_of_fields c.about.ensures ∙ c.new-3.ensures.app) rule in
+    ∙ ap₂ with_rule (ap app_of_fields c.after_help.ensures ∙ ap app_of_fields c.about.ensures ∙ ap app_of_fields c.version.ensures
+    ∙ ap (on_top versioned) c.new-3.ensures.app) rule in
     never_served (app_of c.in_ok-command.command) (map g.S.AsStr.text c.args.words.now) program_is c.in_ok-matches.ensures.kinds

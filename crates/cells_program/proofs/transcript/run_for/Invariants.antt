@@ -1,4 +1,4 @@
-use Rattle.cells_program.proofs.transcript.run.Given as goal
+use Rattle.cells_program.proofs.transcript.run_for.Given as goal
 
 abbrev pub ghosts-run_counted : goal.ghosts-run_counted
 ghosts-run_counted g a = record { name = a.blank.name; parts = a.blank.parts }
