@@ -1,7 +1,7 @@
 // The classic notebook's page: its parts put together.
-define(['jquery', 'base/js/namespace', 'base/js/events', '../page/session.js', '../page/panel.js', '../page/memory.js', './cells.js', './places.js',
-    './turns.js', './tools.js'],
-function ($, Jupyter, events, Session, Panel, memory, Cells, places, Turns, tools) {
+define(['jquery', 'base/js/namespace', 'base/js/events', '../page/session.js', '../page/panel.js', '../page/memory.js', '../page/pace.js', './cells.js',
+    './places.js', './turns.js', './tools.js'],
+function ($, Jupyter, events, Session, Panel, memory, pace, Cells, places, Turns, tools) {
 'use strict';
 
 const NOTICE = 6000;                    // ms
@@ -29,6 +29,7 @@ class Page extends Session {
 
     attach(kernel) {
         tools.bind(true);
+        pace(kernel.ws);
         this.conversation.attach(kernel);
     }
 

@@ -67,7 +67,9 @@ class LabSession extends Session {
 
     // The connection came back: broadcasts may be lost.
     connection(_, status) {
-        if (status === 'connected' && this.is_on()) this.conversation.attach(this.kernel);
+        if (status !== 'connected' || !this.is_on()) return;
+        this.kernel.connected();
+        this.conversation.attach(this.kernel);
     }
 
     status(_, status) {

@@ -11,7 +11,7 @@ CLICK = 50              # ms, from a click to the drawing of what it brought, at
 DRAW = 4                # ms, the median of a drawing while the tree is scrolled
 WORK = 100              # ms, the longest that the page's own parts may take in one go
 MOST_OPEN = 400         # cells that were sent and have no reply, at most
-STILL = 1000            # ms, the longest that the page may not look at anything, with whatever else runs on the machine
+STILL = 50              # ms, the longest that the page may not look at anything
 # A beat of 10 ms, and a meter on what the page's own parts take.
 GAPS = '''window.gaps = []; window.work = {longest: 0, total: 0}; var last = performance.now();
     window.beat = setInterval(function () { var now = performance.now(); window.gaps.push(now - last); last = now; }, 10);

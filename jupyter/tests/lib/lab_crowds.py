@@ -11,6 +11,7 @@ DRAW = 4                # ms, the median of a drawing while the tree is scrolled
 FAR = 25                # ms, the median of a drawing where 10,000 nodes are jumped through
 WORK = 50               # ms, the longest that the extension may take in one go
 SHARE = .2              # of the time, at most, while cells flood it; JupyterLab itself may need all of it
+STILL = 50              # ms, the longest that the page may not look at anything, with what JupyterLab itself does
 # From a click to the drawing of what it brought, by the page's own clock.
 CLICKED = '''var node = arguments[0], done = arguments[1], page = janus_history.found(), tree = page.panel.tree, old = tree.draw, begun;
     tree.move_cursor(node);
@@ -33,7 +34,6 @@ METER = S + '''window.work = {longest: 0, total: 0};
     function meter(owner, name) { var old = owner[name]; owner[name] = function () { var begun = performance.now(), out = old.apply(this, arguments);
         var took = performance.now() - begun; window.work.total += took; window.work.longest = Math.max(window.work.longest, took); return out; }; }
     meter(s.conversation, 'hear'); meter(s.conversation, 'release_all'); meter(s, 'update'); meter(s, 'keep')'''
-HEARS = S + 's.kernel.connection.anyMessage[arguments[0]](s.kernel.pass, s.kernel)'
 
 
 def drawing(page, what):
@@ -94,16 +94,12 @@ def flood(stage):
     page, frontend = stage.page, stage.frontend()
     run(page, 1)
     stands(page, 1, 1)
-    page.js(HEARS, 'disconnect')
-    alone = beats(page, frontend, 3)[-1]
-    time.sleep(10)                      # what the server still has comes behind
-    page.js(HEARS, 'connect')
     page.js(METER)
     gaps = beats(page, frontend, 5)
     work = page.js('return window.work')
-    figure('the page\'s beats of 10 ms: median, longest, and the longest where the extension hears nothing, ms',
-           (round(gaps[len(gaps) // 2], 1), [round(it, 1) for it in gaps[-3:]], round(alone, 1)))
+    figure('the page\'s beats of 10 ms: median, longest, ms', (round(gaps[len(gaps) // 2], 1), [round(it, 1) for it in gaps[-3:]]))
     figure('the extension: longest in one go, in all, ms', (round(work['longest'], 1), round(work['total'])))
+    check(gaps[-1] < STILL, f'the page never stands still for {STILL} ms', gaps[-5:])
     check(work['longest'] < WORK, f'the extension never takes {WORK} ms in one go', work)
     check(work['total'] < SHARE * sum(gaps), 'nor a fifth of the time in all', work, sum(gaps))
     now = frontend.ask('state')         # behind all its cells

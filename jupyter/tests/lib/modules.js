@@ -12,7 +12,7 @@ module.exports = function (folder, more = {}) {
         const define = function (needs, make) {
             made = make.apply(null, needs.map(function (it) { return it.startsWith('./') ? load(it.slice(2)) : {}; }));
         };
-        const scope = Object.assign({define, console, TextEncoder, TextDecoder, performance, setTimeout, clearTimeout}, more);
+        const scope = Object.assign({define, console, TextEncoder, TextDecoder, performance, setTimeout, clearTimeout, MessageChannel}, more);
         vm.runInNewContext(fs.readFileSync(file, 'utf8'), scope, {filename: file});
         loaded.set(name, made);
         return made;
