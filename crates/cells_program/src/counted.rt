@@ -24,7 +24,7 @@ pub(crate) fn run_counted<L: Ledger, R: Read, W: Write>(
 ) -> Result<(), RunFault>
     requires name { blank.name ≡ L.name }
     requires parts { blank.parts ≡ L.parts }
-    requires some { 0 < L.parts }
+    requires two { 1 < L.parts }
     ensures written { OnOk result (IfSome (R.remaining reader.old) (λ input.
         (out : List ℕ) × IsTranscriptFor choice input out × Appends (W.contents writer.old) (W.contents writer.new) out)) }
     ensures served { MatchResult result (λ _. IfSome (R.remaining reader.old) IsServed)

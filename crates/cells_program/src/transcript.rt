@@ -87,7 +87,7 @@ pub(crate) fn run_for<R: Read, W: Write>(
     ensures within { MatchResult result (λ _. TakesAtMost input_limit (R.remaining reader.old) (R.remaining reader.new))
         (λ fault. fault ≢ RunFault.TooLong → TakesAtMost input_limit (R.remaining reader.old) (R.remaining reader.new)) }
 {
-    run_counted::<Brand, R, W>(alloc, Blank::new(1), choice, reader, writer)
+    run_counted::<Brand, R, W>(alloc, Blank::new(2), choice, reader, writer)
 }
 
 /// Runs the lines of a text, and then what is still gathered.

@@ -13,7 +13,7 @@ use crate::expression::value;
 use crate::fault::ValueFault;
 use crate::operator::changed;
 use janus_code::code::{FlatExp, Symbol};
-use janus_store::{Store, Writes};
+use janus_store::Store;
 use janus_syntax::tree::Update;
 use std::sync::ledger::Ledger;
 
@@ -24,7 +24,6 @@ pub fn assign<L: Ledger>(
     update: Update,
     exp: &FlatExp,
     store: &mut Store<L>,
-    writes: &mut Writes<L>,
 ) -> Result<(), ValueFault>
     requires safe { assign_of (symbol_name store.old.names name.now) (update_of update) (exp_of store.old.names exp.now) store.old.slots ≢ Bad Broken }
     requires at { HasItsNumber store.old.names name.now }
@@ -32,8 +31,8 @@ pub fn assign<L: Ledger>(
     ensures done { IsDone (assign_of (symbol_name store.old.names name.now) (update_of update) (exp_of store.old.names exp.now) store.old.slots)
         store.old.slots store.new.slots result }
     ensures shape { IsLike store.old store.new }
-    ensures counted { IsCounted result writes.old writes.new }
-    ensures once { IsWrittenOnce result writes.old writes.new }
+    ensures counted { IsCounted result store.old.writes store.new.writes }
+    ensures once { IsWrittenOnce result store.old.writes store.new.writes }
 {
     let operand = match value(exp, store) {
         Ok(operand) => operand,
@@ -42,7 +41,7 @@ pub fn assign<L: Ledger>(
     let Some(old) = store.get(name.number) else {
         unreachable!()
     };
-    store.set(name.number, changed(update, old, operand), writes);
+    store.set(name.number, changed(update, old, operand));
     Ok(())
 }
 
@@ -54,7 +53,6 @@ pub fn assign_element<L: Ledger>(
     update: Update,
     exp: &FlatExp,
     store: &mut Store<L>,
-    writes: &mut Writes<L>,
 ) -> Result<(), ValueFault>
     requires safe { assign_at_of (symbol_name store.old.names name.now) (exp_of store.old.names index.now) (update_of update)
         (exp_of store.old.names exp.now) store.old.slots ≢ Bad Broken }
@@ -65,8 +63,8 @@ pub fn assign_element<L: Ledger>(
         (assign_at_of (symbol_name store.old.names name.now) (exp_of store.old.names index.now) (update_of update)
         (exp_of store.old.names exp.now) store.old.slots) store.old.slots store.new.slots result }
     ensures shape { IsLike store.old store.new }
-    ensures counted { IsCounted result writes.old writes.new }
-    ensures once { IsWrittenOnce result writes.old writes.new }
+    ensures counted { IsCounted result store.old.writes store.new.writes }
+    ensures once { IsWrittenOnce result store.old.writes store.new.writes }
 {
     let index = match value(index, store) {
         Ok(index) => index,
@@ -79,6 +77,6 @@ pub fn assign_element<L: Ledger>(
         Ok(operand) => operand,
         Err(fault) => return Err(fault),
     };
-    store.set_element(name.number, index, changed(update, old, operand), writes);
+    store.set_element(name.number, index, changed(update, old, operand));
     Ok(())
 }

@@ -29,6 +29,7 @@ pub fn open_number<L: Ledger>(
     ensures done { IsDone (number_opened (symbol_name store.old.names name.now) (exp_of store.old.names first.now) store.old.slots)
         store.old.slots store.new.slots result }
     ensures names { KeepsNames store.old store.new }
+    ensures unwritten { store.new.writes ≡ store.old.writes }
 {
     match value(first, store) {
         Ok(number) => {
@@ -53,6 +54,7 @@ pub fn close_number<L: Ledger>(
     ensures done { IsDone (drop_int (symbol_name store.old.names name.now) (exp_of store.old.names last.now) store.old.slots)
         store.old.slots store.new.slots result }
     ensures names { KeepsNames store.old store.new }
+    ensures unwritten { store.new.writes ≡ store.old.writes }
 {
     let number = store.leave_local();
     let fault = match value(last, store) {
@@ -74,6 +76,7 @@ pub fn open_stack<L: Ledger>(name: &Symbol, store: &mut Store<L>) -> Result<(), 
     requires room { HasLocalRoom store.old }
     ensures done { IsDone (stack_opened (live_stacks store.old) (symbol_name store.old.names name.now) store.old.slots) store.old.slots store.new.slots result }
     ensures names { KeepsNames store.old store.new }
+    ensures unwritten { store.new.writes ≡ store.old.writes }
 {
     if store.stacks_left() == 0 {
         return Err(ValueFault::TooManyStacks);
@@ -89,6 +92,7 @@ pub fn close_stack<L: Ledger>(name: &Symbol, store: &mut Store<L>) -> Result<(),
     requires local { HasLocal store.old }
     ensures done { IsDone (drop_stack (symbol_name store.old.names name.now) store.old.slots) store.old.slots store.new.slots result }
     ensures names { KeepsNames store.old store.new }
+    ensures unwritten { store.new.writes ≡ store.old.writes }
 {
     if !store.is_empty(name.number) {
         return Err(ValueFault::DelocalMismatch);

@@ -11,7 +11,7 @@ ghost use Rattle.janus_evaluation.specs.Results.{IsDone, IsCounted};
 
 use crate::fault::ValueFault;
 use janus_code::code::Symbol;
-use janus_store::{Store, Writes};
+use janus_store::Store;
 use std::sync::ledger::Ledger;
 
 /// Moves the number of a variable onto a stack, and leaves 0. Both names have their numbers. Where all live stacks together hold 262,144
@@ -20,7 +20,6 @@ pub fn push<L: Ledger>(
     variable: &Symbol,
     stack: &Symbol,
     store: &mut Store<L>,
-    writes: &mut Writes<L>,
 ) -> Result<(), ValueFault>
     requires safe { push_of pool (values_lent store.old.callers) (symbol_name store.old.names variable.now) (symbol_name store.old.names stack.now)
         store.old.slots ≢ Bad Broken }
@@ -29,7 +28,7 @@ pub fn push<L: Ledger>(
     ensures done { IsDone (push_of pool (values_lent store.old.callers) (symbol_name store.old.names variable.now) (symbol_name store.old.names stack.now)
         store.old.slots) store.old.slots store.new.slots result }
     ensures shape { IsLike store.old store.new }
-    ensures counted { IsCounted result writes.old writes.new }
+    ensures counted { IsCounted result store.old.writes store.new.writes }
 {
     let Some(number) = store.get(variable.number) else {
         unreachable!()
@@ -37,8 +36,8 @@ pub fn push<L: Ledger>(
     if store.is_full() {
         return Err(ValueFault::StackFull);
     }
-    store.push(stack.number, number, writes);
-    store.set(variable.number, 0, writes);
+    store.push(stack.number, number);
+    store.set(variable.number, 0);
     Ok(())
 }
 
@@ -48,7 +47,6 @@ pub fn pop<L: Ledger>(
     variable: &Symbol,
     stack: &Symbol,
     store: &mut Store<L>,
-    writes: &mut Writes<L>,
 ) -> Result<(), ValueFault>
     requires safe { pop_of (symbol_name store.old.names variable.now) (symbol_name store.old.names stack.now) store.old.slots ≢ Bad Broken }
     requires variable { HasItsNumber store.old.names variable.now }
@@ -56,7 +54,7 @@ pub fn pop<L: Ledger>(
     ensures done { IsDone (pop_of (symbol_name store.old.names variable.now) (symbol_name store.old.names stack.now) store.old.slots)
         store.old.slots store.new.slots result }
     ensures shape { IsLike store.old store.new }
-    ensures counted { IsCounted result writes.old writes.new }
+    ensures counted { IsCounted result store.old.writes store.new.writes }
 {
     let Some(old) = store.get(variable.number) else {
         unreachable!()
@@ -67,24 +65,19 @@ pub fn pop<L: Ledger>(
     if store.is_empty(stack.number) {
         return Err(ValueFault::PopEmpty);
     }
-    let number = store.pop(stack.number, writes);
-    store.set(variable.number, number, writes);
+    let number = store.pop(stack.number);
+    store.set(variable.number, number);
     Ok(())
 }
 
 /// Exchanges the numbers of two variables, which may be the same. Both names have their numbers. There is no fault.
-pub fn swap<L: Ledger>(
-    first: &Symbol,
-    second: &Symbol,
-    store: &mut Store<L>,
-    writes: &mut Writes<L>,
-)
+pub fn swap<L: Ledger>(first: &Symbol, second: &Symbol, store: &mut Store<L>)
     requires safe { swap_of (symbol_name store.old.names first.now) (symbol_name store.old.names second.now) store.old.slots ≢ Bad Broken }
     requires first { HasItsNumber store.old.names first.now }
     requires second { HasItsNumber store.old.names second.now }
     ensures done { swap_of (symbol_name store.old.names first.now) (symbol_name store.old.names second.now) store.old.slots ≡ Fine store.new.slots }
     ensures shape { IsLike store.old store.new }
-    ensures counted { writes.new ≡ writes.old + 2 }
+    ensures counted { store.new.writes ≡ store.old.writes + 2 }
 {
     let Some(left) = store.get(first.number) else {
         unreachable!()
@@ -92,6 +85,6 @@ pub fn swap<L: Ledger>(
     let Some(right) = store.get(second.number) else {
         unreachable!()
     };
-    store.set(first.number, right, writes);
-    store.set(second.number, left, writes);
+    store.set(first.number, right);
+    store.set(second.number, left);
 }

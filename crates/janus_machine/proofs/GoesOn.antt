@@ -9,9 +9,9 @@ use Rattle.janus_code.specs.declared.code.Statement.{Statement}
 use Rattle.janus_code.specs.declared.code.Statement.TheVariants as statement
 use Rattle.janus_code.specs.Numbered.{HaveTheirNumbers, HasNumbers, StatementHasNumbers, HaveNumbers}
 use Rattle.janus_code.proofs.GoesOn.{code_goes_on}
-use Rattle.janus_machine.specs.declared.book.Book.{Book}
-use Rattle.janus_machine.specs.declared.book.Direction.{Direction}
-use Rattle.janus_machine.specs.declared.book.Direction.TheVariants.{Forward, Inverse}
+use Rattle.janus_machine.specs.declared.linked_code.LinkedCode.{LinkedCode}
+use Rattle.janus_machine.specs.declared.linked_code.Direction.{Direction}
+use Rattle.janus_machine.specs.declared.linked_code.Direction.TheVariants.{Forward, Inverse}
 use Rattle.janus_machine.specs.Places.{block_in, BookHasNumbers}
 
 module _ (xs ys : List Name) (g : GoOn xs ys) where
@@ -55,13 +55,13 @@ module _ (xs ys : List Name) (g : GoOn xs ys) where
   code_fits : (ss : List Statement) → HaveNumbers xs ss → HaveNumbers ys ss
   code_fits ss h = λ n s at. statement_fits s (h n s at)
 
-  pub book_goes_on : (b : Book) → BookHasNumbers xs b → BookHasNumbers ys b
+  pub book_goes_on : (b : LinkedCode) → BookHasNumbers xs b → BookHasNumbers ys b
   book_goes_on b h = record {
     forward = code_fits b.forward.code.statements.items h.forward;
     inverse = code_fits b.inverse.code.statements.items h.inverse;
     laid = h.laid;
   }
 
-  pub block_goes_on : (b : Book) (d : Direction) → BookHasNumbers xs b → block_in ys b d ≡ block_in xs b d
+  pub block_goes_on : (b : LinkedCode) (d : Direction) → BookHasNumbers xs b → block_in ys b d ≡ block_in xs b d
   block_goes_on b Forward h = code_goes_on xs ys g b.forward.code h.forward
   block_goes_on b Inverse h = code_goes_on xs ys g b.inverse.code h.inverse

@@ -12,6 +12,7 @@ pub mod Cursor
 pub mod Cursors
 pub mod Moved
 pub mod Counts
+pub mod CountedStore
 pub mod Open
 pub mod Calls
 pub mod Steps

@@ -8,8 +8,8 @@ ghost use Rattle.janus_code.specs.CodeBlock.{code_block};
 ghost use Rattle.janus_linear.specs.Layout.{block_size};
 ghost use Rattle.janus_store.specs.StoreState.{call_limit};
 
-use crate::book::{Book, Direction};
-use crate::procedures::Procedures;
+use crate::book::Book;
+use crate::linked_code::Direction;
 use crate::running::running;
 use janus_linear::Linear;
 use janus_meaning::limit::STEP_LIMIT;
@@ -56,16 +56,17 @@ pub struct Cursor {
 impl Cursor {
     ghost use Rattle.janus_store.specs.StoreState.{StoreState, Caller};
     ghost use Rattle.janus_machine.specs.declared.procedures.Procedures as declared;
-    ghost use Rattle.janus_machine.specs.declared.book.Direction.TheVariants.{Forward, Inverse};
+    ghost use Rattle.janus_machine.specs.declared.linked_code.Direction.TheVariants.{Forward, Inverse};
     ghost use Rattle.janus_machine.specs.Places.{block_in};
     ghost use Rattle.janus_machine.specs.Cursors.{place_of, has_ended, IsStanding};
     ghost use Rattle.janus_machine.specs.Counts.{counted, IsAtEntry, TurnsRound};
     ghost use Rattle.janus_machine.specs.Cursor.{count_in, with_count, is_turned};
     ghost use Rattle.janus_machine.specs.Turns.{IsMirrored, AgreesMirrored};
 
-    /// A cursor at no place of a book yet, with the memory of all calls that may be open; an error for want of it.
+    /// A cursor at no place of a book yet, with the memory of all calls that may be open; an error for want of it. No step is taken.
     pub fn new(alloc: Global) -> Result<Cursor, AllocError>
-        ensures { IfOk result (λ cursor. has_ended cursor ≡ true) }
+        ensures ended { IfOk result (λ cursor. has_ended cursor ≡ true) }
+        ensures counts { IfOk result IsAtEntry }
     {
         let calls = Vec::with_capacity(alloc, CALL_LIMIT)?;
         Ok(Cursor {
@@ -86,31 +87,31 @@ impl Cursor {
     }
 
     /// Goes before the block of a book's code. No call is open then.
-    pub fn enter(&mut self, book: &Book)
-        ensures stands { (t : declared.Procedures) (h : StoreState) → h.callers ≡ [] → IsStanding t book.now self.new h }
+    pub fn enter(&mut self, book: &Book<'_>)
+        ensures stands { (t : declared.Procedures) (h : StoreState) → h.callers ≡ [] → IsStanding t book.now.code.now self.new h }
         ensures place { (xs : List Name) (t : declared.Procedures) (hs : List Caller) →
-            place_of xs t book.now self.new hs ≡ Before (block_in xs book.now Forward) [] }
+            place_of xs t book.now.code.now self.new hs ≡ Before (block_in xs book.now.code.now Forward) [] }
         ensures counts { IsAtEntry self.new }
     {
         self.calls.clear();
         self.used = 0;
         self.direction = Direction::Forward;
-        self.to_go = last(&book.forward);
+        self.to_go = last(&book.code.forward);
         self.count = 0;
         self.turned = false;
     }
 
     /// Goes before the block of a book's inverse code. No call is open then.
-    pub fn enter_inverse(&mut self, book: &Book)
-        ensures stands { (t : declared.Procedures) (h : StoreState) → h.callers ≡ [] → IsStanding t book.now self.new h }
+    pub fn enter_inverse(&mut self, book: &Book<'_>)
+        ensures stands { (t : declared.Procedures) (h : StoreState) → h.callers ≡ [] → IsStanding t book.now.code.now self.new h }
         ensures place { (xs : List Name) (t : declared.Procedures) (hs : List Caller) →
-            place_of xs t book.now self.new hs ≡ Before (block_in xs book.now Inverse) [] }
+            place_of xs t book.now.code.now self.new hs ≡ Before (block_in xs book.now.code.now Inverse) [] }
         ensures counts { IsAtEntry self.new }
     {
         self.calls.clear();
         self.used = 0;
         self.direction = Direction::Inverse;
-        self.to_go = last(&book.inverse);
+        self.to_go = last(&book.code.inverse);
         self.count = 0;
         self.turned = false;
     }
@@ -123,13 +124,14 @@ impl Cursor {
     }
 
     /// Turns round where it stands: the steps from here go back by the way that the cursor came, through the open calls too.
-    pub fn mirror(&mut self, procedures: &Procedures, book: &Book)
-        ensures stands { (h : StoreState) → IsStanding procedures.now book.now self.old h → IsStanding procedures.now book.now self.new h }
-        ensures place { IsMirrored procedures.now book.now self.old self.new }
-        ensures agrees { AgreesMirrored procedures.now book.now self.old self.new }
+    pub fn mirror(&mut self, book: &Book<'_>)
+        ensures stands { (h : StoreState) → IsStanding book.now.procedures.now book.now.code.now self.old h →
+            IsStanding book.now.procedures.now book.now.code.now self.new h }
+        ensures place { IsMirrored book.now.procedures.now book.now.code.now self.old self.new }
+        ensures agrees { AgreesMirrored book.now.procedures.now book.now.code.now self.old self.new }
         ensures counts { TurnsRound self.old self.new }
     {
-        let linear = running(procedures, book, &self.calls).linear(self.direction);
+        let linear = running(book.procedures, book.code, &self.calls).linear(self.direction);
         self.to_go = last(linear).saturating_sub(self.to_go);
         self.direction = self.direction.opposite();
         self.turned = !self.turned;

@@ -9,8 +9,9 @@
 //!
 //! The modules, in the order in which a reader needs them:
 //! - `scopes`, `laid_rows`: the names in sight in the first scopes of a row, and what is laid of rows over them to run whole statements.
-//! - `book`: the code of a cell or of a body, both ways, and what is laid of its rows.
+//! - `linked_code`: the code of a cell or of a body, both ways, and what is laid of its rows.
 //! - `linked_procedure`, `procedures`: a procedure as it runs, and all bodies with those that are in effect.
+//! - `book`: a cell's linked code and the procedures, lent. `counted_store`: a store with the count of the steps over it, which nothing else raises.
 //! - `cursor`, `running`, `row`: a place in code with the open calls and the count of steps, and the book in whose row it stands.
 //! - `statement`, `local`, `act`: what a statement, a local and an instruction do to the store.
 //! - `call`: the first and the last step of a call.
@@ -23,20 +24,23 @@
 //!   stands for is told over a table of names: that of the store, or any other.
 //! - `Statements`, `Acts`: what statements and instructions do to a store. Faults are those of `janus_meaning`.
 //! - `LinkedProcedure`, `Procedures`, `Bodies`: what contracts see of bodies, and which of them are in effect.
-//! - `Cursor`, `Counts`, `Places`, `Nested`, `Cursors`: a cursor's fields and its count, and which place of the meaning it is.
+//! - `Cursor`, `Counts`, `Places`, `Nested`, `Cursors`: a cursor's fields and its count, and which place of the meaning it is. `CountedStore`: the
+//!   count of all steps.
 //! - `Mirrored`, `Turns`: the other code, and what turning a cursor round does. `Open`: which locals stand in the store at a cursor.
 //! - `Moved`, `Calls`, `Steps`, `Law`: a step within a row, a call's steps, steps and slices, and the laws.
 //!
-//! It gives again `Store` and `Writes` of `janus_store`, `Fault` and the limit on steps of `janus_meaning`, which its calls tell; and what runners cite with
+//! It gives again `Store` of `janus_store`, `Fault` and the limit on steps of `janus_meaning`, which its calls tell; and what runners cite with
 //! it: `FrameNames`, and `Open` and `Within` of `janus_linear`.
 #![tactic(auto)]
 
 mod act;
 mod book;
 mod call;
+mod counted_store;
 mod cursor;
 mod laid_rows;
 pub mod laws;
+mod linked_code;
 mod linked_procedure;
 mod local;
 mod machine;
@@ -47,11 +51,13 @@ mod scopes;
 mod statement;
 
 pub use crate::book::Book;
+pub use crate::counted_store::CountedStore;
 pub use crate::cursor::Cursor;
+pub use crate::linked_code::LinkedCode;
 pub use crate::linked_procedure::LinkedProcedure;
 pub use crate::machine::{End, Sliced, Stepped, slice, step};
 pub use crate::procedures::Procedures;
 pub use janus_meaning::Fault;
 pub use janus_meaning::limit::STEP_LIMIT;
 pub use janus_rows::FrameNames;
-pub use janus_store::{Store, Writes};
+pub use janus_store::Store;

@@ -6,7 +6,7 @@ ghost use Rattle.janus_code.specs.CodeBlock.{code_block};
 ghost use Rattle.janus_machine.specs.Bodies.{numbers_of};
 ghost use Rattle.janus_machine.specs.LinkedProcedure.{name_number_of, parameters_of, body_of};
 
-use crate::book::Book;
+use crate::linked_code::LinkedCode;
 use janus_code::{FlatParameter, Kind};
 use janus_rows::FrameNames;
 use std::alloc::{AllocError, Global};
@@ -16,12 +16,12 @@ use std::alloc::{AllocError, Global};
 pub struct LinkedProcedure {
     pub(crate) name: usize,
     pub(crate) parameters: Vec<usize>,
-    pub(crate) book: Book,
+    pub(crate) book: LinkedCode,
 }
 
 impl LinkedProcedure {
     ghost use Rattle.janus_machine.specs.Places.{block_in, KeepsNumbers};
-    ghost use Rattle.janus_machine.specs.declared.book.Direction.TheVariants.{Forward};
+    ghost use Rattle.janus_machine.specs.declared.linked_code.Direction.TheVariants.{Forward};
 
     /// The procedure of flat code; an error for want of memory. A body of more statements or places than 32 bits count is refused as if there were none.
     pub fn new(
@@ -37,7 +37,7 @@ impl LinkedProcedure {
         let name = flat.name.number;
         let parameters = numbers(alloc, &flat.parameters)?;
         let names = names_of(alloc, &flat.parameters)?;
-        let book = Book::laid(alloc, flat.body, names)?;
+        let book = LinkedCode::laid(alloc, flat.body, names)?;
         Ok(LinkedProcedure {
             name,
             parameters,

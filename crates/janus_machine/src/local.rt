@@ -22,6 +22,7 @@ pub(crate) fn open<L: Ledger>(statement: &Statement, store: &mut Store<L>) -> Re
     requires room { HasLocalRoom store.old }
     ensures done { IsDone (opened_of store.old.names (live_stacks store.old) statement.now store.old.slots) store.old.slots store.new.slots result }
     ensures names { KeepsNames store.old store.new }
+    ensures unwritten { store.new.writes ≡ store.old.writes }
 {
     match statement {
         Statement::LocalInt(name, first, _, _) => done(open_number(name, first, store)),
@@ -37,6 +38,7 @@ pub(crate) fn close<L: Ledger>(statement: &Statement, store: &mut Store<L>) -> R
     requires local { HasLocal store.old }
     ensures done { IsDone (closed_of store.old.names statement.now store.old.slots) store.old.slots store.new.slots result }
     ensures names { KeepsNames store.old store.new }
+    ensures unwritten { store.new.writes ≡ store.old.writes }
 {
     match statement {
         Statement::LocalInt(name, _, _, last) => done(close_number(name, last, store)),

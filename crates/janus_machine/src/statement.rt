@@ -13,32 +13,28 @@ ghost use Rattle.janus_machine.specs.Statements.{run_of};
 use janus_code::Statement;
 use janus_evaluation::{ValueFault, assign, assign_element, pop, push, swap};
 use janus_meaning::Fault;
-use janus_store::{Store, Writes};
+use janus_store::Store;
 use std::sync::ledger::Ledger;
 
 /// Runs a statement without blocks, whose names have their numbers, or leaves the store at a fault.
 #[inline(always)]
-pub(crate) fn run<L: Ledger>(
-    statement: &Statement,
-    store: &mut Store<L>,
-    writes: &mut Writes<L>,
-) -> Result<(), Fault>
+pub(crate) fn run<L: Ledger>(statement: &Statement, store: &mut Store<L>) -> Result<(), Fault>
     requires safe { run_of store.old.names (values_lent store.old.callers) statement.now store.old.slots ≢ Bad Broken }
     requires numbered { StatementHasNumbers store.old.names statement.now }
     ensures done { IsDone (run_of store.old.names (values_lent store.old.callers) statement.now store.old.slots) store.old.slots store.new.slots result }
     ensures names { KeepsNames store.old store.new }
-    ensures counted { IsCounted result writes.old writes.new }
+    ensures counted { IsCounted result store.old.writes store.new.writes }
 {
     match statement {
         Statement::Skip => Ok(()),
-        Statement::Assign(name, update, exp) => { done(assign(name, *update, exp, store, writes)) }
+        Statement::Assign(name, update, exp) => { done(assign(name, *update, exp, store)) }
         Statement::AssignElement(name, index, update, exp) => {
-            done(assign_element(name, index, *update, exp, store, writes))
+            done(assign_element(name, index, *update, exp, store))
         }
-        Statement::Push(variable, stack) => done(push(variable, stack, store, writes)),
-        Statement::Pop(variable, stack) => done(pop(variable, stack, store, writes)),
+        Statement::Push(variable, stack) => done(push(variable, stack, store)),
+        Statement::Pop(variable, stack) => done(pop(variable, stack, store)),
         Statement::Swap(first, second) => {
-            swap(first, second, store, writes);
+            swap(first, second, store);
             Ok(())
         }
         _ => unreachable!(),

@@ -25,12 +25,12 @@ use Rattle.janus_store.proofs.Standing.{place_fits, value_is, set_written, set_h
 
 -- ---- more and fewer
 
-module _ (texts : List Name) (lists : List (List ℤ)) (few more all : List ℤ) (is : all ≡ few ++ more) where
+module _ (writes : ℕ) (texts : List Name) (lists : List (List ℤ)) (few more all : List ℤ) (is : all ≡ few ++ more) where
   abbrev pub short : Holdings
-  short = record { lists = lists; numbers = few; texts = texts }
+  short = record { lists = lists; numbers = few; texts = texts; writes = writes }
 
   abbrev pub long : Holdings
-  long = record { lists = lists; numbers = all; texts = texts }
+  long = record { lists = lists; numbers = all; texts = texts; writes = writes }
 
   same_number : (q : ℕ) → q < length few → slice_index_or few q (pos 0) ≡ slice_index_or all q (pos 0)
   same_number q lt = sym (ap (λ l. slice_index_or l q (pos 0)) is ∙ get_or_append_left few more (pos 0) q lt)
@@ -47,7 +47,7 @@ module _ (texts : List Name) (lists : List (List ℤ)) (few more all : List ℤ)
         (around (bounds xs [] vs) (length vs) cs) nested below)
         refl refl refl
         (callers_below (value_at short vs) (value_at long vs) (length vs) (here (bounds xs [] vs) (length vs) cs) (around (bounds xs [] vs) (length vs) cs)
-        nested below)
+        nested below) refl
 
 held_moved : (one other : Holdings) (xs : List Name) (ns : List ℕ) (vs : List Variable) (d : ℕ) (cs : List Call) → IsHeld one xs ns vs d cs →
     held_in one xs d vs cs ≡ held_in other xs d vs cs → IsHeld other xs ns vs d cs
@@ -63,19 +63,19 @@ held_moved one other xs ns vs d cs h same =
       calls = h.calls;
     }
 
-module _ (texts : List Name) (lists : List (List ℤ)) (few more all : List ℤ) (is : all ≡ few ++ more) (xs : List Name) (ns : List ℕ) (vs : List Variable)
+module _ (writes : ℕ) (texts : List Name) (lists : List (List ℤ)) (few more all : List ℤ) (is : all ≡ few ++ more) (xs : List Name) (ns : List ℕ) (vs : List Variable)
     (d : ℕ) (cs : List Call) (fits : length vs ≤ length few) where
-  pub held_longer : IsHeld (short texts lists few more all is) xs ns vs d cs → IsHeld (long texts lists few more all is) xs ns vs d cs
-  held_longer h = held_moved _ _ xs ns vs d cs h (same_beside texts lists few more all is xs d vs cs h.nested fits)
+  pub held_longer : IsHeld (short writes texts lists few more all is) xs ns vs d cs → IsHeld (long writes texts lists few more all is) xs ns vs d cs
+  held_longer h = held_moved _ _ xs ns vs d cs h (same_beside writes texts lists few more all is xs d vs cs h.nested fits)
 
-  pub held_shorter : IsHeld (long texts lists few more all is) xs ns vs d cs → IsHeld (short texts lists few more all is) xs ns vs d cs
-  held_shorter h = held_moved _ _ xs ns vs d cs h (sym (same_beside texts lists few more all is xs d vs cs h.nested fits))
+  pub held_shorter : IsHeld (long writes texts lists few more all is) xs ns vs d cs → IsHeld (short writes texts lists few more all is) xs ns vs d cs
+  held_shorter h = held_moved _ _ xs ns vs d cs h (sym (same_beside writes texts lists few more all is xs d vs cs h.nested fits))
 
 -- other texts
-pub other_texts : (lists : List (List ℤ)) (numbers : List ℤ) (ls ms xs : List Name) (ns : List ℕ) (vs : List Variable) (d : ℕ) (cs : List Call) →
-    IsHeld (record { lists = lists; numbers = numbers; texts = ls }) xs ns vs d cs →
-    IsHeld (record { lists = lists; numbers = numbers; texts = ms }) xs ns vs d cs
-other_texts lists numbers ls ms xs ns vs d cs h = record {
+pub other_texts : (writes : ℕ) (lists : List (List ℤ)) (numbers : List ℤ) (ls ms xs : List Name) (ns : List ℕ) (vs : List Variable) (d : ℕ) (cs : List Call) →
+    IsHeld (record { lists = lists; numbers = numbers; texts = ls; writes = writes }) xs ns vs d cs →
+    IsHeld (record { lists = lists; numbers = numbers; texts = ms; writes = writes }) xs ns vs d cs
+other_texts writes lists numbers ls ms xs ns vs d cs h = record {
   one_number = h.one_number;
   row = h.row;
   nested = h.nested;
@@ -126,9 +126,9 @@ module _ (pool : Holdings) (xs : List Name) (ns : List ℕ) (vs : List Variable)
   number_is = let both : Num (slice_index_or pool.numbers p (pos 0)) ≡ Num n = sym (ap (val_at pool p) kind) ∙ same in cc
 
   -- another number there
-  module _ (m : ℤ) (after : List ℤ) (is : after ≡ set pool.numbers p m) (fits : p < length pool.numbers) where
+  module _ (m : ℤ) (after : List ℤ) (is : after ≡ set pool.numbers p m) (fits : p < length pool.numbers) (writes : ℕ) where
     abbrev pub other : Holdings
-    other = record { lists = pool.lists; numbers = after; texts = pool.texts }
+    other = record { lists = pool.lists; numbers = after; texts = pool.texts; writes = writes }
 
     others : (q : ℕ) → nat_eq q p ≡ false → value_at pool vs q ≡ value_at other vs q
     others q ne =

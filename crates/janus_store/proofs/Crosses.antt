@@ -1,4 +1,4 @@
--- A store and its count of writes may go to other threads, where the types of the ledger may.
+-- A store and a tally may go to other threads, where the types of the ledger may.
 use denote.RattleType.{RattleType}
 use Rattle.std.specs.declared.sync.ledger.Ledger as Ledger
 use denote.Param.Send.{IsSend, sendable}
@@ -7,11 +7,11 @@ use Rattle.std.proofs.sync.ledger.Book.TheSendSync.{the_send as book_send}
 use Rattle.std.proofs.sync.ledger.Share.TheSendSync.{the_send as share_send}
 use Rattle.janus_names.proofs.Crosses.{Names-send}
 use Rattle.janus_store.specs.contracts.store.Store as Store
-use Rattle.janus_store.specs.contracts.writes.Writes as Writes
+use Rattle.janus_store.specs.contracts.writes.Tally as Tally
 
 module _ (W : RattleType) (w : Ledger.Ghosts W.Denot) where
   pub Store-send : IsSend W → IsSend (Store.the_field W w).row
-  Store-send s = search (crosses, Names-send, sendable) depth 60 fits 20000
+  Store-send s = search (crosses, Names-send, book_send, share_send, sendable) depth 60 fits 20000
 
-  pub Writes-send : IsSend W → IsSend (Writes.the_field W w).row
-  Writes-send s = search (crosses, book_send, share_send, sendable) depth 60 fits 20000
+  pub Tally-send : IsSend W → IsSend (Tally.the_field W w).row
+  Tally-send s = search (crosses, share_send, sendable) depth 60 fits 20000

@@ -110,9 +110,9 @@ module _ (pool : Holdings) (xs : List Name) (ns : List ℕ) (vs : List Variable)
     stack_there = among i vs s.0 s.1 s.3 s.4
 
     -- another list there
-    module _ (once : times i (stacks_of vs) ≤ 1) (after : List (List ℤ)) (is : after ≡ set pool.lists i (list_of after i)) where
+    module _ (once : times i (stacks_of vs) ≤ 1) (after : List (List ℤ)) (is : after ≡ set pool.lists i (list_of after i)) (writes : ℕ) where
       abbrev pub other : Holdings
-      other = record { lists = after; numbers = pool.numbers; texts = pool.texts }
+      other = record { lists = after; numbers = pool.numbers; texts = pool.texts; writes = writes }
 
       others : (q : ℕ) → nat_eq q s.0 ≡ false → value_at pool vs q ≡ value_at other vs q
       others q ne = others_read pool.lists i (list_of after i) (slice_index_or pool.numbers q (pos 0)) vs s.0 s.1 s.3 s.4 once q (eqb-false q s.0 ne)

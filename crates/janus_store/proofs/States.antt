@@ -9,19 +9,19 @@ use Rattle.janus_store.specs.StoreState.{StoreState, Caller, IsWhole, state_of, 
 
 -- ---- the same parts
 
-pub same_state : {s t : Store} → {d e : ℕ} → {ts us xs ys : List Name} → {cs bs : List Caller} → s ≡ t → d ≡ e → ts ≡ us → xs ≡ ys → cs ≡ bs →
-    state_of s d ts xs cs ≡ state_of t e us ys bs
-same_state {s} {t} {d} {e} {ts} {us} {xs} {ys} {cs} {bs} slots declared texts names callers =
-    ap (λ s. state_of s d ts xs cs) slots ∙ ap (λ d. state_of t d ts xs cs) declared ∙ ap (λ ts. state_of t e ts xs cs) texts
-    ∙ ap (λ xs. state_of t e us xs cs) names ∙ ap (state_of t e us ys) callers
+pub same_state : {s t : Store} → {d e : ℕ} → {ts us xs ys : List Name} → {cs bs : List Caller} → {v w : ℕ} → s ≡ t → d ≡ e → ts ≡ us → xs ≡ ys →
+    cs ≡ bs → v ≡ w → state_of s d ts xs cs v ≡ state_of t e us ys bs w
+same_state {s} {t} {d} {e} {ts} {us} {xs} {ys} {cs} {bs} {v} {w} slots declared texts names callers writes =
+    ap (λ s. state_of s d ts xs cs v) slots ∙ ap (λ d. state_of t d ts xs cs v) declared ∙ ap (λ ts. state_of t e ts xs cs v) texts
+    ∙ ap (λ xs. state_of t e us xs cs v) names ∙ ap (λ cs. state_of t e us ys cs v) callers ∙ ap (state_of t e us ys bs) writes
 
 -- two that show what they hold, and hold the same
 pub same_parts : (g h : StoreState) → g.sight ≡ shown_store g → h.sight ≡ shown_store h → g.slots ≡ h.slots → g.declared ≡ h.declared → g.texts ≡ h.texts →
-    g.names ≡ h.names → g.callers ≡ h.callers → g ≡ h
-same_parts g h shown_g shown_h slots declared texts names callers =
-    ap (λ (s : Store). record { sight = s; slots = g.slots; declared = g.declared; texts = g.texts; names = g.names; callers = g.callers }) shown_g
-    ∙ same_state slots declared texts names callers
-    ∙ ap (λ (s : Store). record { sight = s; slots = h.slots; declared = h.declared; texts = h.texts; names = h.names; callers = h.callers }) (sym shown_h)
+    g.names ≡ h.names → g.callers ≡ h.callers → g.writes ≡ h.writes → g ≡ h
+same_parts g h shown_g shown_h slots declared texts names callers writes =
+    ap (λ (s : Store). record { sight = s; slots = g.slots; declared = g.declared; texts = g.texts; names = g.names; callers = g.callers; writes = g.writes }) shown_g
+    ∙ same_state slots declared texts names callers writes
+    ∙ ap (λ (s : Store). record { sight = s; slots = h.slots; declared = h.declared; texts = h.texts; names = h.names; callers = h.callers; writes = h.writes }) (sym shown_h)
 
 -- ---- no local and no call is open
 

@@ -64,11 +64,11 @@ outermost n (c ∷ cs) = outermost c.start cs
 abbrev pub held_in : Holdings → List Name → ℕ → List Variable → List Call → StoreState
 held_in held xs d vs cs = state_of
     (seen (value_at held vs) [] (all_of (here (bounds xs [] vs) (length vs) cs))) d held.texts xs
-    (callers_of (value_at held vs) (here (bounds xs [] vs) (length vs) cs).params (around (bounds xs [] vs) (length vs) cs))
+    (callers_of (value_at held vs) (here (bounds xs [] vs) (length vs) cs).params (around (bounds xs [] vs) (length vs) cs)) held.writes
 
 -- what a store has beside its variables
 abbrev pub holdings : {L : Type 0} → Inside L → Holdings
-holdings a = record { lists = a.stacks.lists; numbers = a.numbers.items; texts = a.texts }
+holdings a = record { lists = a.stacks.lists; numbers = a.numbers.items; texts = a.texts; writes = a.writes }
 
 -- the names that have a number: as many slots as there are places of numbers
 abbrev pub slots_of : {L : Type 0} → Inside L → List Name

@@ -26,12 +26,12 @@ use crate::limit::{BOUND_LIMIT, CALL_LIMIT, LOCAL_LIMIT};
 use crate::places::{Lengths, Places};
 use crate::stacks::Stacks;
 use crate::value::{Declared, Value, ValueView};
-use crate::writes::Writes;
+use crate::writes::{Tally, Writes};
 use janus_meaning::limit::NAME_LIMIT;
 use janus_names::Names;
 use std::alloc::{AllocError, Global};
-use std::marker::{Model, PhantomData};
-use std::sync::ledger::Ledger;
+use std::marker::Model;
+use std::sync::ledger::{Blank, Ledger};
 
 /// A name with its value.
 #[derive(Drop)]
@@ -57,7 +57,7 @@ struct Call {
 }
 
 /// The declared names with their texts, the open locals and the bound parameters with their values, and the memory of all stacks, locals and
-/// parameters that may live. Each write is counted in the store's own ledger.
+/// parameters that may live. It counts its writes in the ledger that it opened: so of a ledger there is one store, and none can stand in its place.
 #[derive(Drop)]
 pub struct Store<L: Ledger> {
     /// The texts of the declared names, in the order of declaration.
@@ -78,7 +78,8 @@ pub struct Store<L: Ledger> {
     declared: usize,
     /// The stacks of the variables, and those that none has.
     stacks: Stacks,
-    ledger: PhantomData<L>,
+    /// How often values were written.
+    writes: Writes<L>,
 }
 
 impl<L: Ledger> Model for Store<L> {
@@ -96,20 +97,26 @@ impl<L: Ledger> Model for Store<L> {
 }
 
 impl<L: Ledger> Store<L> {
-    /// No names. It takes the memory of all stacks that may live, of all locals and calls that may be open, and of their parameters.
+    /// No names, and no writes so far, which are counted in the ledger that is opened by this blank; and a tally of that ledger, at 0. It takes the
+    /// memory of all stacks that may live, of all locals and calls that may be open, and of their parameters.
     ///
     /// # Errors
     ///
     /// `AllocError` where there is no memory.
-    pub fn new(alloc: Global) -> Result<Store<L>, AllocError>
-        ensures { IfOk result (λ s. s ≡ empty_state) }
+    pub fn new(alloc: Global, blank: Blank) -> Result<(Store<L>, Tally<L>), AllocError>
+        requires name { blank.name ≡ L.name }
+        requires parts { blank.parts ≡ L.parts }
+        requires two { 1 < L.parts }
+        ensures store { IfOk result (λ r. r.0 ≡ empty_state) }
+        ensures tally { IfOk result (λ r. r.1 ≡ 0) }
     {
         let stacks = Stacks::new(alloc)?;
         let variables = Vec::with_capacity(alloc, NAME_LIMIT + LOCAL_LIMIT + BOUND_LIMIT)?;
         let numbers = Vec::with_capacity(alloc, NAME_LIMIT + LOCAL_LIMIT + BOUND_LIMIT)?;
         let calls = Vec::with_capacity(alloc, CALL_LIMIT)?;
         let places = Places::new(alloc, NAME_LIMIT + LOCAL_LIMIT + BOUND_LIMIT)?;
-        Ok(Store {
+        let (writes, tally) = Writes::open(blank);
+        let store = Store {
             texts: Names::new(alloc),
             variables,
             numbers,
@@ -123,8 +130,17 @@ impl<L: Ledger> Store<L> {
             },
             declared: 0,
             stacks,
-            ledger: PhantomData,
-        })
+            writes,
+        };
+        Ok((store, tally))
+    }
+
+    /// Raises a tally of the store's ledger, and changes nothing of the store.
+    pub fn count(&mut self, tally: &mut Tally<L>, amount: u64)
+        ensures counted { tally.new ≡ tally.old + amount }
+        ensures same { self.new ≡ self.old }
+    {
+        self.writes.count(tally, amount);
     }
 
     /// How many names are declared.
@@ -371,7 +387,8 @@ impl<L: Ledger> Store<L> {
             (self.old.declared - 1)
             (take (self.old.declared - 1) self.old.texts)
             self.old.names
-            [] }
+            []
+            self.old.writes }
     {
         let Variable { value, .. } = remove_own(
             &mut self.newest,
@@ -493,54 +510,54 @@ impl<L: Ledger> Store<L> {
     }
 
     /// Another number for the name of a number.
-    pub fn set(&mut self, name: usize, number: i32, writes: &mut Writes<L>)
+    pub fn set(&mut self, name: usize, number: i32)
         requires { (x : Name) × IsName self.old name x × IsNumber (look x self.old.slots) }
         ensures written { (x : Name) → IsName self.old name x → write x (Num number) self.old.slots ≡ Fine self.new.slots }
         ensures shape { IsLike self.old self.new }
-        ensures counted { writes.new ≡ writes.old + 1 }
+        ensures counted { self.new.writes ≡ self.old.writes + 1 }
     {
-        writes.add();
+        self.writes.add();
         let at = place(&self.newest, &self.variables, name);
         self.numbers[at] = number;
     }
 
     /// Another number for an element of the array of a number, at an index within its range.
-    pub fn set_element(&mut self, name: usize, index: i32, number: i32, writes: &mut Writes<L>)
+    pub fn set_element(&mut self, name: usize, index: i32, number: i32)
         requires { (x : Name) × IsName self.old name x × HasElementAt (look x self.old.slots) index }
         ensures written { (x : Name) (l : List ℤ) → IsName self.old name x → look x self.old.slots ≡ Fine (Arr l) →
             write x (Arr (set_element l index number)) self.old.slots ≡ Fine self.new.slots }
         ensures shape { IsLike self.old self.new }
-        ensures counted { writes.new ≡ writes.old + 1 }
+        ensures counted { self.new.writes ≡ self.old.writes + 1 }
     {
-        writes.add();
+        self.writes.add();
         let at = place(&self.newest, &self.variables, name);
         self.variables[at].value.set_element(index, number);
     }
 
     /// One number more, on top of the stack of a number, where all live stacks together hold fewer than 262,144 values.
-    pub fn push(&mut self, name: usize, number: i32, writes: &mut Writes<L>)
+    pub fn push(&mut self, name: usize, number: i32)
         requires stack { (x : Name) × IsName self.old name x × IsStack (look x self.old.slots) }
         requires room { values_held self.old < value_limit }
         ensures written { (x : Name) (l : List ℤ) → IsName self.old name x → look x self.old.slots ≡ Fine (Stk l) →
             write x (Stk (number ∷ l)) self.old.slots ≡ Fine self.new.slots }
         ensures shape { IsLike self.old self.new }
-        ensures counted { writes.new ≡ writes.old + 1 }
+        ensures counted { self.new.writes ≡ self.old.writes + 1 }
     {
-        writes.add();
+        self.writes.add();
         let stack = stack(&self.newest, &self.variables, name);
         self.stacks.push(stack, number);
     }
 
     /// Takes the number from the top of the stack of a number, which isn't empty.
-    pub fn pop(&mut self, name: usize, writes: &mut Writes<L>) -> i32
+    pub fn pop(&mut self, name: usize) -> i32
         requires { (x : Name) × IsName self.old name x × IsHeldStack (look x self.old.slots) }
         ensures top { (x : Name) (n : ℤ) (l : List ℤ) → IsName self.old name x → look x self.old.slots ≡ Fine (Stk (n ∷ l)) → result ≡ n }
         ensures written { (x : Name) (n : ℤ) (l : List ℤ) → IsName self.old name x → look x self.old.slots ≡ Fine (Stk (n ∷ l)) →
             write x (Stk l) self.old.slots ≡ Fine self.new.slots }
         ensures shape { IsLike self.old self.new }
-        ensures counted { writes.new ≡ writes.old + 1 }
+        ensures counted { self.new.writes ≡ self.old.writes + 1 }
     {
-        writes.add();
+        self.writes.add();
         let stack = stack(&self.newest, &self.variables, name);
         self.stacks.pop(stack)
     }
@@ -608,25 +625,25 @@ impl<L: Ledger> Store<L> {
 
     /// Another number for the k-th name in sight that has one and is not hidden.
     #[inline(always)]
-    pub fn set_number_at(&mut self, k: usize, number: i32, writes: &mut Writes<L>)
+    pub fn set_number_at(&mut self, k: usize, number: i32)
         requires { (x : Name) × IsNumberInSight self.old k x }
         ensures written { (x : Name) → IsNumberInSight self.old k x → write x (Num number) self.old.slots ≡ Fine self.new.slots }
         ensures shape { IsLike self.old self.new }
-        ensures counted { writes.new ≡ writes.old + 1 }
+        ensures counted { self.new.writes ≡ self.old.writes + 1 }
     {
-        let _former = self.replace_number_at(k, number, writes);
+        let _former = self.replace_number_at(k, number);
     }
 
     /// Another number for the k-th name in sight that has one and is not hidden; the answer is the number that it had.
     #[inline(always)]
-    pub fn replace_number_at(&mut self, k: usize, number: i32, writes: &mut Writes<L>) -> i32
+    pub fn replace_number_at(&mut self, k: usize, number: i32) -> i32
         requires { (x : Name) × IsNumberInSight self.old k x }
         ensures former { (x : Name) → IsNumberInSight self.old k x → look x self.old.slots ≡ Fine (Num result) }
         ensures written { (x : Name) → IsNumberInSight self.old k x → write x (Num number) self.old.slots ≡ Fine self.new.slots }
         ensures shape { IsLike self.old self.new }
-        ensures counted { writes.new ≡ writes.old + 1 }
+        ensures counted { self.new.writes ≡ self.old.writes + 1 }
     {
-        writes.add();
+        self.writes.add();
         let place = nth(self.places.numbers(), self.in_front.numbers, k);
         let former = beside(&self.numbers, place);
         self.numbers[place] = number;
@@ -635,29 +652,29 @@ impl<L: Ledger> Store<L> {
 
     /// Another number for an element of the k-th array in sight that is not hidden, at an index within its range.
     #[inline(always)]
-    pub fn set_element_at(&mut self, k: usize, index: i32, number: i32, writes: &mut Writes<L>)
+    pub fn set_element_at(&mut self, k: usize, index: i32, number: i32)
         requires { (x : Name) × IsArrayInSight self.old k x × HasElementAt (look x self.old.slots) index }
         ensures written { (x : Name) (l : List ℤ) → IsArrayInSight self.old k x → look x self.old.slots ≡ Fine (Arr l) →
             write x (Arr (set_element l index number)) self.old.slots ≡ Fine self.new.slots }
         ensures shape { IsLike self.old self.new }
-        ensures counted { writes.new ≡ writes.old + 1 }
+        ensures counted { self.new.writes ≡ self.old.writes + 1 }
     {
-        writes.add();
+        self.writes.add();
         let place = nth(self.places.arrays(), self.in_front.arrays, k);
         self.variables[place].value.set_element(index, number);
     }
 
     /// One number more, on top of the k-th stack in sight that is not hidden, where all live stacks together hold fewer than 262,144 values.
     #[inline(always)]
-    pub fn push_at(&mut self, k: usize, number: i32, writes: &mut Writes<L>)
+    pub fn push_at(&mut self, k: usize, number: i32)
         requires stack { (x : Name) × IsStackInSight self.old k x × IsStack (look x self.old.slots) }
         requires room { values_held self.old < value_limit }
         ensures written { (x : Name) (l : List ℤ) → IsStackInSight self.old k x → look x self.old.slots ≡ Fine (Stk l) →
             write x (Stk (number ∷ l)) self.old.slots ≡ Fine self.new.slots }
         ensures shape { IsLike self.old self.new }
-        ensures counted { writes.new ≡ writes.old + 1 }
+        ensures counted { self.new.writes ≡ self.old.writes + 1 }
     {
-        writes.add();
+        self.writes.add();
         let place = nth(self.places.stacks(), self.in_front.stacks, k);
         let stack = self.variables[place].value.stack();
         self.stacks.push(stack, number);
@@ -665,15 +682,15 @@ impl<L: Ledger> Store<L> {
 
     /// Takes the number from the top of the k-th stack in sight that is not hidden, which isn't empty.
     #[inline(always)]
-    pub fn pop_at(&mut self, k: usize, writes: &mut Writes<L>) -> i32
+    pub fn pop_at(&mut self, k: usize) -> i32
         requires { (x : Name) × IsStackInSight self.old k x × IsHeldStack (look x self.old.slots) }
         ensures top { (x : Name) (n : ℤ) (l : List ℤ) → IsStackInSight self.old k x → look x self.old.slots ≡ Fine (Stk (n ∷ l)) → result ≡ n }
         ensures written { (x : Name) (n : ℤ) (l : List ℤ) → IsStackInSight self.old k x → look x self.old.slots ≡ Fine (Stk (n ∷ l)) →
             write x (Stk l) self.old.slots ≡ Fine self.new.slots }
         ensures shape { IsLike self.old self.new }
-        ensures counted { writes.new ≡ writes.old + 1 }
+        ensures counted { self.new.writes ≡ self.old.writes + 1 }
     {
-        writes.add();
+        self.writes.add();
         let place = nth(self.places.stacks(), self.in_front.stacks, k);
         let stack = self.variables[place].value.stack();
         self.stacks.pop(stack)

@@ -18,11 +18,11 @@ machine_with state places counter minutes closing = record {
 }
 
 abbrev pub machine_of : {L : Type 0} → Inside L → Machine
-machine_of a = machine_with a.history a.queue.items a.counter a.minutes a.closing
+machine_of a = machine_with a.history.state a.queue.items a.counter a.minutes a.closing
 
--- a kernel is seen as its machine, and how often its store was written
+-- a kernel is seen as its machine, how often its store was written, and how many steps were taken over it
 abbrev pub seen_of : {L : Type 0} → Inside L → Seen
-seen_of a = record { machine = machine_of a; writes = a.writes }
+seen_of a = record { machine = machine_of a; writes = a.history.writes; steps = a.history.steps }
 
 -- the minutes have their places, those of the queue are posts, and the machine is legal
 pub record IsKept {L : Type 0} (a : Inside L) : Type 0 where

@@ -86,21 +86,24 @@ stands_shows runner program at is_turned h =
 -- ---- the nodes stay ready
 
 -- a program can run where there are more slots and more names of procedures
-can_run_still : {L : Type 0} (runner at : Runner L) (g : List Name) (program : Program) → GoOn runner.store.names at.store.names →
+can_run_still : {L : Type 0} (runner at : Runner L) (g : List Name) (program : Program) → GoOn runner.counted.store.names at.counted.store.names →
     GoOn runner.entries at.entries →
-    (IsReady at.store.names at.entries g runner.procedures program → IsReady at.store.names at.entries g at.procedures program) → CanRun runner g program →
+    (IsReady at.counted.store.names at.entries g runner.procedures program → IsReady at.counted.store.names at.entries g at.procedures program) →
+    CanRun runner g program →
     CanRun at g program
 can_run_still runner at g program more listed kept can = record {
-  ready = kept (ready_grows runner.store.names at.store.names more runner.entries at.entries listed g runner.procedures program can.ready);
+  ready = kept (ready_grows runner.counted.store.names at.counted.store.names more runner.entries at.entries listed g runner.procedures program can.ready);
   named = listed_still runner.entries at.entries (procedures_of program) listed can.named;
 }
 
 -- the slots and the names of procedures only grow, and the bodies of nodes stay kept
-pub nodes_ready : {L : Type 0} (tree : HistoryTree) (runner at : Runner L) → GoOn runner.store.names at.store.names → GoOn runner.entries at.entries →
+pub nodes_ready : {L : Type 0} (tree : HistoryTree) (runner at : Runner L) → GoOn runner.counted.store.names at.counted.store.names →
+    GoOn runner.entries at.entries →
     kept_in at.procedures ≡ kept_in runner.procedures → NodesAreReady tree runner → NodesAreReady tree at
 nodes_ready tree runner at more listed same h = λ n cell is.
     (let g : List Name = names_in (world_at (past_of tree) n).store in
-    can_run_still runner at g cell.program more listed (ready_same at.store.names at.entries g runner.procedures at.procedures cell.program same) (h n cell is))
+    can_run_still runner at g cell.program more listed (ready_same at.counted.store.names at.entries g runner.procedures at.procedures cell.program same)
+    (h n cell is))
 
 -- as many stay kept
 pub no_other_same : (tree : HistoryTree) (old new : Procedures) → kept_in new ≡ kept_in old → KeepsNoOther tree old → KeepsNoOther tree new
@@ -112,7 +115,7 @@ work_no_other tree (RunCell program) old new same h = (h.0, ap (λ (bs : List Li
 work_no_other tree (Move travel) old new same h = no_other_same tree old new same h
 
 pub kept_inside : {L : Type 0} (tree : HistoryTree) (work : Work) (count c : ℕ) (heading to : Heading) (runner at : Runner L) →
-    Kept tree runner (Inside (record { work = work; count = count; heading = heading })) → GoOn runner.store.names at.store.names →
+    Kept tree runner (Inside (record { work = work; count = count; heading = heading })) → GoOn runner.counted.store.names at.counted.store.names →
     at.entries ≡ runner.entries → kept_in at.procedures ≡ kept_in runner.procedures → StandsIn tree work c (is_back to) at →
     Kept tree at (Inside (record { work = work; count = c; heading = to }))
 kept_inside tree work count c heading to runner at k more entries same p = record {
@@ -129,7 +132,7 @@ kept_inside tree work count c heading to runner at k more entries same p = recor
 }
 
 pub kept_idle : {L : Type 0} (tree : HistoryTree) (job : Open) (runner at : Runner L) → Kept tree runner job → NodesAreReady tree at →
-    KeepsNoOther tree at.procedures → IsWhole at.store → Shows at (shown_here tree) → Kept tree at Idle
+    KeepsNoOther tree at.procedures → IsWhole at.counted.store → Shows at (shown_here tree) → Kept tree at Idle
 kept_idle tree job runner at k ready no_other whole shows = record {
   legal = k.legal;
   possible = tt;
@@ -144,7 +147,7 @@ kept_idle tree job runner at k ready no_other whole shows = record {
 }
 
 -- a store that shows the same shows the same world
-pub shows_still : {L : Type 0} (runner at : Runner L) (shown : ShownWorld) → Becomes runner.store at.store (shown_store runner.store) →
+pub shows_still : {L : Type 0} (runner at : Runner L) (shown : ShownWorld) → Becomes runner.counted.store at.counted.store (shown_store runner.counted.store) →
     at.procedures ≡ runner.procedures → at.entries ≡ runner.entries → Shows runner shown → Shows at shown
 shows_still runner at shown h same entries shows =
     let ps = shown.world.procedures in
@@ -153,14 +156,15 @@ shows_still runner at shown h same entries shows =
       texts = h.texts;
       slots = h.slots;
       listed = subst (λ (es : List Name). AreListed es ps) (sym entries) shows.listed;
-      defined = subst (λ (t : Procedures). Define at.store.names t shown.bodies (slots.procedures_in at.entries ps)) (sym same)
-          (subst (λ (es : List Name). Define at.store.names runner.procedures shown.bodies (slots.procedures_in es ps)) (sym entries)
-          (defined_grow runner.store.names at.store.names h.names runner.procedures shown.bodies (slots.procedures_in runner.entries ps) shows.defined));
+      defined = subst (λ (t : Procedures). Define at.counted.store.names t shown.bodies (slots.procedures_in at.entries ps)) (sym same)
+          (subst (λ (es : List Name). Define at.counted.store.names runner.procedures shown.bodies (slots.procedures_in es ps)) (sym entries)
+          (defined_grow runner.counted.store.names at.counted.store.names h.names runner.procedures shown.bodies
+          (slots.procedures_in runner.entries ps) shows.defined));
     }
 
 -- no cell could be entered
 pub kept_refused : {L : Type 0} (tree : HistoryTree) (job : Open) (runner at : Runner L) → Kept tree runner job → KeepsNoOther tree runner.procedures →
-    Shows runner (shown_here tree) → Becomes runner.store at.store (shown_store runner.store) → at.procedures ≡ runner.procedures →
+    Shows runner (shown_here tree) → Becomes runner.counted.store at.counted.store (shown_store runner.counted.store) → at.procedures ≡ runner.procedures →
     at.entries ≡ runner.entries → Kept tree at Idle
 kept_refused tree job runner at k no_other shows h same entries =
     kept_idle tree job runner at k (nodes_ready tree runner at h.names (same_more runner.entries at.entries entries) (ap kept_in same) k.ready)
@@ -245,7 +249,7 @@ pub kept_grown : {L : Type 0} (tree larger : HistoryTree) (program : ACell) (n :
     larger.cells.favourites ≡ set tree.cells.favourites tree.position (length (nodes_of tree)) ++ 0 ∷ [] →
     larger.position ≡ length (nodes_of tree) →
     IsLegal (past_of tree) → IsFormed program (here (past_of tree)) →
-    CodeExec (Forward program) (here (past_of tree)) n v → Shows runner (over (bodies_at larger larger.position) v) → IsWhole runner.store →
+    CodeExec (Forward program) (here (past_of tree)) n v → Shows runner (over (bodies_at larger larger.position) v) → IsWhole runner.counted.store →
     NodesAreReady larger runner → AreInOrder larger → KeepsNoOther larger runner.procedures →
     Kept larger runner Idle
 kept_grown tree larger program n runner v nodes favourites position legal formed ran shows whole ready order no_other =
@@ -280,7 +284,7 @@ border_job (Border t) travel e = (t, refl, cc)
 border_job (Inside x) travel e = cc
 
 pub kept_arrived : {L : Type 0} (left : ℕ) (moved-to : HistoryTree) (travel : Travel) (told : Sliced) (job : Open) (runner : Runner L) → left ≡ cells travel →
-    IsLegal (past_of moved-to) → Shows runner (shown_here moved-to) → IsWhole runner.store →
+    IsLegal (past_of moved-to) → Shows runner (shown_here moved-to) → IsWhole runner.counted.store →
     CanGo travel.aim (nodes_of moved-to) moved-to.cells.favourites moved-to.position travel.up travel.down → IsCounted travel →
     HasPath travel.aim moved-to travel.down → NodesAreReady moved-to runner → AreInOrder moved-to → KeepsNoOther moved-to runner.procedures →
     Arrives left (past_of moved-to) travel told (state_of moved-to job) → Kept moved-to runner job
@@ -329,7 +333,7 @@ path_of (Goto n) tree other down e f h = rw (e, f) h
 pub kept_up : {L : Type 0} (tree : HistoryTree) (p : ℕ) (travel : Travel) (runner : Runner L) (told : Sliced) (job : Open) → next_way travel ≡ Up →
     IsLegal (past_of tree) →
     IsPossible (nodes_of tree) tree.cells.favourites tree.position travel → IsCounted travel → HasPath travel.aim tree travel.down → NodesAreReady tree runner →
-    AreInOrder tree → KeepsNoOther tree runner.procedures → IsWhole runner.store →
+    AreInOrder tree → KeepsNoOther tree runner.procedures → IsWhole runner.counted.store →
     p ≡ (node_at (past_of tree) tree.position).parent →
     Shows runner (over (bodies_at tree (node_at (past_of tree) tree.position).parent)
     (world_at (past_of tree) (node_at (past_of tree) tree.position).parent)) →
@@ -354,7 +358,7 @@ kept_up tree p travel runner told job way legal possible small path ready order 
 pub kept_down : {L : Type 0} (tree moved-to : HistoryTree) (c : ℕ) (travel : Travel) (runner : Runner L) (told : Sliced) (job : Open) → next_way travel ≡ Down →
     IsLegal (past_of tree) →
     IsPossible (nodes_of tree) tree.cells.favourites tree.position travel → IsCounted travel → HasPath travel.aim tree travel.down → NodesAreReady tree runner →
-    AreInOrder tree → KeepsNoOther tree runner.procedures → IsWhole runner.store →
+    AreInOrder tree → KeepsNoOther tree runner.procedures → IsWhole runner.counted.store →
     c ≡ below (past_of tree) travel → moved-to.cells.nodes ≡ tree.cells.nodes → moved-to.cells.favourites ≡ set tree.cells.favourites tree.position c →
     moved-to.position ≡ c → moved-to.cells.way ≡ tree.cells.way →
     Shows runner (over (bodies_at tree (below (past_of tree) travel)) (world_at (past_of tree) (below (past_of tree) travel))) →
@@ -458,7 +462,7 @@ module _ {L : Type 0} (tree larger : HistoryTree) (program : Program) (n : ℕ) 
 -- ---- begins
 
 pub kept_entered : {L : Type 0} (tree : HistoryTree) (runner at : Runner L) (travel : Travel) → Kept tree runner (Border travel) →
-    GoOn runner.store.names at.store.names → at.entries ≡ runner.entries → kept_in at.procedures ≡ kept_in runner.procedures →
+    GoOn runner.counted.store.names at.counted.store.names → at.entries ≡ runner.entries → kept_in at.procedures ≡ kept_in runner.procedures →
     StandsIn tree (Move travel) 0 false at →
     IsKept tree at (Inside (record { work = Move travel; count = 0; heading = GoesOn }))
 kept_entered tree runner at travel k more entries same stands =
@@ -665,7 +669,7 @@ program_down tree work travel cell e way at = rw e (down_is tree travel cell.pro
 
 -- the runner has gone on, or back, in the work's program
 pub kept_at : {L : Type 0} (tree : HistoryTree) (work : Work) (count c : ℕ) (heading to : Heading) (runner at : Runner L) (p : Program) →
-    Kept tree runner (Inside (record { work = work; count = count; heading = heading })) → GoOn runner.store.names at.store.names →
+    Kept tree runner (Inside (record { work = work; count = count; heading = heading })) → GoOn runner.counted.store.names at.counted.store.names →
     at.entries ≡ runner.entries → kept_in at.procedures ≡ kept_in runner.procedures →
     IsProgramOf tree work p → Stands at p (place_in tree work p c) (is_back to) → Kept tree at (Inside (record { work = work; count = c; heading = to }))
 kept_at tree work count c heading to runner at p k more entries same of stands =
@@ -739,7 +743,7 @@ can_go_down_to tree travel cell runner way legal possible at is ready order = re
   is = is;
   sound = here_sound tree legal;
   formed = formed_next tree travel cell way legal possible at;
-  ready = subst (λ (g : List Name). IsReady runner.store.names runner.entries g runner.procedures cell.program)
+  ready = subst (λ (g : List Name). IsReady runner.counted.store.names runner.entries g runner.procedures cell.program)
       (names_next tree travel cell way legal possible at) (ready _ cell at).ready;
   named = (ready _ cell at).named;
   behind = cell_behind tree legal order tree.position (below (past_of tree) travel) cell (before_below tree travel way legal possible) at;
@@ -827,7 +831,7 @@ if_ok_map (Err e) f h = tt
 -- ---- between two jobs
 
 pub idle_store : {L : Type 0} (tree : HistoryTree) (runner : Runner L) (job : Open) → StandsAt tree job runner → job_of job ≡ state.Idle →
-    (shown_store runner.store ≡ (here (past_of tree)).store) × IsWhole runner.store
+    (shown_store runner.counted.store ≡ (here (past_of tree)).store) × IsWhole runner.counted.store
 idle_store tree runner Idle stands e = (stands.0.store, stands.1)
 idle_store tree runner (Border travel) stands e = absurd (cc e)
 idle_store tree runner (Inside i) stands e = absurd (cc e)
@@ -837,7 +841,7 @@ idle_store tree runner (Inside i) stands e = absurd (cc e)
 module _ {L : Type 0} (tree : HistoryTree) (runner : Runner L) (cell : EndedCell) (n : ℕ) (at : IsCellAt tree tree.position cell)
     (legal : IsLegal (past_of tree)) where
   -- the cell of the position is undone: what it declared and defined is left to be taken back
-  pub can_leave_up : (travel : Travel) (back : Bool) → next_way travel ≡ Up → StandsIn tree (Move travel) n back runner → IsWhole runner.store →
+  pub can_leave_up : (travel : Travel) (back : Bool) → next_way travel ≡ Up → StandsIn tree (Move travel) n back runner → IsWhole runner.counted.store →
       NodesAreReady tree runner →
       world_of (start_of (code_of (past_of tree) (state.Move travel)) (here (past_of tree))).procedures runner ≡ entered (cell_of_program cell.program)
       (world_at (past_of tree) (node_at (past_of tree) tree.position).parent) →
@@ -883,11 +887,12 @@ pub posted_behind : {L : Type 0} (tree : HistoryTree) (runner : Runner L) (progr
     program.first ≡ length (kept_in runner.procedures) → IsBehindNodes tree (RunCell program)
 posted_behind tree runner program ready first = λ n cell is. let within = (ready n cell is).ready.within in omega (arith, within, first)
 
-pub nodes_more : {L : Type 0} (tree : HistoryTree) (runner at : Runner L) → GoOn runner.store.names at.store.names → GoOn runner.entries at.entries →
+pub nodes_more : {L : Type 0} (tree : HistoryTree) (runner at : Runner L) → GoOn runner.counted.store.names at.counted.store.names →
+    GoOn runner.entries at.entries →
     take (length (kept_in runner.procedures)) (kept_in at.procedures) ≡ kept_in runner.procedures → NodesAreReady tree runner → NodesAreReady tree at
 nodes_more tree runner at more listed older h = λ n cell is.
     (let g : List Name = names_in (world_at (past_of tree) n).store in
-    can_run_still runner at g cell.program more listed (ready_more at.store.names at.entries g runner.procedures at.procedures cell.program older)
+    can_run_still runner at g cell.program more listed (ready_more at.counted.store.names at.entries g runner.procedures at.procedures cell.program older)
     (h n cell is))
 
 pub behind_stack : (tree : HistoryTree) (program : Program) → IsLegal (past_of tree) → AreInOrder tree → IsBehindNodes tree (RunCell program) →
@@ -913,7 +918,7 @@ module _ {L : Type 0} (tree : HistoryTree) (runner : Runner L) (work : Work) (wh
   part_back : CodePart (code_of (past_of tree) (work_of work)) (here (past_of tree)) 0 (world_of start.procedures runner)
   part_back = stands_part runner k.stands.program (place_in tree work k.stands.program 0) true k.stands.stands
 
-  pub can_leave_cell : (program : Program) → work ≡ RunCell program → IsWhole runner.store → CanLeave runner program (shown_here tree)
+  pub can_leave_cell : (program : Program) → work ≡ RunCell program → IsWhole runner.counted.store → CanLeave runner program (shown_here tree)
   can_leave_cell program e whole =
       let of : IsProgramOf tree work program = rw e refl in
       let is : bodies_in tree work program ≡ with_bodies program (bodies_at tree tree.position) = rw e refl in
@@ -924,7 +929,7 @@ module _ {L : Type 0} (tree : HistoryTree) (runner : Runner L) (work : Work) (wh
       }
 
   pub can_leave_down : (travel : Travel) (cell : EndedCell) → work ≡ Move travel → next_way travel ≡ Down → IsCellAt tree (below (past_of tree) travel) cell →
-      IsWhole runner.store → CanLeave runner cell.program (shown_here tree)
+      IsWhole runner.counted.store → CanLeave runner cell.program (shown_here tree)
   can_leave_down travel cell e way at whole =
       let of : IsProgramOf tree work cell.program = program_down tree work travel cell e way at in
       let is : bodies_in tree work cell.program ≡ with_bodies cell.program (bodies_at tree tree.position) = rw (e, bodies_in) (rw way refl) in
@@ -960,16 +965,17 @@ module _ {L : Type 0} (tree : HistoryTree) (runner : Runner L) (work : Work) (wh
       let own : KeepsNoOther tree runner.procedures = subst (λ (w : Work). KeepsNoOtherFor tree w runner.procedures) e k.no_other in
       no_other_same tree runner.procedures t same own
 
-  pub nodes_forgotten : {M : Type 0} (old new : Runner M) (program : Program) → work ≡ RunCell program → new.store.names ≡ old.store.names →
+  pub nodes_forgotten : {M : Type 0} (old new : Runner M) (program : Program) → work ≡ RunCell program → new.counted.store.names ≡ old.counted.store.names →
       new.entries ≡ old.entries → kept_in new.procedures ≡ take program.first (kept_in old.procedures) → NodesAreReady tree old → NodesAreReady tree new
   nodes_forgotten old new program e names entries kept ready = λ n cell is.
       let behind : IsBehindNodes tree (RunCell program) = subst (λ (w : Work). IsBehindNodes tree w) e k.behind in
       let g : List Name = names_in (world_at (past_of tree) n).store in
-      can_run_still old new g cell.program (same_more old.store.names new.store.names names) (same_more old.entries new.entries entries)
-      (ready_less new.store.names new.entries g old.procedures new.procedures program.first cell.program (behind n cell is) kept) (ready n cell is)
+      can_run_still old new g cell.program (same_more old.counted.store.names new.counted.store.names names) (same_more old.entries new.entries entries)
+      (ready_less new.counted.store.names new.entries g old.procedures new.procedures program.first cell.program (behind n cell is) kept) (ready n cell is)
 
 -- what is shown stays where bodies that are not defined are dropped
-pub shows_forgotten : {L : Type 0} (old new : Runner L) (from : ℕ) (shown : ShownWorld) → new.store ≡ old.store → new.entries ≡ old.entries → Shows old shown →
+pub shows_forgotten : {L : Type 0} (old new : Runner L) (from : ℕ) (shown : ShownWorld) → new.counted.store ≡ old.counted.store → new.entries ≡ old.entries →
+    Shows old shown →
     AreBelow from shown.bodies → kept_in new.procedures ≡ take from (kept_in old.procedures) → AreDefined new.procedures shown.bodies → Shows new shown
 shows_forgotten old new from shown same entries shows low kept defined =
     let ps = shown.world.procedures in
@@ -979,8 +985,8 @@ shows_forgotten old new from shown same entries shows low kept defined =
       slots = subst (λ (h : StoreState). AreSlots h.names) (sym same) shows.slots;
       listed = subst (λ (es : List Name). AreListed es ps) (sym entries) shows.listed;
       defined = subst (λ (h : StoreState). Define h.names new.procedures shown.bodies (slots.procedures_in new.entries ps)) (sym same)
-          (subst (λ (es : List Name). Define old.store.names new.procedures shown.bodies (slots.procedures_in es ps)) (sym entries)
-          (forgotten_still_defined old.store.names old.procedures new.procedures shown.bodies (slots.procedures_in old.entries ps)
+          (subst (λ (es : List Name). Define old.counted.store.names new.procedures shown.bodies (slots.procedures_in es ps)) (sym entries)
+          (forgotten_still_defined old.counted.store.names old.procedures new.procedures shown.bodies (slots.procedures_in old.entries ps)
           from shows.defined low kept defined));
     }
 
@@ -991,9 +997,9 @@ pub record IsUnentered {L : Type 0} (tree : HistoryTree) (old : Runner L) (made 
   pub past : past_of made ≡ past_of tree
   pub nodes : made.cells.nodes ≡ tree.cells.nodes
   pub position : made.position ≡ tree.position
-  pub names : GoOn old.store.names at.store.names
+  pub names : GoOn old.counted.store.names at.counted.store.names
   pub entries : GoOn old.entries at.entries
-  pub whole : IsWhole at.store
+  pub whole : IsWhole at.counted.store
   pub shows : Shows at (shown_here tree)
   pub older : take (length (kept_in old.procedures)) (kept_in at.procedures) ≡ kept_in old.procedures
   pub idle : job ≡ Idle
@@ -1001,13 +1007,13 @@ pub record IsUnentered {L : Type 0} (tree : HistoryTree) (old : Runner L) (made 
 -- its bodies are dropped
 pub kept_dropped : {L : Type 0} (tree made : HistoryTree) (old at new : Runner L) (job : Open) (first : ℕ) → Kept tree old Idle →
     IsUnentered tree old made at job → first ≡ length (kept_in old.procedures) → AreBelow first (bodies_at tree tree.position) →
-    new.store ≡ at.store → new.entries ≡ at.entries → kept_in new.procedures ≡ take first (kept_in at.procedures) →
+    new.counted.store ≡ at.counted.store → new.entries ≡ at.entries → kept_in new.procedures ≡ take first (kept_in at.procedures) →
     ((stack : List ℕ) → AreDefined at.procedures stack → AreBelow first stack → AreDefined new.procedures stack) → IsKept made new job
 kept_dropped tree made old at new job first k un is low store entries kept defined =
     let same : kept_in new.procedures ≡ kept_in old.procedures = kept ∙ ap (λ (n : ℕ). take n (kept_in at.procedures)) is ∙ un.older in
-    let names : GoOn old.store.names new.store.names = subst (λ (h : StoreState). GoOn old.store.names h.names) (sym store) un.names in
+    let names : GoOn old.counted.store.names new.counted.store.names = subst (λ (h : StoreState). GoOn old.counted.store.names h.names) (sym store) un.names in
     let listed : GoOn old.entries new.entries = subst (λ (es : List Name). GoOn old.entries es) (sym entries) un.entries in
-    let whole : IsWhole new.store = subst (λ (h : StoreState). IsWhole h) (sym store) un.whole in
+    let whole : IsWhole new.counted.store = subst (λ (h : StoreState). IsWhole h) (sym store) un.whole in
     let shows = shows_forgotten at new first (shown_here tree) store entries un.shows low kept
     (defined (bodies_at tree tree.position) un.shows.defined.defined low) in
     let idle = kept_idle tree Idle old new k (nodes_ready tree old new names listed same k.ready)

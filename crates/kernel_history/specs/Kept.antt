@@ -107,7 +107,7 @@ reached tree runner work = world_of (procedures_in tree work) runner
 pub record HasCome {L : Type 0} (tree : HistoryTree) (runner : Runner L) (work : Work) (n : ℕ) : Type 0 where
   pub kept : Kept tree runner (Inside (record { work = work; count = n; heading = GoesOn }))
   pub ended : HasEnded (past_of tree) (work_of work) n (reached tree runner work)
-  pub whole : IsWhole runner.store
+  pub whole : IsWhole runner.counted.store
 
 -- the cell settles well, in n steps and in the world to which its code has led: this is told, and the machine is here then
 abbrev pub SettlesFrom : {L : Type 0} → HistoryTree → Runner L → Work → ℕ → Sliced → State → Type 0

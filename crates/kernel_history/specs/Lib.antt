@@ -1,6 +1,7 @@
 -- The definitions of the history: its types read as those of the machine, and what its fields keep.
 
 pub mod Fields
+pub mod CountedState
 pub mod NodeTrees
 pub mod Bodies
 pub mod Index

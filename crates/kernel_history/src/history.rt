@@ -1,11 +1,11 @@
 //! The history: the tree of cells, the one store, and the open job. It is what a kernel has besides its queue.
-ghost use Rattle.std.specs.Prelude.{◌≡◌, ◌+◌, ℕ, List, IfOk, IfErr, IfSome, IfNone, OnOk, OnErr, length, nat_lt};
-ghost use Rattle.kernel_machine.specs.State.{State, Idle, Border, here, is_full, Shown, new_state};
+ghost use Rattle.std.specs.Prelude.{◌≡◌, ◌+◌, ◌<◌, ℕ, List, IfOk, IfErr, IfSome, IfNone, OnOk, OnErr, length, nat_lt};
+ghost use Rattle.kernel_machine.specs.State.{Idle, Border, here, is_full, Shown, new_state};
 ghost use Rattle.kernel_history.specs.Fields.{past_of, nodes_of, state_of, IsStageOf};
 ghost use Rattle.kernel_machine.specs.declared.travel.Aim.TheVariants.{Undo, Redo};
 ghost use Rattle.kernel_machine.specs.Legal.{IsLegal, IsPossible, IsCounted, CanGo, can_undo, can_redo};
 ghost use Rattle.kernel_machine.specs.Slices.{IsSlice, cells};
-ghost use Rattle.kernel_machine.specs.StepsOfSlices.{WritesOnSlice};
+ghost use Rattle.kernel_machine.specs.StepsOfSlices.{WritesOnSlice, StepsOnSlice};
 ghost use Rattle.kernel_machine.specs.Begins.{TakesCell, TakesMove, TakesGoto, Departs, Enters, Declares, travel_to};
 ghost use Rattle.janus_meaning.specs.World.{entered};
 ghost use Rattle.janus_names.specs.Numbers.{GoOn};
@@ -15,7 +15,8 @@ ghost use Rattle.janus_store.specs.StoreState.{IsWhole, KeepsSight, shown_store}
 ghost use Rattle.kernel_loader.specs.Procedures.{kept_in};
 ghost use Rattle.kernel_machine.specs.Text.{Accepts, Refuses};
 ghost use Rattle.kernel_loader.specs.Program.{cell_of_program, procedures_of, IsReady};
-ghost use Rattle.kernel_loader.specs.Runner.{over, Becomes, Is, Between};
+ghost use Rattle.kernel_loader.specs.Runner.{over, Becomes, Is, Between, KeepsCounts as RunnerKeepsCounts};
+ghost use Rattle.kernel_history.specs.CountedState.{KeepsCounts};
 ghost use Rattle.kernel_loader.specs.Keeping.{KeepsOlder};
 ghost use Rattle.kernel_loader.specs.Loading.{KeepsShown};
 ghost use Rattle.kernel_machine.specs.Extent.{IsExtent};
@@ -33,16 +34,17 @@ use crate::tree::{HistoryTree, below, can_go_down, can_go_up, find_way, is_full}
 use crate::view::View;
 use cell_tree::Tree as Cells;
 use janus_syntax::tree::Cell;
-use kernel_loader::{Program, Runner, Store, Writes, load};
+use kernel_loader::{Program, Runner, Store, load};
 use kernel_machine::{
     Aim, Begun, Extent, Heading, Outcome, Refusal, Sliced, Travel, TravelEnd, Way,
 };
 use std::alloc::{AllocError, Global};
 use std::marker::Model;
-use std::sync::ledger::Ledger;
+use std::sync::ledger::{Blank, Ledger};
 
 /// The tree, the runner with the one store, and the open job.
-/// Contracts see a state of the machine, with the worlds of all nodes. None of them is kept here.
+/// Contracts see a state of the machine, with the worlds of all nodes, of which none is kept here, and the counts of the store's writes and of
+/// the steps that were taken.
 #[derive(Drop)]
 pub struct History<L: Ledger> {
     tree: HistoryTree,
@@ -51,17 +53,17 @@ pub struct History<L: Ledger> {
 }
 
 impl<L: Ledger> Model for History<L> {
-    ghost use Rattle.kernel_machine.specs.State.{State};
-    ghost use Rattle.kernel_machine.specs.StateCode.{state_code};
+    ghost use Rattle.kernel_history.specs.CountedState.{CountedState, counted_code};
 
-    ghost Value = { State };
+    ghost Value = { CountedState };
 
-    ghost coded = { state_code };
+    ghost coded = { counted_code };
 
     ghost use Rattle.kernel_history.specs.Fields.{state_of};
     ghost use Rattle.kernel_history.specs.Kept.{IsKept};
+    ghost use Rattle.kernel_loader.specs.Runner.{writes_of, steps_of};
 
-    ghost view = { λ a. state_of a.tree a.job };
+    ghost view = { λ a. record { state = state_of a.tree a.job; writes = writes_of a.runner; steps = steps_of a.runner } };
 
     ghost invariant = { λ a. IsKept a.tree a.runner a.job };
 }
@@ -79,12 +81,13 @@ fn enter_next<L: Ledger>(
     requires ready { NodesAreReady tree.now runner.old }
     requires order { AreInOrder tree.now }
     ensures ok { OnOk result (StandsAt tree.now (Open.Inside (record { work = Work.Move travel; count = 0; heading = Heading.GoesOn })) runner.new) }
-    ensures err { OnErr result (Becomes runner.old.store runner.new.store (shown_store runner.old.store)) }
+    ensures err { OnErr result (Becomes runner.old.counted.store runner.new.counted.store (shown_store runner.old.counted.store)) }
     ensures same { OnErr result (runner.new.procedures ≡ runner.old.procedures) }
     ensures bodies { kept_in runner.new.procedures ≡ kept_in runner.old.procedures }
-    ensures names { GoOn runner.old.store.names runner.new.store.names }
+    ensures names { GoOn runner.old.counted.store.names runner.new.counted.store.names }
     ensures entries { runner.new.entries ≡ runner.old.entries }
     ensures declares { OnErr result (Declares (past_of tree.now) travel) }
+    ensures counts { RunnerKeepsCounts runner.old runner.new }
 {
     match travel.way() {
         Way::Up => {
@@ -100,6 +103,7 @@ fn enter<L: Ledger>(tree: &HistoryTree, runner: &mut Runner<L>, travel: Travel) 
     requires { Kept tree.now runner.old (Open.Border travel) }
     ensures step { Enters (past_of tree.now) travel result.1 (state_of tree.now result.0) }
     ensures kept { IsKept tree.now runner.new result.0 }
+    ensures counts { RunnerKeepsCounts runner.old runner.new }
 {
     if enter_next(tree, runner, travel).is_err() {
         return (
@@ -123,6 +127,7 @@ fn depart<L: Ledger>(tree: &HistoryTree, runner: &mut Runner<L>, travel: Travel)
     requires path { HasPath travel.aim tree.now travel.down }
     ensures step { Departs (cells travel) (past_of tree.now) travel result.1 (state_of tree.now result.0) }
     ensures kept { IsKept tree.now runner.new result.0 }
+    ensures counts { RunnerKeepsCounts runner.old runner.new }
 {
     if travel.is_over() {
         return (Open::Idle, Begun::Ended(finished(travel, TravelEnd::All)));
@@ -141,7 +146,7 @@ fn prepare<L: Ledger>(
     requires is { (bodies : List ℕ) × Is runner.old (Between (over bodies (here (past_of tree.now)))) }
     ensures accepts { IfOk result (λ program. Accepts (here (past_of tree.now)) text.now (cell_of_program program)) }
     ensures refuses { IfErr result (Refuses (here (past_of tree.now)) text.now) }
-    ensures ready { IfOk result (λ program. IsReady runner.new.store.names runner.new.entries
+    ensures ready { IfOk result (λ program. IsReady runner.new.counted.store.names runner.new.entries
         (names_in (entered (cell_of_program program) (here (past_of tree.now))).store) runner.new.procedures program) }
     ensures named { IfOk result (λ program. AreListed runner.new.entries (procedures_of program)) }
     // Its bodies are behind those that were kept, with none behind them, and what is refused leaves those alone.
@@ -149,9 +154,10 @@ fn prepare<L: Ledger>(
     ensures last { IfOk result (λ program. length (kept_in runner.new.procedures) ≡ program.first + length (procedures_of program)) }
     ensures older { KeepsOlder runner.old.procedures runner.new.procedures }
     ensures none { OnErr result (kept_in runner.new.procedures ≡ kept_in runner.old.procedures) }
-    ensures kept { KeepsSight runner.old.store runner.new.store }
+    ensures kept { KeepsSight runner.old.counted.store runner.new.counted.store }
     ensures entries { GoOn runner.old.entries runner.new.entries }
     ensures shown { KeepsShown runner.old runner.new }
+    ensures counts { RunnerKeepsCounts runner.old runner.new }
 {
     let Ok(procedures) = procedures_here(alloc, tree, runner) else {
         return Err(Refusal::Memory);
@@ -160,12 +166,17 @@ fn prepare<L: Ledger>(
 }
 
 impl<L: Ledger> History<L> {
-    /// An empty history.
-    pub fn new(alloc: Global) -> Result<History<L>, AllocError>
-        ensures { IfOk result (λ history. history ≡ new_state) }
+    /// An empty history, with no writes and no steps so far, which are counted in the ledger that is opened by this blank.
+    pub fn new(alloc: Global, blank: Blank) -> Result<History<L>, AllocError>
+        requires name { blank.name ≡ L.name }
+        requires parts { blank.parts ≡ L.parts }
+        requires two { 1 < L.parts }
+        ensures state { IfOk result (λ history. history.state ≡ new_state) }
+        ensures unwritten { IfOk result (λ history. history.writes ≡ 0) }
+        ensures no_steps { IfOk result (λ history. history.steps ≡ 0) }
     {
         let cells = Cells::new(alloc)?;
-        let runner = Runner::new(alloc)?;
+        let runner = Runner::new(alloc, blank)?;
         Ok(History {
             tree: HistoryTree { cells, position: 0 },
             runner,
@@ -175,32 +186,32 @@ impl<L: Ledger> History<L> {
 
     /// The shown world.
     pub fn world(&self) -> View<'_, L>
-        ensures { Shown self.now result }
+        ensures { Shown self.now.state result }
     {
         View::of(&self.runner, &self.tree, &self.job)
     }
 
     /// The store between two jobs: it has the names and values of the position's world, and no local is open.
     pub fn store(&self) -> &Store<L>
-        requires { self.now.job ≡ Idle }
-        ensures sight { result.now.sight ≡ (here self.now.past).store }
+        requires { self.now.state.job ≡ Idle }
+        ensures sight { result.now.sight ≡ (here self.now.state.past).store }
         ensures whole { IsWhole result.now }
     {
-        self.runner.store.slots_law();
-        &self.runner.store
+        self.runner.counted.store.slots_law();
+        &self.runner.counted.store
     }
 
     /// The number of the node at which the kernel stands.
     pub fn position(&self) -> usize
-        ensures { result ≡ self.now.past.position }
+        ensures { result ≡ self.now.state.past.position }
     {
         self.tree.position
     }
 
     /// The cell of a node, as it was read from its text and checked; none of the root, or where there is no such node.
     pub fn cell(&self, node: usize) -> Option<&Cell>
-        ensures some { IfSome result (λ cell. IsTreeAt self.now.past node (cell_view cell.now)) }
-        ensures none { IfNone result (HasNoTree self.now.past node) }
+        ensures some { IfSome result (λ cell. IsTreeAt self.now.state.past node (cell_view cell.now)) }
+        ensures none { IfNone result (HasNoTree self.now.state.past node) }
     {
         if node == 0 || !self.tree.cells.has(node) {
             return None;
@@ -210,7 +221,7 @@ impl<L: Ledger> History<L> {
 
     /// How far an undo and a redo can go, and how many nodes there are.
     pub fn extent(&self) -> Extent
-        ensures { IsExtent self.now.past result }
+        ensures { IsExtent self.now.state.past result }
     {
         extent_of(&self.tree)
     }
@@ -218,8 +229,9 @@ impl<L: Ledger> History<L> {
     /// Begins a posted cell: it takes all memory of its run, that of its node included. Where the history has as many nodes as it
     /// may have, the cell is refused whatever its text.
     pub fn begin_cell(&mut self, alloc: Global, text: &str) -> Begun
-        requires { self.old.job ≡ Idle }
-        ensures { TakesCell self.old.past text.now (is_full self.old.past) result self.new }
+        requires { self.old.state.job ≡ Idle }
+        ensures takes { TakesCell self.old.state.past text.now (is_full self.old.state.past) result self.new.state }
+        ensures counts { KeepsCounts self.old self.new }
     {
         if is_full(&self.tree) {
             return Begun::Ended(Outcome::Refused(Refusal::HistoryFull));
@@ -242,8 +254,10 @@ impl<L: Ledger> History<L> {
 
     /// Begins an undo of `k` cells.
     pub fn begin_undo(&mut self, k: u32) -> Begun
-        requires { self.old.job ≡ Idle }
-        ensures { TakesMove self.old.past (travel_to Undo k 0) (can_undo self.old.past.nodes self.old.past.position k) result self.new }
+        requires { self.old.state.job ≡ Idle }
+        ensures takes { TakesMove self.old.state.past (travel_to Undo k 0) (can_undo self.old.state.past.nodes self.old.state.past.position k)
+            result self.new.state }
+        ensures counts { KeepsCounts self.old self.new }
     {
         if !can_go_up(&self.tree, k) {
             return Begun::Ended(Outcome::Refused(Refusal::TooFar));
@@ -256,8 +270,10 @@ impl<L: Ledger> History<L> {
 
     /// Begins a redo of `k` cells.
     pub fn begin_redo(&mut self, k: u32) -> Begun
-        requires { self.old.job ≡ Idle }
-        ensures { TakesMove self.old.past (travel_to Redo 0 k) (can_redo self.old.past.favourites self.old.past.position k) result self.new }
+        requires { self.old.state.job ≡ Idle }
+        ensures takes { TakesMove self.old.state.past (travel_to Redo 0 k) (can_redo self.old.state.past.favourites self.old.state.past.position k)
+            result self.new.state }
+        ensures counts { KeepsCounts self.old self.new }
     {
         if !can_go_down(&self.tree, k) {
             return Begun::Ended(Outcome::Refused(Refusal::TooFar));
@@ -270,8 +286,9 @@ impl<L: Ledger> History<L> {
 
     /// Begins a goto to the node `n`.
     pub fn begin_goto(&mut self, n: u32) -> Begun
-        requires { self.old.job ≡ Idle }
-        ensures { TakesGoto self.old.past n (nat_lt n (length self.old.past.nodes)) result self.new }
+        requires { self.old.state.job ≡ Idle }
+        ensures takes { TakesGoto self.old.state.past n (nat_lt n (length self.old.state.past.nodes)) result self.new.state }
+        ensures counts { KeepsCounts self.old self.new }
     {
         let n = n as usize;
         let Ok(way) = find_way(&mut self.tree, n) else {
@@ -285,8 +302,9 @@ impl<L: Ledger> History<L> {
 
     /// Enters the next cell of a travel.
     pub fn enter(&mut self, travel: Travel) -> Begun
-        requires { self.old.job ≡ Border travel }
-        ensures { Enters self.old.past travel result self.new }
+        requires { self.old.state.job ≡ Border travel }
+        ensures enters { Enters self.old.state.past travel result self.new.state }
+        ensures counts { KeepsCounts self.old self.new }
     {
         let (job, told) = enter(&self.tree, &mut self.runner, travel);
         self.job = job;
@@ -295,7 +313,7 @@ impl<L: Ledger> History<L> {
 
     /// Where the open job stands.
     pub fn stage(&self) -> Stage
-        ensures { IsStageOf self.now result }
+        ensures { IsStageOf self.now.state result }
     {
         match &self.job {
             Open::Idle => Stage::Idle,
@@ -305,17 +323,11 @@ impl<L: Ledger> History<L> {
     }
 
     /// One slice of up to `m` steps. It takes no memory.
-    pub fn slice(&mut self, writes: &mut Writes<L>, m: u64, asked: bool) -> Sliced
-        ensures slice { IsSlice self.old m asked result self.new }
-        ensures written { WritesOnSlice self.old m asked writes.old writes.new }
+    pub fn slice(&mut self, m: u64, asked: bool) -> Sliced
+        ensures slice { IsSlice self.old.state m asked result self.new.state }
+        ensures written { WritesOnSlice self.old.state m asked self.old.writes self.new.writes }
+        ensures counted { StepsOnSlice self.old.state m asked self.old.steps self.new.steps }
     {
-        slice_job(
-            &mut self.tree,
-            &mut self.runner,
-            writes,
-            &mut self.job,
-            m,
-            asked,
-        )
+        slice_job(&mut self.tree, &mut self.runner, &mut self.job, m, asked)
     }
 }

@@ -15,13 +15,14 @@
 //!
 //! The definitions, in specs/, in reading order:
 //!
-//! - `Fields`: the types of the code read as the machine's. `NodeTrees`: the tree of a node's cell.
+//! - `Fields`: the types of the code read as the machine's. `CountedState`: what contracts see of a history, with what is counted.
+//!   `NodeTrees`: the tree of a node's cell.
 //! - `Bodies`: which program a node has and a job runs, which bodies are defined where, and how many are kept.
 //! - `Index`: what the index of bodies tells of the tree.
 //! - `Standing`: where the runner stands.
 //! - `Kept`: what a history keeps of its fields, with a map of it, what a slice leaves, and where a cell has come to its end.
 //!
-//! It gives again what `kernel_core` cites of the layers below: the store with its writes, the procedures that are lent, and the names in sight.
+//! It gives again what `kernel_core` cites of the layers below: the store, the procedures that are lent, and the names in sight.
 #![tactic(auto)]
 
 mod defined;
@@ -35,4 +36,4 @@ mod view;
 pub use crate::history::History;
 pub use crate::job::Stage;
 pub use crate::view::View;
-pub use kernel_loader::{Store, Writes, names_in_sight};
+pub use kernel_loader::{Store, names_in_sight};

@@ -1,6 +1,6 @@
 //! A slice and its parts: steps onward and back, and what comes at the end of a cell. None of them takes memory, and none moves the program of
 //! the open job before the end of its cell.
-ghost use Rattle.std.specs.Prelude.{◌≡◌, ◌-◌, IfSome, IfNone, false};
+ghost use Rattle.std.specs.Prelude.{◌≡◌, ◌+◌, ◌-◌, IfSome, IfNone, false};
 ghost use Rattle.kernel_machine.specs.State.{Past};
 ghost use Rattle.kernel_machine.specs.declared.travel.Way.TheVariants.{Up, Down};
 ghost use Rattle.kernel_machine.specs.Travel.{next_way};
@@ -8,10 +8,10 @@ ghost use Rattle.kernel_history.specs.Fields.{past_of, state_of, work_of, job_of
 ghost use Rattle.kernel_machine.specs.Legal.{IsLegal, IsPossibleWork};
 ghost use Rattle.kernel_machine.specs.Slices.{finished as the_finished, turned as the_turned, Backs, cells, Arrives, Goes, IsSlice};
 ghost use Rattle.janus_meaning.specs.Writes.{IsWritten};
-ghost use Rattle.kernel_machine.specs.StepsOfSlices.{steps_back, WritesOn, WritesOnSlice};
+ghost use Rattle.kernel_machine.specs.StepsOfSlices.{steps_back, WritesOn, WritesOnSlice, StepsOn, StepsOnSlice};
 ghost use Rattle.janus_names.specs.Numbers.{GoOn};
 ghost use Rattle.janus_store.specs.StoreState.{IsWhole};
-ghost use Rattle.kernel_loader.specs.Runner.{Is, Between};
+ghost use Rattle.kernel_loader.specs.Runner.{Is, Between, KeepsCounts, writes_of, steps_of};
 ghost use Rattle.kernel_history.specs.Bodies.{IsProgramOf, NodesAreReady, KeepsNoOther};
 ghost use Rattle.kernel_history.specs.Standing.{shown_here};
 ghost use Rattle.kernel_history.specs.Kept.{Kept, left_by, HasCome, HasComeAt, ComesToEnd, HasPathFor, SettlesFrom, SettlesAt};
@@ -19,7 +19,7 @@ ghost use Rattle.kernel_history.specs.Kept.{Kept, left_by, HasCome, HasComeAt, C
 use crate::job::{Entered, Open, Work};
 use crate::tree::{EndedCell, HistoryTree, below};
 use cell_tree::Node;
-use kernel_loader::{Program, Runner, Writes};
+use kernel_loader::{Program, Runner};
 use kernel_machine::{Aim, Heading, Outcome, Progress, Sliced, Travel, TravelEnd, Way, Why};
 use std::mem;
 use std::sync::ledger::Ledger;
@@ -66,12 +66,13 @@ fn turned(work: &Work, why: Why) -> Outcome
 /// posted cell are forgotten.
 fn settle_back<L: Ledger>(tree: &HistoryTree, runner: &mut Runner<L>, work: &Work)
     requires kept { (why : Why) × Kept tree.now runner.old (Open.Inside (record { work = work.now; count = 0; heading = Heading.GoesBack why })) }
-    requires whole { IsWhole runner.old.store }
+    requires whole { IsWhole runner.old.counted.store }
     ensures is { Is runner.new (Between (shown_here tree.now)) }
     ensures ready { NodesAreReady tree.now runner.new }
     ensures no_other { KeepsNoOther tree.now runner.new.procedures }
-    ensures names { GoOn runner.old.store.names runner.new.store.names }
+    ensures names { GoOn runner.old.counted.store.names runner.new.counted.store.names }
     ensures entries { runner.new.entries ≡ runner.old.entries }
+    ensures counts { KeepsCounts runner.old runner.new }
 {
     match work {
         Work::Cell(program) => {
@@ -89,7 +90,6 @@ fn settle_back<L: Ledger>(tree: &HistoryTree, runner: &mut Runner<L>, work: &Wor
 fn go_back<L: Ledger>(
     tree: &HistoryTree,
     runner: &mut Runner<L>,
-    writes: &mut Writes<L>,
     entered: &mut Entered,
     why: Why,
     m: u64,
@@ -97,9 +97,10 @@ fn go_back<L: Ledger>(
     requires { Kept tree.now runner.old (Open.Inside (record { work = entered.old.work; count = entered.old.count; heading = Heading.GoesBack why })) }
     ensures step { Backs (past_of tree.now) (work_of entered.old.work) why (entered.old.count - m) result (state_of tree.now (left_by result entered.new)) }
     ensures kept { Kept tree.now runner.new (left_by result entered.new) }
-    ensures written { IsWritten (steps_back entered.old.count m) writes.old writes.new }
+    ensures written { IsWritten (steps_back entered.old.count m) (writes_of runner.old) (writes_of runner.new) }
+    ensures counted { steps_of runner.new ≡ steps_of runner.old + steps_back entered.old.count m }
 {
-    runner.back(program_of(tree, &entered.work), writes, m);
+    runner.back(program_of(tree, &entered.work), m);
     let left = entered.count.saturating_sub(m);
     entered.count = left;
     entered.heading = Heading::GoesBack(why);
@@ -116,7 +117,6 @@ fn go_back<L: Ledger>(
 fn turn_back<L: Ledger>(
     tree: &HistoryTree,
     runner: &mut Runner<L>,
-    writes: &mut Writes<L>,
     entered: &mut Entered,
     why: Why,
     m: u64,
@@ -124,10 +124,11 @@ fn turn_back<L: Ledger>(
     requires { Kept tree.now runner.old (Open.Inside (record { work = entered.old.work; count = entered.old.count; heading = Heading.GoesOn })) }
     ensures step { Backs (past_of tree.now) (work_of entered.old.work) why (entered.old.count - m) result (state_of tree.now (left_by result entered.new)) }
     ensures kept { Kept tree.now runner.new (left_by result entered.new) }
-    ensures written { IsWritten (steps_back entered.old.count m) writes.old writes.new }
+    ensures written { IsWritten (steps_back entered.old.count m) (writes_of runner.old) (writes_of runner.new) }
+    ensures counted { steps_of runner.new ≡ steps_of runner.old + steps_back entered.old.count m }
 {
     runner.turn(program_of(tree, &entered.work));
-    go_back(tree, runner, writes, entered, why, m)
+    go_back(tree, runner, entered, why, m)
 }
 
 /// A cell of the travel is done, and these are left.
@@ -171,6 +172,7 @@ fn settle_up<L: Ledger>(
     requires come { HasCome tree.old runner.old (Work.Move travel) n }
     ensures step { SettlesFrom tree.old runner.old (Work.Move travel) n result.1 (state_of tree.new result.0) }
     ensures kept { Kept tree.new runner.new result.0 }
+    ensures counts { KeepsCounts runner.old runner.new }
 {
     runner.leave(&tree.cells.content(tree.position).program);
     tree.position = tree.cells.parent(tree.position);
@@ -205,6 +207,7 @@ fn settle<L: Ledger>(
     requires { HasCome tree.old runner.old work n }
     ensures step { SettlesFrom tree.old runner.old work n result.1 (state_of tree.new result.0) }
     ensures kept { Kept tree.new runner.new result.0 }
+    ensures counts { KeepsCounts runner.old runner.new }
 {
     match work {
         Work::Cell(program) => settle_cell(tree, runner, program, n),
@@ -220,6 +223,7 @@ fn settle_job<L: Ledger>(tree: &mut HistoryTree, runner: &mut Runner<L>, job: &m
     requires { HasComeAt tree.old runner.old job.old }
     ensures step { SettlesAt tree.old runner.old job.old result (state_of tree.new job.new) }
     ensures kept { Kept tree.new runner.new job.new }
+    ensures counts { KeepsCounts runner.old runner.new }
 {
     let Open::Inside(entered) = mem::replace(job, Open::Idle) else {
         unreachable!()
@@ -234,7 +238,6 @@ fn settle_job<L: Ledger>(tree: &mut HistoryTree, runner: &mut Runner<L>, job: &m
 fn go_on<L: Ledger>(
     tree: &HistoryTree,
     runner: &mut Runner<L>,
-    writes: &mut Writes<L>,
     entered: &mut Entered,
     m: u64,
 ) -> Option<Sliced>
@@ -244,9 +247,10 @@ fn go_on<L: Ledger>(
         (λ told. Goes (past_of tree.now) (work_of entered.old.work) entered.old.count m told (state_of tree.now (left_by told entered.new))) }
     ensures kept { IfSome result (λ told. Kept tree.now runner.new (left_by told entered.new)) }
     ensures end { IfNone result (ComesToEnd tree.now runner.new entered.old m entered.new) }
-    ensures written { WritesOn (past_of tree.now) (work_of entered.old.work) entered.old.count m writes.old writes.new }
+    ensures written { WritesOn (past_of tree.now) (work_of entered.old.work) entered.old.count m (writes_of runner.old) (writes_of runner.new) }
+    ensures counted { StepsOn (past_of tree.now) (work_of entered.old.work) entered.old.count m (steps_of runner.old) (steps_of runner.new) }
 {
-    match runner.run(program_of(tree, &entered.work), writes, m) {
+    match runner.run(program_of(tree, &entered.work), m) {
         Progress::Went => {
             entered.count = runner.count();
             Some(Sliced::Going)
@@ -258,7 +262,7 @@ fn go_on<L: Ledger>(
         Progress::Stopped(j, fault) => {
             entered.count = j;
             let why = Why::Faulted(fault, j);
-            Some(turn_back(tree, runner, writes, entered, why, 0))
+            Some(turn_back(tree, runner, entered, why, 0))
         }
     }
 }
@@ -267,7 +271,6 @@ fn go_on<L: Ledger>(
 fn slice_inside<L: Ledger>(
     tree: &HistoryTree,
     runner: &mut Runner<L>,
-    writes: &mut Writes<L>,
     entered: &mut Entered,
     m: u64,
     asked: bool,
@@ -279,15 +282,16 @@ fn slice_inside<L: Ledger>(
     // No other slice comes there.
     ensures onward { IfNone result (entered.old.heading ≡ Heading.GoesOn) }
     ensures unasked { IfNone result (asked ≡ false) }
-    ensures written { WritesOnSlice (state_of tree.now (Open.Inside entered.old)) m asked writes.old writes.new }
+    ensures written { WritesOnSlice (state_of tree.now (Open.Inside entered.old)) m asked (writes_of runner.old) (writes_of runner.new) }
+    ensures counted { StepsOnSlice (state_of tree.now (Open.Inside entered.old)) m asked (steps_of runner.old) (steps_of runner.new) }
 {
     match entered.heading {
-        Heading::GoesBack(why) => Some(go_back(tree, runner, writes, entered, why, m)),
+        Heading::GoesBack(why) => Some(go_back(tree, runner, entered, why, m)),
         Heading::GoesOn if asked => {
             let why = Why::WasAsked(entered.count);
-            Some(turn_back(tree, runner, writes, entered, why, m))
+            Some(turn_back(tree, runner, entered, why, m))
         }
-        Heading::GoesOn => go_on(tree, runner, writes, entered, m),
+        Heading::GoesOn => go_on(tree, runner, entered, m),
     }
 }
 
@@ -295,7 +299,6 @@ fn slice_inside<L: Ledger>(
 pub fn slice_job<L: Ledger>(
     tree: &mut HistoryTree,
     runner: &mut Runner<L>,
-    writes: &mut Writes<L>,
     job: &mut Open,
     m: u64,
     asked: bool,
@@ -303,12 +306,13 @@ pub fn slice_job<L: Ledger>(
     requires { Kept tree.old runner.old job.old }
     ensures slice { IsSlice (state_of tree.old job.old) m asked result (state_of tree.new job.new) }
     ensures kept { Kept tree.new runner.new job.new }
-    ensures written { WritesOnSlice (state_of tree.old job.old) m asked writes.old writes.new }
+    ensures written { WritesOnSlice (state_of tree.old job.old) m asked (writes_of runner.old) (writes_of runner.new) }
+    ensures counted { StepsOnSlice (state_of tree.old job.old) m asked (steps_of runner.old) (steps_of runner.new) }
 {
     let Open::Inside(entered) = job else {
         return Sliced::Nothing;
     };
-    match slice_inside(tree, runner, writes, entered, m, asked) {
+    match slice_inside(tree, runner, entered, m, asked) {
         Some(Sliced::Ended(outcome)) => {
             *job = Open::Idle;
             Sliced::Ended(outcome)

@@ -56,7 +56,7 @@ impl<'a, L: Ledger> View<'a, L> {
         ensures { result ≡ world_of (procedures_at (past_of tree.now) (job_of job.now)) runner.now }
     {
         View {
-            store: &runner.store,
+            store: &runner.counted.store,
             tree,
             own: own_procedures(tree, job),
         }

@@ -22,7 +22,7 @@ use Rattle.janus_code.specs.declared.code.FlatProcedure as flat
 use Rattle.janus_store.specs.Calls.{AreNamed}
 use Rattle.kernel_runner.specs.Bodies.{numbers_of, IsBody, AreBodiesFrom}
 use Rattle.kernel_runner.specs.Places.{block_in, BookHasNumbers}
-use Rattle.kernel_runner.specs.book.Direction.TheVariants.{Forward}
+use Rattle.kernel_runner.specs.linked_code.Direction.TheVariants.{Forward}
 use Rattle.kernel_runner.specs.linked_procedure.LinkedProcedure.{LinkedProcedure}
 use Rattle.janus_code.specs.Width.{width_of_procedure}
 use Rattle.kernel_loader.specs.Keeping.{width_of_procedures}

@@ -11,6 +11,7 @@ pub use Rattle.kernel_runner.proofs.Bodies
 pub use Rattle.kernel_runner.proofs.BodiesInEffect
 pub use Rattle.kernel_runner.proofs.GoesOn
 -- Of kernel_runner, given again.
+pub use Rattle.kernel_runner.proofs.Counting
 pub use Rattle.kernel_runner.proofs.Crosses as RunnerCrosses
 pub use Rattle.kernel_runner.proofs.Growing
 pub use Rattle.kernel_runner.proofs.Running

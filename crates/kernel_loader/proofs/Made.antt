@@ -22,7 +22,7 @@ use Rattle.janus_store.specs.StoreState.{StoreState, Caller, KeepsSight, AreSlot
 use Rattle.kernel_runner.specs.Bodies.{AreBelow, AreBodies, AreBodiesFrom, AreDefined, Define}
 use Rattle.kernel_runner.specs.Procedures.{kept_in}
 use Rattle.kernel_runner.specs.Places.{block_in, BookHasNumbers}
-use Rattle.kernel_runner.specs.book.Direction.TheVariants.{Forward}
+use Rattle.kernel_runner.specs.linked_code.Direction.TheVariants.{Forward}
 use Rattle.kernel_runner.specs.linked_procedure.LinkedProcedure.{LinkedProcedure}
 use Rattle.kernel_runner.specs.procedures.Procedures.{Procedures}
 use Rattle.kernel_runner.specs.Program.{cell_of_program, procedures_of, IsReady}
@@ -61,7 +61,7 @@ bodies_of_more xs n bodies (i ∷ stack) (p ∷ ps) h = ((h.0.0, get_taken n bod
 -- ---- what stays
 
 pub keeps_same : (h : StoreState) → KeepsSight h h
-keeps_same h = record { slots = refl; declared = refl; texts = refl; names = no_more h.names; callers = refl }
+keeps_same h = record { slots = refl; declared = refl; texts = refl; names = no_more h.names; callers = refl; unwritten = refl }
 
 -- ---- what is shown
 
@@ -73,7 +73,7 @@ shown_kept old new k =
     ∙ ap (λ (cs : List Caller). under_names (reverse old.texts) (oldest old.declared (given_back old.slots cs))) k.callers
 
 -- there may be more slots, more names of procedures, and more bodies behind the others
-pub shows_more : {L : Type 0} (old new : Runner L) (shown : ShownWorld) → KeepsSight old.store new.store → AreSlots new.store.names →
+pub shows_more : {L : Type 0} (old new : Runner L) (shown : ShownWorld) → KeepsSight old.counted.store new.counted.store → AreSlots new.counted.store.names →
     GoOn old.entries new.entries →
     take (length (kept_in old.procedures)) (kept_in new.procedures) ≡ kept_in old.procedures →
     (AreDefined old.procedures shown.bodies → AreDefined new.procedures shown.bodies) → Is old (Between shown) → Is new (Between shown)
@@ -82,19 +82,19 @@ shows_more old new shown sight slots onward kept still is =
     let ps : List Proc = shown.world.procedures in
     let same : procedures_in new.entries ps ≡ procedures_in old.entries ps =
     procedures_stay old.entries new.entries onward ps h.listed
-    (defined_call old.store.names h.slots old.entries (kept_in old.procedures) shown.bodies ps h.defined.bodies) in
-    let grown : Define new.store.names old.procedures shown.bodies (procedures_in old.entries ps) =
-    defined_grow old.store.names new.store.names sight.names old.procedures shown.bodies (procedures_in old.entries ps) h.defined in
+    (defined_call old.counted.store.names h.slots old.entries (kept_in old.procedures) shown.bodies ps h.defined.bodies) in
+    let grown : Define new.counted.store.names old.procedures shown.bodies (procedures_in old.entries ps) =
+    defined_grow old.counted.store.names new.counted.store.names sight.names old.procedures shown.bodies (procedures_in old.entries ps) h.defined in
     let shows : Shows new shown = record {
-      store = shown_kept old.store new.store sight ∙ h.store;
+      store = shown_kept old.counted.store new.counted.store sight ∙ h.store;
       texts = ap (λ (xs : List Name). length xs) sight.texts ∙ h.texts ∙ sym sight.declared;
       slots = slots;
       listed = listed_still old.entries new.entries onward ps h.listed;
       defined = record {
         defined = still h.defined.defined;
-        bodies = subst (λ (qs : List Proc). AreBodies new.store.names (kept_in new.procedures) shown.bodies qs) (sym same)
-            (bodies_of_more new.store.names (length (kept_in old.procedures)) (kept_in new.procedures) shown.bodies (procedures_in old.entries ps)
-            (subst (λ (bs : List LinkedProcedure). AreBodies new.store.names bs shown.bodies (procedures_in old.entries ps)) (sym kept) grown.bodies));
+        bodies = subst (λ (qs : List Proc). AreBodies new.counted.store.names (kept_in new.procedures) shown.bodies qs) (sym same)
+            (bodies_of_more new.counted.store.names (length (kept_in old.procedures)) (kept_in new.procedures) shown.bodies (procedures_in old.entries ps)
+            (subst (λ (bs : List LinkedProcedure). AreBodies new.counted.store.names bs shown.bodies (procedures_in old.entries ps)) (sym kept) grown.bodies));
       };
     } in (
       shows,

@@ -39,11 +39,11 @@ names_declared (d ∷ ds) g s e =
 
 pub names_here : {L : Type 0} (runner : Runner L) (env own : Known) (cell : tree.Cell) (shown : ShownWorld) → ShowsKnown runner env shown →
     IsOwn env own cell →
-    names_of (over (shape_in env.names) own.names) ≡ names_in (declare (plain_cell cell).declarations (shown_store runner.store))
+    names_of (over (shape_in env.names) own.names) ≡ names_in (declare (plain_cell cell).declarations (shown_store runner.counted.store))
 names_here runner env own cell shown checked is =
-    let known : names_of (shape_in env.names) ≡ names_in (shown_store runner.store) =
+    let known : names_of (shape_in env.names) ≡ names_in (shown_store runner.counted.store) =
     ap (λ (g : Shape). names_of g) checked.known.names ∙ shape_names shown.world.store checked.values ∙ ap names_in (sym checked.is.0.store) in
-    ap (λ (g : Shape). names_of g) is.names ∙ names_declared (plain_cell cell).declarations (shape_in env.names) (shown_store runner.store) known
+    ap (λ (g : Shape). names_of g) is.names ∙ names_declared (plain_cell cell).declarations (shape_in env.names) (shown_store runner.counted.store) known
 
 -- ---- procedures
 

@@ -10,13 +10,13 @@ use Rattle.kernel_runner.specs.Bodies.{AreDefined, AreBodiesFrom, IsBody}
 use Rattle.kernel_runner.specs.LinkedProcedure.{name_number_of}
 use Rattle.kernel_runner.specs.Places.{block_in, BookHasNumbers}
 use Rattle.kernel_runner.specs.Procedures.{kept_in}
-use Rattle.kernel_runner.specs.book.Book.{Book}
-use Rattle.kernel_runner.specs.book.Direction.TheVariants.{Forward}
+use Rattle.kernel_runner.specs.linked_code.LinkedCode.{LinkedCode}
+use Rattle.kernel_runner.specs.linked_code.Direction.TheVariants.{Forward}
 use Rattle.kernel_runner.specs.linked_procedure.LinkedProcedure.{LinkedProcedure}
 use Rattle.kernel_runner.specs.procedures.Procedures.{Procedures}
 
 -- the book stands for the block, and each of its numbers is that of a slot
-pub record StandsFor (width : ℕ) (book : Book) (b : Blk) : Type 0 where
+pub record StandsFor (width : ℕ) (book : LinkedCode) (b : Blk) : Type 0 where
   pub block : (xs : List Name) → AreSlots xs → width ≤ length xs → block_in xs book Forward ≡ b
   pub numbered : (xs : List Name) → AreSlots xs → width ≤ length xs → BookHasNumbers xs book
 

@@ -17,11 +17,11 @@ ghost use Rattle.janus_store.specs.StoreState.{KeepsSight, shown_store};
 ghost use Rattle.kernel_runner.specs.Bodies.{AreBodiesFrom};
 ghost use Rattle.kernel_runner.specs.Places.{block_in as block_of_book, BookHasNumbers, KeepsNumbers};
 ghost use Rattle.kernel_runner.specs.Procedures.{kept_in};
-ghost use Rattle.kernel_runner.specs.book.Direction.TheVariants.{Forward};
+ghost use Rattle.kernel_runner.specs.linked_code.Direction.TheVariants.{Forward};
 ghost use Rattle.kernel_machine.specs.Language.{IsSound};
 ghost use Rattle.kernel_machine.specs.Text.{Accepts, Refuses};
 ghost use Rattle.kernel_runner.specs.Program.{cell_of_program, procedures_of, IsReady};
-ghost use Rattle.kernel_runner.specs.Runner.{ShownWorld, over, Is, Between, world_of};
+ghost use Rattle.kernel_runner.specs.Runner.{ShownWorld, over, Is, Between, world_of, steps_of};
 ghost use Rattle.kernel_loader.specs.Defined.{in_a_row};
 ghost use Rattle.kernel_loader.specs.Keeping.{StandsFor, KeepsOlder, KeepsDefined, width_of_cell};
 ghost use Rattle.kernel_loader.specs.Loading.{ShowsKnown, KeepsShown, AddNamesOf, AddNamesOfText};
@@ -36,7 +36,7 @@ use janus_code::{Code, flatten};
 use janus_names::Names;
 use janus_syntax::tree::{Declaration, Procedure};
 use kernel_machine::Refusal;
-use kernel_runner::{Book, Procedures, Program, Runner, Store};
+use kernel_runner::{LinkedCode, Procedures, Program, Runner, Store};
 use std::alloc::{AllocError, Global};
 use std::sync::ledger::Ledger;
 
@@ -53,7 +53,7 @@ pub fn load<L: Ledger>(
     requires sound { IsSound (world_of (in_a_row procedures.now) runner.old) }
     ensures accepts { IfOk result (λ program. Accepts (world_of (in_a_row procedures.now) runner.old) text.now (cell_of_program program)) }
     ensures refuses { IfErr result (Refuses (world_of (in_a_row procedures.now) runner.old) text.now) }
-    ensures ready { IfOk result (λ program. IsReady runner.new.store.names runner.new.entries
+    ensures ready { IfOk result (λ program. IsReady runner.new.counted.store.names runner.new.entries
         (names_in (entered (cell_of_program program) (world_of (in_a_row procedures.now) runner.old)).store) runner.new.procedures program) }
     ensures named { IfOk result (λ program. AreListed runner.new.entries (procedures_of program)) }
     ensures only { IfOk result (λ program. AddNamesOf runner.old.entries runner.new.entries (procedures_of program)) }
@@ -62,16 +62,17 @@ pub fn load<L: Ledger>(
     ensures behind { IfOk result (λ program. program.first ≡ length (kept_in runner.old.procedures)) }
     ensures last { IfOk result (λ program. length (kept_in runner.new.procedures) ≡ program.first + length (procedures_of program)) }
     // The store has as many slots as before, or as the program needs.
-    ensures slots { IfOk result (λ program. length runner.new.store.names ≡ max (width_of_cell runner.new.entries
+    ensures slots { IfOk result (λ program. length runner.new.counted.store.names ≡ max (width_of_cell runner.new.entries
         (length (names_in (entered (cell_of_program program) (world_of (in_a_row procedures.now) runner.old)).store))
-        (cell_of_program program)) (length runner.old.store.names)) }
+        (cell_of_program program)) (length runner.old.counted.store.names)) }
     ensures older { KeepsOlder runner.old.procedures runner.new.procedures }
     ensures none { OnErr result (kept_in runner.new.procedures ≡ kept_in runner.old.procedures) }
-    ensures kept { KeepsSight runner.old.store runner.new.store }
+    ensures kept { KeepsSight runner.old.counted.store runner.new.counted.store }
+    ensures steps { steps_of runner.new ≡ steps_of runner.old }
     ensures entries { GoOn runner.old.entries runner.new.entries }
     ensures shown { KeepsShown runner.old runner.new }
 {
-    let Ok(env) = known_over(alloc, &runner.store, procedures) else {
+    let Ok(env) = known_over(alloc, &runner.counted.store, procedures) else {
         return Err(Refusal::Memory);
     };
     let (checked, own) = cell_of_text(alloc, text, &env)?;
@@ -94,27 +95,28 @@ fn link<L: Ledger>(
     own: &Env,
     checked: &Checked,
     runner: &mut Runner<L>,
-) -> Result<(Book, usize), AllocError>
+) -> Result<(LinkedCode, usize), AllocError>
     requires known { (shown : ShownWorld) × ShowsKnown runner.old env.now shown }
     requires own { IsOwn env.now own.now (cell_in checked.now) }
-    ensures ready { IfOk result (λ made. IsReady runner.new.store.names runner.new.entries
-        (names_in (declare (plain_cell (cell_in checked.now)).declarations (shown_store runner.old.store)))
+    ensures ready { IfOk result (λ made. IsReady runner.new.counted.store.names runner.new.entries
+        (names_in (declare (plain_cell (cell_in checked.now)).declarations (shown_store runner.old.counted.store)))
         runner.new.procedures (record { book = made.0; checked = checked.now; first = made.1 })) }
     ensures named { OnOk result (AreListed runner.new.entries (plain_cell (cell_in checked.now)).procedures) }
     ensures only { AddNamesOf runner.old.entries runner.new.entries (plain_cell (cell_in checked.now)).procedures }
     ensures behind { IfOk result (λ made. made.1 ≡ length (kept_in runner.old.procedures)) }
     ensures last { IfOk result (λ made. length (kept_in runner.new.procedures) ≡ made.1 + length (plain_cell (cell_in checked.now)).procedures) }
-    ensures slots { OnOk result (length runner.new.store.names ≡ max (width_of_cell runner.new.entries
-        (length (names_in (declare (plain_cell (cell_in checked.now)).declarations (shown_store runner.old.store))))
-        (plain_cell (cell_in checked.now))) (length runner.old.store.names)) }
+    ensures slots { OnOk result (length runner.new.counted.store.names ≡ max (width_of_cell runner.new.entries
+        (length (names_in (declare (plain_cell (cell_in checked.now)).declarations (shown_store runner.old.counted.store))))
+        (plain_cell (cell_in checked.now))) (length runner.old.counted.store.names)) }
     ensures older { KeepsOlder runner.old.procedures runner.new.procedures }
     ensures none { OnErr result (kept_in runner.new.procedures ≡ kept_in runner.old.procedures) }
-    ensures kept { KeepsSight runner.old.store runner.new.store }
+    ensures kept { KeepsSight runner.old.counted.store runner.new.counted.store }
+    ensures steps { steps_of runner.new ≡ steps_of runner.old }
     ensures entries { GoOn runner.old.entries runner.new.entries }
     ensures shown { KeepsShown runner.old runner.new }
 {
     let listed = list_all(&mut runner.entries, &checked.cell().procedures);
-    runner.store.slots_law();
+    runner.counted.store.slots_law();
     listed?;
     let first = runner.procedures.len();
     let sight = Sight::Declared(env, own);
@@ -123,10 +125,10 @@ fn link<L: Ledger>(
         checked,
         &sight,
         &runner.entries,
-        &mut runner.store,
+        &mut runner.counted.store,
         &mut runner.procedures,
     );
-    runner.store.slots_law();
+    runner.counted.store.slots_law();
     match kept {
         Ok(book) => Ok((book, first)),
         Err(error) => {
@@ -145,7 +147,7 @@ fn keep_and_link<L: Ledger>(
     entries: &Names,
     store: &mut Store<L>,
     kept: &mut Procedures,
-) -> Result<Book, AllocError>
+) -> Result<LinkedCode, AllocError>
     requires block { IsBlk (heads_seen sight.now) (in_sight sight.now) (plain_cell (cell_in checked.now)).block }
     requires procedures { AreProcs (heads_seen sight.now) (plain_cell (cell_in checked.now)).procedures }
     requires entries { HasEntries (heads_seen sight.now) entries.now }
@@ -177,7 +179,7 @@ fn book_of<L: Ledger>(
     sight: &Sight,
     entries: &Names,
     store: &Store<L>,
-) -> Result<(Book, usize), AllocError>
+) -> Result<(LinkedCode, usize), AllocError>
     requires block { IsBlk (heads_seen sight.now) (in_sight sight.now) (plain_cell (cell_in checked.now)).block }
     requires entries { HasEntries (heads_seen sight.now) entries.now }
     ensures block { IfOk result (λ made.
@@ -199,13 +201,13 @@ fn both_ways<L: Ledger>(
     code: Code,
     store: &Store<L>,
     declarations: &[Declaration],
-) -> Result<Book, AllocError>
+) -> Result<LinkedCode, AllocError>
     ensures block { IfOk result (λ book. (xs : List Name) → block_of_book xs book Forward ≡ code_block xs code) }
     ensures numbered { IfOk result (KeepsNumbers code.statements.items) }
 {
     if has_loop(&code.statements) {
         let frame = frame_names(alloc, store, declarations)?;
-        return Book::laid(alloc, code, frame);
+        return LinkedCode::laid(alloc, code, frame);
     }
-    Book::new(alloc, code)
+    LinkedCode::new(alloc, code)
 }

@@ -60,4 +60,6 @@ machine_code =
     (λ p. record { state = p.0; queue = p.1.0; counter = p.1.1.0; minutes = p.1.1.1.0; closing = p.1.1.1.1 }) (λ _. refl)
 
 abbrev pub seen_code : Coded Seen
-seen_code = code_by (Machine × ℕ) (coded× machine_code coded_ℕ) (λ k. (k.machine, k.writes)) (λ p. record { machine = p.0; writes = p.1 }) (λ _. refl)
+seen_code =
+    code_by (Machine × (ℕ × ℕ)) (coded× machine_code (coded× coded_ℕ coded_ℕ)) (λ k. (k.machine, (k.writes, k.steps)))
+    (λ p. record { machine = p.0; writes = p.1.0; steps = p.1.1 }) (λ _. refl)

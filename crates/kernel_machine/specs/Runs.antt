@@ -158,7 +158,8 @@ phase_of Idle (first ∷ rest) = phase.Queued
 phase_of (Border travel) queue = phase.Border
 phase_of (Inside e) queue = phase.Inside
 
--- What contracts see of a kernel: the machine that it is, and how often its store was written.
+-- What contracts see of a kernel: the machine that it is, how often its store was written, and how many steps were taken over it.
 pub record Seen : Type 0 where
   pub machine : Machine
   pub writes : ℕ
+  pub steps : ℕ

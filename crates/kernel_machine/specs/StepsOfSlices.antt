@@ -1,4 +1,4 @@
--- How many steps a slice takes or goes back, and that the store is written at most twice for each of them.
+-- How many steps a slice takes or goes back: so many are counted, and the store is written at most twice for each of them.
 use Rattle.std.specs.Prelude.{◌≡◌, ℕ, ◌+◌, ◌-◌, Bool, true, false, List, [], ◌∷◌}
 use Rattle.janus_meaning.specs.World.{World}
 use Rattle.janus_meaning.specs.Writes.{IsWritten}
@@ -49,6 +49,25 @@ WritesOn s work c m old new = (k : ℕ) × TakesOn s work c m k × IsWritten k o
 abbrev pub WritesOnSlice : State → ℕ → Bool → ℕ → ℕ → Type 0
 WritesOnSlice s m asked old new = (k : ℕ) × TakesAt s.past s.job m asked k × IsWritten k old new
 
+-- ---- the count of steps
+
+-- a slice onward from this count is counted, step by step
+abbrev pub StepsOn : Past → Work → ℕ → ℕ → ℕ → ℕ → Type 0
+StepsOn s work c m old new = (k : ℕ) × TakesOn s work c m k × (new ≡ old + k)
+
+-- a slice of this state is
+abbrev pub StepsOnSlice : State → ℕ → Bool → ℕ → ℕ → Type 0
+StepsOnSlice s m asked old new = (k : ℕ) × TakesAt s.past s.job m asked k × (new ≡ old + k)
+
+-- of the events slices alone take steps
+abbrev pub StepsOnEvent : Machine → Event → ℕ → ℕ → Type 0
+StepsOnEvent s (event.Post lane job) old new = new ≡ old
+StepsOnEvent s event.Begin old new = new ≡ old
+StepsOnEvent s (event.Slice m asked) old new = StepsOnSlice s.state m asked old new
+StepsOnEvent s event.Shut old new = new ≡ old
+
+-- ---- of events
+
 -- of the events slices alone write the store
 abbrev pub WritesOnEvent : Machine → Event → ℕ → ℕ → Type 0
 WritesOnEvent s (event.Post lane job) old new = new ≡ old
@@ -56,10 +75,11 @@ WritesOnEvent s event.Begin old new = new ≡ old
 WritesOnEvent s (event.Slice m asked) old new = WritesOnSlice s.state m asked old new
 WritesOnEvent s event.Shut old new = new ≡ old
 
--- a run writes as its events do, one after another
+-- a run writes and takes steps as its events do, one after another
 abbrev pub WritesOnRun : Seen → List Event → List Told → Seen → Type 0
 WritesOnRun old [] [] new = new ≡ old
 WritesOnRun old (e ∷ events) (t ∷ answers) new =
-    (mid : Seen) × Step old.machine e t mid.machine × WritesOnEvent old.machine e old.writes mid.writes × WritesOnRun mid events answers new
+    (mid : Seen) × Step old.machine e t mid.machine × WritesOnEvent old.machine e old.writes mid.writes × StepsOnEvent old.machine e old.steps mid.steps
+    × WritesOnRun mid events answers new
 WritesOnRun old [] (t ∷ answers) new = ⊥
 WritesOnRun old (e ∷ events) [] new = ⊥

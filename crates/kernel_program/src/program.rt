@@ -53,7 +53,7 @@ fn new_hall<W: Ledger, L: HistoryName>(
     posts: Blank,
     history: NewHistory<Entry>,
 ) -> Result<(Hall<W, L>, Seats), AllocError>
-    requires writes { (writes.name ≡ W.name) × (writes.parts ≡ W.parts) × (0 < W.parts) }
+    requires writes { (writes.name ≡ W.name) × (writes.parts ≡ W.parts) × (1 < W.parts) }
     requires posts { (posts.name ≡ L.name) × (posts.parts ≡ PARTS_OF_POSTS) × (posts.parts ≡ L.parts) }
     requires history { history ≡ L.history }
     ensures runner { IfOk result (λ made. made.1.runner.bell ≡ made.0) }
@@ -75,7 +75,7 @@ fn new_service<W: Ledger, L: HistoryName, S: Ledger, R: RandomSource>(
     strangers: Blank,
     key: Key,
 ) -> Result<(Service<W, L, S>, Seats), ProgramFault>
-    requires writes { (writes.name ≡ W.name) × (writes.parts ≡ W.parts) × (0 < W.parts) }
+    requires writes { (writes.name ≡ W.name) × (writes.parts ≡ W.parts) × (1 < W.parts) }
     requires posts { (posts.name ≡ L.name) × (posts.parts ≡ PARTS_OF_POSTS) × (posts.parts ≡ L.parts) }
     requires history { history ≡ L.history }
     requires strangers { (strangers.name ≡ S.name) × (strangers.parts ≡ S.parts) × (strangers.parts ≡ 160) }
@@ -110,7 +110,7 @@ fn serve_new_kernel<
 ) -> Result<(), ProgramFault>
 where
     R: RandomSource + Threads + Wait + Clock + Sync,
-    requires writes { (writes.name ≡ W.name) × (writes.parts ≡ W.parts) × (0 < W.parts) }
+    requires writes { (writes.name ≡ W.name) × (writes.parts ≡ W.parts) × (1 < W.parts) }
     requires posts { (posts.name ≡ L.name) × (posts.parts ≡ PARTS_OF_POSTS) × (posts.parts ≡ L.parts) }
     requires history { history ≡ L.history }
     requires strangers { (strangers.name ≡ S.name) × (strangers.parts ≡ S.parts) × (strangers.parts ≡ 160) }
@@ -163,7 +163,7 @@ where
     serve_new_kernel::<Brand, Brand, Brand, R, O, E>(
         rt,
         alloc,
-        Blank::new(1),
+        Blank::new(2),
         Blank::new(PARTS_OF_POSTS),
         NewHistory::new(alloc)?,
         Blank::new(ALL_PLACES),

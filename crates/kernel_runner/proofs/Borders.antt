@@ -30,9 +30,9 @@ use Rattle.janus_machine.specs.Law.{NeverBroken}
 use Rattle.janus_machine.specs.Nested.{AreOpenCalls}
 use Rattle.janus_machine.specs.Open.{HaveLocals, Agrees}
 use Rattle.janus_machine.specs.Places.{block_in}
-use Rattle.janus_machine.specs.declared.book.Book.{Book}
-use Rattle.janus_machine.specs.declared.book.Direction.{Direction}
-use Rattle.janus_machine.specs.declared.book.Direction.TheVariants.{Forward, Inverse}
+use Rattle.janus_machine.specs.declared.linked_code.LinkedCode.{LinkedCode}
+use Rattle.janus_machine.specs.declared.linked_code.Direction.{Direction}
+use Rattle.janus_machine.specs.declared.linked_code.Direction.TheVariants.{Forward, Inverse}
 use Rattle.janus_machine.specs.declared.cursor.Call.{Call}
 use Rattle.janus_machine.specs.declared.cursor.Cursor.{Cursor}
 use Rattle.janus_machine.specs.declared.procedures.Procedures.{Procedures}
@@ -49,7 +49,8 @@ use Rattle.kernel_machine.proofs.LanguageLaws.{sound_good}
 
 -- ---- before the first step nothing is open
 
-no_calls : (xs : List Name) (t : Procedures) (b : Book) (d : Direction) (cs : List Call) (hs : List Caller) → hs ≡ [] → AreOpenCalls xs t b d cs hs → cs ≡ []
+no_calls : (xs : List Name) (t : Procedures) (b : LinkedCode) (d : Direction) (cs : List Call) (hs : List Caller) → hs ≡ [] → AreOpenCalls xs t b d cs hs →
+    cs ≡ []
 no_calls xs t b d [] hs e h = refl
 no_calls xs t b d (c ∷ cs) [] e h = absurd h
 no_calls xs t b d (c ∷ cs) (x ∷ hs) e h = cc
@@ -64,7 +65,8 @@ none_in_front : (fs us : List Frame) → fs ++ us ≡ [] → fs ≡ []
 none_in_front [] us e = refl
 none_in_front (f ∷ fs) us e = cc
 
-pub agrees_before : (k : ℕ) (t : Procedures) (b : Book) (c : Cursor) (h : StoreState) (blk : Blk) → IsWhole h → stacks_in h.slots ≡ k → IsStanding t b c h →
+pub agrees_before : (k : ℕ) (t : Procedures) (b : LinkedCode) (c : Cursor) (h : StoreState) (blk : Blk) → IsWhole h → stacks_in h.slots ≡ k →
+    IsStanding t b c h →
     place_of h.names t b c h.callers ≡ BeforeBlock blk [] → Agrees k t b c h
 agrees_before k t b c h blk whole stacks standing place =
     let frames : frames_of (place_in h.names t b c) ++ outside_of h.names t b c h.callers ≡ [] =
@@ -114,53 +116,57 @@ defined_in_slots es [] ps = refl
 defined_in_slots es (p ∷ more) ps = defined_in_slots es more (p ∷ ps)
 
 -- the bodies of a program stay where they are, and its code as it is, where as many bodies are kept
-ready_still : {L : Type 0} (old new : Runner L) (sight : List Name) (program : Program) → GoOn old.store.names new.store.names → new.entries ≡ old.entries →
+ready_still : {L : Type 0} (old new : Runner L) (sight : List Name) (program : Program) → GoOn old.counted.store.names new.counted.store.names →
+    new.entries ≡ old.entries →
     kept_in new.procedures ≡ kept_in old.procedures →
-    IsReady old.store.names old.entries sight old.procedures program → IsReady new.store.names new.entries sight new.procedures program
+    IsReady old.counted.store.names old.entries sight old.procedures program → IsReady new.counted.store.names new.entries sight new.procedures program
 ready_still old new sight program names entries kept h =
-    let more = ready_grows old.store.names new.store.names names old.entries new.entries (same_more old.entries new.entries entries)
+    let more = ready_grows old.counted.store.names new.counted.store.names names old.entries new.entries (same_more old.entries new.entries entries)
     sight old.procedures program h in
     record {
       meant = more.meant;
       numbered = more.numbered;
       within = subst (λ bodies. program.first + length (procedures_of program) ≤ length bodies) (sym kept) more.within;
-      bodies = λ es onward. bodies_from_same new.store.names (kept_in old.procedures) (kept_in new.procedures) program.first
+      bodies = λ es onward. bodies_from_same new.counted.store.names (kept_in old.procedures) (kept_in new.procedures) program.first
           (procedures_in es (procedures_of program)) kept (more.bodies es onward);
     }
 
 -- what a cursor promises before a block, over these names
-pub record IsBefore (xs : List Name) (cursor : Cursor) (book : Book) (blk : Blk) : Type 0 where
+pub record IsBefore (xs : List Name) (cursor : Cursor) (book : LinkedCode) (blk : Blk) : Type 0 where
   pub stands : (t : Procedures) (h : StoreState) → h.callers ≡ [] → IsStanding t book cursor h
   pub place : (t : Procedures) (hs : List Caller) → place_of xs t book cursor hs ≡ BeforeBlock blk []
   pub counts : (cursor.count ≡ 0) × (cursor.turned ≡ false)
 
 pub entered_here : {L : Type 0} (old new : Runner L) (program : Program) (from : ShownWorld) → CanEnter old program from →
-    Becomes old.store new.store (declare (cell_of_program program).declarations (shown_store old.store)) → kept_in new.procedures ≡ kept_in old.procedures →
+    Becomes old.counted.store new.counted.store (declare (cell_of_program program).declarations (shown_store old.counted.store)) →
+    kept_in new.procedures ≡ kept_in old.procedures →
     new.entries ≡ old.entries →
     AreDefined new.procedures (with_bodies program from.bodies) →
-    IsBefore new.store.names new.cursor program.book (block_in new.store.names program.book Forward) → Stands new program (entry program from) false
+    IsBefore new.counted.store.names new.cursor program.book (block_in new.counted.store.names program.book Forward) →
+    Stands new program (entry program from) false
 entered_here old new program from can becomes kept entries defined before =
     let cell = cell_of_program program in
     let start : World = entered cell from.world in
     let es : List Name = new.entries in
-    let shows : shown_store new.store ≡ start.store = becomes.shown ∙ ap (declare cell.declarations) can.is.0.store in
-    let is : IsStoreOf new.store start.store = whole_is new.store start.store becomes.whole becomes.texts shows in
-    let standing = before.stands new.procedures new.store becomes.whole.callers in
-    let ready : IsReady new.store.names es (names_in start.store) new.procedures program =
+    let shows : shown_store new.counted.store ≡ start.store = becomes.shown ∙ ap (declare cell.declarations) can.is.0.store in
+    let is : IsStoreOf new.counted.store start.store = whole_is new.counted.store start.store becomes.whole becomes.texts shows in
+    let standing = before.stands new.procedures new.counted.store becomes.whole.callers in
+    let ready : IsReady new.counted.store.names es (names_in start.store) new.procedures program =
     ready_still old new (names_in start.store) program becomes.names entries kept can.ready in
-    let meant : block_in new.store.names program.book Forward ≡ block_of es cell.block start = ready.meant es (no_more es) in
-    let place : place_of new.store.names new.procedures program.book new.cursor new.store.callers ≡ BeforeBlock (block_of es cell.block start) [] =
-    before.place new.procedures new.store.callers ∙ ap (λ (b : Blk). BeforeBlock b []) meant in
-    let stacks : stacks_in new.store.slots ≡ stacks_in start.store = ap stacks_in is.slots ∙ stacks_same start.store in
+    let meant : block_in new.counted.store.names program.book Forward ≡ block_of es cell.block start = ready.meant es (no_more es) in
+    let place : place_of new.counted.store.names new.procedures program.book new.cursor new.counted.store.callers ≡ BeforeBlock
+    (block_of es cell.block start) [] =
+    before.place new.procedures new.counted.store.callers ∙ ap (λ (b : Blk). BeforeBlock b []) meant in
+    let stacks : stacks_in new.counted.store.slots ≡ stacks_in start.store = ap stacks_in is.slots ∙ stacks_same start.store in
     let listed : AreListed es start.procedures =
     subst (λ (es : List Name). AreListed es start.procedures) (sym entries)
     (listed_more old.entries cell.procedures from.world.procedures can.named can.is.0.listed) in
-    let grown : Define new.store.names old.procedures from.bodies (procedures_in es from.world.procedures) =
-    subst (λ (es : List Name). Define new.store.names old.procedures from.bodies (procedures_in es from.world.procedures)) (sym entries)
-    (defined_grow old.store.names new.store.names becomes.names old.procedures from.bodies (procedures_in old.entries from.world.procedures)
+    let grown : Define new.counted.store.names old.procedures from.bodies (procedures_in es from.world.procedures) =
+    subst (λ (es : List Name). Define new.counted.store.names old.procedures from.bodies (procedures_in es from.world.procedures)) (sym entries)
+    (defined_grow old.counted.store.names new.counted.store.names becomes.names old.procedures from.bodies (procedures_in old.entries from.world.procedures)
     can.is.0.defined) in
-    let bodies : AreBodiesFrom new.store.names (kept_in old.procedures) program.first (procedures_in es (procedures_of program)) =
-    (ready_grows old.store.names new.store.names becomes.names old.entries es (same_more old.entries es entries) (names_in start.store)
+    let bodies : AreBodiesFrom new.counted.store.names (kept_in old.procedures) program.first (procedures_in es (procedures_of program)) =
+    (ready_grows old.counted.store.names new.counted.store.names becomes.names old.entries es (same_more old.entries es entries) (names_in start.store)
     old.procedures program can.ready).bodies es (no_more es) in
     let as_many : length (procedures_in es (procedures_of program)) ≡ length (procedures_of program) = length-map (procedures_of program) (procedure_in es) in
     record {
@@ -172,28 +178,31 @@ entered_here old new program from can becomes kept entries defined before =
       standing = standing;
       declared = becomes.whole.declared ∙ ap size_of is.slots ∙ size_same start.store;
       texts = is.texts;
-      agrees = agrees_before (stacks_in start.store) new.procedures program.book new.cursor new.store (block_of es cell.block start)
+      agrees = agrees_before (stacks_in start.store) new.procedures program.book new.cursor new.counted.store (block_of es cell.block start)
           becomes.whole stacks standing place;
       ready = ready;
       slots = becomes.slots;
       listed = listed;
-      defined = subst (λ (n : ℕ). Define new.store.names new.procedures (onto program.first n from.bodies) (procedures_in es start.procedures)) as_many
-          (subst (λ (ps : List Proc). Define new.store.names new.procedures (onto program.first (length (procedures_in es (procedures_of program))) from.bodies)
+      defined = subst (λ (n : ℕ). Define new.counted.store.names new.procedures (onto program.first n from.bodies) (procedures_in es start.procedures)) as_many
+          (subst (λ (ps : List Proc). Define new.counted.store.names new.procedures
+          (onto program.first (length (procedures_in es (procedures_of program))) from.bodies)
           ps) (sym (defined_in_slots es cell.procedures from.world.procedures))
-          (all_defined new.store.names old.procedures new.procedures program.first (procedures_in es (procedures_of program)) from.bodies
+          (all_defined new.counted.store.names old.procedures new.procedures program.first (procedures_in es (procedures_of program)) from.bodies
           (procedures_in es from.world.procedures) kept grown bodies
           (subst (λ (n : ℕ). AreDefined new.procedures (onto program.first n from.bodies)) (sym as_many) defined)));
       faces = (
-        ap (λ (r : Store). To (BeforeBlock (block_of es cell.block start) []) r) (sym is.slots) ∙ ap (λ (p : Place). To p new.store.slots) (sym place),
+        ap (λ (r : Store). To (BeforeBlock (block_of es cell.block start) []) r) (sym is.slots) ∙ ap (λ (p : Place). To p new.counted.store.slots) (sym place),
         never_broken es cell from.world can.sound can.formed listed,
       );
     }
 
 -- ---- and its inverse
 
-pub entered_inverse_here : {L : Type 0} (old new : Runner L) (program : Program) (from : ShownWorld) → CanReturn old program from → new.store ≡ old.store →
+pub entered_inverse_here : {L : Type 0} (old new : Runner L) (program : Program) (from : ShownWorld) → CanReturn old program from →
+    new.counted.store ≡ old.counted.store →
     new.procedures ≡ old.procedures → new.entries ≡ old.entries →
-    IsBefore new.store.names new.cursor program.book (block_in new.store.names program.book Inverse) → Stands new program (inverse_entry program from) false
+    IsBefore new.counted.store.names new.cursor program.book (block_in new.counted.store.names program.book Inverse) →
+    Stands new program (inverse_entry program from) false
 unfolding CodeExec
 entered_inverse_here old new program from can store procedures entries before =
     let cell = cell_of_program program in
@@ -206,18 +215,20 @@ entered_inverse_here old new program from can store procedures entries before =
     let never : NeverBroken (procedures_in es start.procedures) (stacks_in start.store) (block_of es inverse start) (slots_of start) =
     (blocks_are_safe (procedures_in es start.procedures) (stacks_in start.store) (block_of es inverse start) (slots_of start)).ended can.steps _
     ((runs_are_the_same es (around start) inverse start.store can.steps listed).ends _ back.back.ran) in
-    let now : IsWhole new.store = subst (λ (h : StoreState). IsWhole h) (sym store) can.is.1 in
-    let is : IsStoreOf new.store start.store =
-    subst (λ (h : StoreState). IsStoreOf h start.store) (sym store) (whole_is old.store start.store can.is.1 can.is.0.texts can.is.0.store) in
-    let standing = before.stands new.procedures new.store now.callers in
-    let ready : IsReady new.store.names es (names_in start.store) new.procedures program =
-    ready_still old new (names_in start.store) program (same_more old.store.names new.store.names (ap (λ (h : StoreState). h.names) store)) entries
+    let now : IsWhole new.counted.store = subst (λ (h : StoreState). IsWhole h) (sym store) can.is.1 in
+    let is : IsStoreOf new.counted.store start.store =
+    subst (λ (h : StoreState). IsStoreOf h start.store) (sym store) (whole_is old.counted.store start.store can.is.1 can.is.0.texts can.is.0.store) in
+    let standing = before.stands new.procedures new.counted.store now.callers in
+    let ready : IsReady new.counted.store.names es (names_in start.store) new.procedures program =
+    ready_still old new (names_in start.store) program
+    (same_more old.counted.store.names new.counted.store.names (ap (λ (h : StoreState). h.names) store)) entries
     (ap kept_in procedures) can.ready in
-    let turned : block_in new.store.names program.book Inverse ≡ block_of es inverse start =
-    books_turn new.store.names program.book ∙ ap inverse_block (ready.meant es (no_more es)) ∙ slots_stay.inverse es (names_in start.store) cell.block in
-    let place : place_of new.store.names new.procedures program.book new.cursor new.store.callers ≡ BeforeBlock (block_of es inverse start) [] =
-    before.place new.procedures new.store.callers ∙ ap (λ (b : Blk). BeforeBlock b []) turned in
-    let stacks : stacks_in new.store.slots ≡ stacks_in start.store = ap stacks_in is.slots ∙ stacks_same start.store in
+    let turned : block_in new.counted.store.names program.book Inverse ≡ block_of es inverse start =
+    books_turn new.counted.store.names program.book ∙ ap inverse_block (ready.meant es (no_more es))
+    ∙ slots_stay.inverse es (names_in start.store) cell.block in
+    let place : place_of new.counted.store.names new.procedures program.book new.cursor new.counted.store.callers ≡ BeforeBlock (block_of es inverse start) [] =
+    before.place new.procedures new.counted.store.callers ∙ ap (λ (b : Blk). BeforeBlock b []) turned in
+    let stacks : stacks_in new.counted.store.slots ≡ stacks_in start.store = ap stacks_in is.slots ∙ stacks_same start.store in
     record {
       cell = refl;
       good = back.good;
@@ -227,34 +238,37 @@ entered_inverse_here old new program from can store procedures entries before =
       standing = standing;
       declared = now.declared ∙ ap size_of is.slots ∙ size_same start.store;
       texts = is.texts;
-      agrees = agrees_before (stacks_in start.store) new.procedures program.book new.cursor new.store (block_of es inverse start) now stacks standing place;
+      agrees = agrees_before (stacks_in start.store) new.procedures program.book new.cursor new.counted.store
+          (block_of es inverse start) now stacks standing place;
       ready = ready;
       slots = subst (λ (h : StoreState). AreSlots h.names) (sym store) can.is.0.slots;
       listed = listed;
       defined = subst (λ (h : StoreState). Define h.names new.procedures from.bodies (procedures_in es start.procedures)) (sym store)
-          (subst (λ (t : Procedures). Define old.store.names t from.bodies (procedures_in es start.procedures)) (sym procedures)
-          (subst (λ (es : List Name). Define old.store.names old.procedures from.bodies (procedures_in es start.procedures)) (sym entries) can.is.0.defined));
+          (subst (λ (t : Procedures). Define old.counted.store.names t from.bodies (procedures_in es start.procedures)) (sym procedures)
+          (subst (λ (es : List Name). Define old.counted.store.names old.procedures from.bodies (procedures_in es start.procedures))
+          (sym entries) can.is.0.defined));
       faces = (
-        ap (λ (r : Store). To (BeforeBlock (block_of es inverse start) []) r) (sym is.slots) ∙ ap (λ (p : Place). To p new.store.slots) (sym place),
+        ap (λ (r : Store). To (BeforeBlock (block_of es inverse start) []) r) (sym is.slots) ∙ ap (λ (p : Place). To p new.counted.store.slots) (sym place),
         never,
       );
     }
 
 -- ---- leaving a cell
 
-pub left_here : {L : Type 0} (old new : Runner L) (program : Program) (to : ShownWorld) → CanLeave old program to → Becomes old.store new.store to.world.store →
+pub left_here : {L : Type 0} (old new : Runner L) (program : Program) (to : ShownWorld) → CanLeave old program to →
+    Becomes old.counted.store new.counted.store to.world.store →
     kept_in new.procedures ≡ kept_in old.procedures → new.entries ≡ old.entries → AreDefined new.procedures to.bodies → Is new (Between to)
 left_here old new program to can becomes kept entries defined =
     let cell = cell_of_program program in
     let es : List Name = old.entries in
     let as_many : length (procedures_in es (procedures_of program)) ≡ length (procedures_of program) = length-map (procedures_of program) (procedure_in es) in
-    let before : Define new.store.names old.procedures (onto program.first (length (procedures_in es (procedures_of program))) to.bodies)
+    let before : Define new.counted.store.names old.procedures (onto program.first (length (procedures_in es (procedures_of program))) to.bodies)
     (define (procedures_in es cell.procedures) (procedures_in es to.world.procedures)) =
-    subst (λ (n : ℕ). Define new.store.names old.procedures (onto program.first n to.bodies)
+    subst (λ (n : ℕ). Define new.counted.store.names old.procedures (onto program.first n to.bodies)
     (define (procedures_in es cell.procedures) (procedures_in es to.world.procedures))) (sym as_many)
-    (subst (λ (ps : List Proc). Define new.store.names old.procedures (with_bodies program to.bodies) ps)
+    (subst (λ (ps : List Proc). Define new.counted.store.names old.procedures (with_bodies program to.bodies) ps)
     (defined_in_slots es cell.procedures to.world.procedures)
-    (defined_grow old.store.names new.store.names becomes.names old.procedures (with_bodies program to.bodies)
+    (defined_grow old.counted.store.names new.counted.store.names becomes.names old.procedures (with_bodies program to.bodies)
     (procedures_in es (entered cell to.world).procedures) can.is.0.defined)) in (
       record {
         store = becomes.shown;
@@ -262,8 +276,8 @@ left_here old new program to can becomes kept entries defined =
         slots = becomes.slots;
         listed = subst (λ (es : List Name). AreListed es to.world.procedures) (sym entries)
             (listed_less es cell.procedures to.world.procedures can.is.0.listed);
-        defined = subst (λ (es : List Name). Define new.store.names new.procedures to.bodies (procedures_in es to.world.procedures)) (sym entries)
-            (all_retired new.store.names old.procedures new.procedures program.first (procedures_in es (procedures_of program)) to.bodies
+        defined = subst (λ (es : List Name). Define new.counted.store.names new.procedures to.bodies (procedures_in es to.world.procedures)) (sym entries)
+            (all_retired new.counted.store.names old.procedures new.procedures program.first (procedures_in es (procedures_of program)) to.bodies
             (procedures_in es to.world.procedures) kept before defined);
       },
       becomes.whole,

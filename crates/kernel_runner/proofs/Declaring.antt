@@ -232,11 +232,18 @@ unmet_at (e ∷ ds) s (suc i) d h new l =
 
 -- nothing yet
 pub becomes_itself : (h : StoreState) → IsWhole h → length h.texts ≡ h.declared → AreSlots h.names → Becomes h h (shown_store h)
-becomes_itself h whole many slots = record { shown = refl; texts = many; whole = whole; names = no_more h.names; slots = slots }
+becomes_itself h whole many slots = record { shown = refl; texts = many; whole = whole; names = no_more h.names; slots = slots; unwritten = refl }
 
 pub becomes_then : (a b c : StoreState) (s t : Store) → Becomes a b s → Becomes b c t → Becomes a c t
 becomes_then a b c s t h k =
-    record { shown = k.shown; texts = k.texts; whole = k.whole; names = more_yet a.names b.names c.names h.names k.names; slots = k.slots }
+    record {
+      shown = k.shown;
+      texts = k.texts;
+      whole = k.whole;
+      names = more_yet a.names b.names c.names h.names k.names;
+      slots = k.slots;
+      unwritten = k.unwritten ∙ h.unwritten;
+    }
 
 -- one name more is declared
 pub becomes_declared : (old new : StoreState) (x : Name) (v : Val) → IsWhole old → length old.texts ≡ old.declared → AreSlots new.names → Declares old new x v →
@@ -257,6 +264,7 @@ becomes_declared old new x v whole many slots h =
       whole = now;
       names = h.names;
       slots = slots;
+      unwritten = h.unwritten;
     }
 
 -- what is declared stays
@@ -275,6 +283,7 @@ becomes_kept old new whole many slots h =
       whole = now;
       names = h.names;
       slots = slots;
+      unwritten = h.unwritten;
     }
 
 rest_size : (s : Store) → size_of (rest_of s) ≡ size_of s - 1
@@ -309,9 +318,10 @@ last_taken (y ∷ ys) =
 
 -- the newest name is taken away
 pub becomes_rest : (old new : StoreState) → IsWhole old → length old.texts ≡ old.declared → AreSlots old.names →
-    new ≡ state_of (rest_of old.slots) (old.declared - 1) (take (old.declared - 1) old.texts) old.names [] → Becomes old new (rest_of (shown_store old))
+    new ≡ state_of (rest_of old.slots) (old.declared - 1) (take (old.declared - 1) old.texts) old.names [] old.writes →
+    Becomes old new (rest_of (shown_store old))
 becomes_rest old new whole many slots e =
-    let rest : StoreState = state_of (rest_of old.slots) (old.declared - 1) (take (old.declared - 1) old.texts) old.names [] in
+    let rest : StoreState = state_of (rest_of old.slots) (old.declared - 1) (take (old.declared - 1) old.texts) old.names [] old.writes in
     let now : IsWhole rest =
     record {
       declared = ap (λ (n : ℕ). n - 1) whole.declared ∙ sym (rest_size old.slots);
@@ -330,6 +340,7 @@ becomes_rest old new whole many slots e =
       whole = now;
       names = no_more old.names;
       slots = slots;
+      unwritten = refl;
     })
 
 -- for a store that is the same

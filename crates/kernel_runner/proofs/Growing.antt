@@ -6,7 +6,7 @@ use Rattle.janus_names.specs.Numbers.{GoOn}
 use Rattle.janus_slots.specs.Slots.{procedures_in}
 use Rattle.janus_machine.specs.Bodies.{Define}
 use Rattle.janus_machine.specs.Procedures.{kept_in}
-use Rattle.janus_machine.specs.declared.book.Direction.TheVariants.{Forward}
+use Rattle.janus_machine.specs.declared.linked_code.Direction.TheVariants.{Forward}
 use Rattle.janus_machine.specs.declared.procedures.Procedures.{Procedures}
 use Rattle.janus_machine.proofs.BodiesInEffect.{define_still, bodies_from_still}
 use Rattle.janus_machine.proofs.GoesOn.{book_goes_on, block_goes_on}

@@ -1,4 +1,5 @@
 pub mod Borders
+pub mod Counting
 pub mod Going
 pub mod Declaring
 pub mod Growing

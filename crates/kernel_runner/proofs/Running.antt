@@ -22,8 +22,8 @@ use Rattle.janus_machine.specs.Steps.{Refuses}
 use Rattle.janus_machine.specs.Law.{seen_at}
 use Rattle.janus_meaning.specs.Faults.{fault_of}
 use Rattle.janus_meaning.specs.declared.fault.Fault as machine
-use Rattle.janus_machine.specs.declared.book.Book.{Book}
-use Rattle.janus_machine.specs.declared.book.Direction.{Direction}
+use Rattle.janus_machine.specs.declared.linked_code.LinkedCode.{LinkedCode}
+use Rattle.janus_machine.specs.declared.linked_code.Direction.{Direction}
 use Rattle.janus_machine.specs.declared.cursor.Call.{Call}
 use Rattle.janus_machine.specs.declared.cursor.Cursor.{Cursor}
 use Rattle.janus_machine.specs.declared.procedures.Procedures.{Procedures}
@@ -47,29 +47,32 @@ second : (a b : Bool) → (a && b) ≡ true → b ≡ true
 second true b e = e
 second false b e = cc
 
-no_callers : (xs : List Name) (t : Procedures) (b : Book) (d : Direction) (cs : List Call) (hs : List Caller) → cs ≡ [] → AreOpenCalls xs t b d cs hs → hs ≡ []
+no_callers : (xs : List Name) (t : Procedures) (b : LinkedCode) (d : Direction) (cs : List Call) (hs : List Caller) → cs ≡ [] → AreOpenCalls xs t b d cs hs →
+    hs ≡ []
 no_callers xs t b d [] [] e h = refl
 no_callers xs t b d [] (x ∷ hs) e h = absurd h
 no_callers xs t b d (c ∷ cs) hs e h = cc
 
 module _ {L : Type 0} (runner : Runner L) (program : Program) (at : Place) where
-  ended_callers : IsStanding runner.procedures program.book runner.cursor runner.store → has_ended runner.cursor ≡ true → runner.store.callers ≡ []
+  ended_callers : IsStanding runner.procedures program.book runner.cursor runner.counted.store → has_ended runner.cursor ≡ true →
+      runner.counted.store.callers ≡ []
   ended_callers standing ended =
-      no_callers runner.store.names runner.procedures program.book runner.cursor.direction (calls_of runner.cursor) runner.store.callers
+      no_callers runner.counted.store.names runner.procedures program.book runner.cursor.direction (calls_of runner.cursor) runner.counted.store.callers
       (none_called runner.cursor.calls.items (second _ (are_no_calls runner.cursor.calls.items) ended)) standing.calls
 
   abbrev seen : Store
-  seen = seen_at (procedures_in runner.entries (start_at at).procedures) runner.procedures program.book runner.cursor runner.store
+  seen = seen_at (procedures_in runner.entries (start_at at).procedures) runner.procedures program.book runner.cursor runner.counted.store
 
   -- the declared names, with what is seen at the cursor in their slots
-  shown_at : (back : Bool) → Stands runner program at back → shown_store runner.store ≡ under_names (names_in (start_at at).store)
+  shown_at : (back : Bool) → Stands runner program at back → shown_store runner.counted.store ≡ under_names (names_in (start_at at).store)
       (oldest (size_of (start_at at).store) seen)
   shown_at back h =
       let size = size_of (start_at at).store in
-      let declared : declared_store runner.store ≡ oldest size seen = ap (λ (n : ℕ). oldest n (given_back runner.store.slots runner.store.callers)) h.declared
+      let declared : declared_store runner.counted.store ≡ oldest size seen =
+      ap (λ (n : ℕ). oldest n (given_back runner.counted.store.slots runner.counted.store.callers)) h.declared
       ∙ ap (oldest size)
-      (sym (seen_is (procedures_in runner.entries (start_at at).procedures) runner.procedures program.book runner.cursor runner.store h.standing)) in
-      ap (under_names (reverse runner.store.texts)) declared
+      (sym (seen_is (procedures_in runner.entries (start_at at).procedures) runner.procedures program.book runner.cursor runner.counted.store h.standing)) in
+      ap (under_names (reverse runner.counted.store.texts)) declared
       ∙ ap (λ (g : List Name). under_names g (oldest size seen)) (ap reverse h.texts ∙ reverse-reverse (names_in (start_at at).store))
 
   -- the world shown is that after the counted steps
@@ -95,7 +98,7 @@ module _ {L : Type 0} (runner : Runner L) (program : Program) (at : Place) where
   record EndsIn : Type 0 where
     store : Store
     ran : BlockExec (around (start_at at)) (Block (run_block at.code)) (start_at at).store at.count store
-    slots : in_slots store ≡ runner.store.slots
+    slots : in_slots store ≡ runner.counted.store.slots
     names : names_in store ≡ names_in (start_at at).store
 
   ends_in : Stands runner program at false → has_ended runner.cursor ≡ true → EndsIn
@@ -103,14 +106,14 @@ module _ {L : Type 0} (runner : Runner L) (program : Program) (at : Place) where
       let same = the_same runner program at false at.count h in
       let run = (run_means runner program at h).ended ended in
       let g = names_in (start_at at).store in
-      let end : Store = under_names g runner.store.slots in
-      let ran = same.ended runner.store.slots run in
-      let kept : in_slots end ≡ runner.store.slots = same.kept runner.store.slots run in
+      let end : Store = under_names g runner.counted.store.slots in
+      let ran = same.ended runner.counted.store.slots run in
+      let kept : in_slots end ≡ runner.counted.store.slots = same.kept runner.counted.store.slots run in
       let size : size_of end ≡ size_of (start_at at).store = same_size end (start_at at).store (keeps_shape _ _ _ _ _ ran) in
-      let many : length g ≡ size_of runner.store.slots = names_size (start_at at).store ∙ sym size ∙ sym (size_same end) ∙ ap size_of kept in
-      record { store = end; ran = ran; slots = kept; names = under_named g runner.store.slots many }
+      let many : length g ≡ size_of runner.counted.store.slots = names_size (start_at at).store ∙ sym size ∙ sym (size_same end) ∙ ap size_of kept in
+      record { store = end; ran = ran; slots = kept; names = under_named g runner.counted.store.slots many }
 
-  pub whole_at_end : Stands runner program at false → has_ended runner.cursor ≡ true → IsWhole runner.store
+  pub whole_at_end : Stands runner program at false → has_ended runner.cursor ≡ true → IsWhole runner.counted.store
   whole_at_end h ended =
       let end = ends_in h ended in
       record {
@@ -124,8 +127,8 @@ module _ {L : Type 0} (runner : Runner L) (program : Program) (at : Place) where
   unfolding CodeExec
   at_end h ended =
       let end = ends_in h ended in
-      let shows : shown_store runner.store ≡ end.store =
-      shown_whole runner.store end.store (whole_at_end h ended) (record { slots = sym end.slots; texts = h.texts ∙ ap reverse (sym end.names) }) in
+      let shows : shown_store runner.counted.store ≡ end.store =
+      shown_whole runner.counted.store end.store (whole_at_end h ended) (record { slots = sym end.slots; texts = h.texts ∙ ap reverse (sym end.names) }) in
       record {
         limit = h.few;
         ran = subst (λ (s : Store). BlockExec (around (start_at at)) (Block (run_block at.code)) (start_at at).store at.count s) (sym shows) end.ran;
@@ -162,7 +165,8 @@ module _ {L : Type 0} (runner : Runner L) (program : Program) (at : Place) where
 
   -- why the next step is refused
   pub refused_at : (f : machine.Fault) → Stands runner program at false → has_ended runner.cursor ≡ false →
-      Refuses (procedures_in runner.entries (start_at at).procedures) (stacks_in (start_at at).store) runner.procedures program.book runner.cursor runner.store
+      Refuses (procedures_in runner.entries (start_at at).procedures)
+      (stacks_in (start_at at).store) runner.procedures program.book runner.cursor runner.counted.store
       f → CodeStop at.code at.world at.count (fault_of f)
   refused_at f h going refuses =
       elim refuses [
@@ -176,12 +180,13 @@ module _ {L : Type 0} (runner : Runner L) (program : Program) (at : Place) where
 
   -- ---- turned round
 
-  pub turned_round : (cursor : Cursor) → Stands runner program at false → IsStanding runner.procedures program.book cursor runner.store →
-      place_of runner.store.names runner.procedures program.book cursor runner.store.callers ≡ mirror
-      (place_of runner.store.names runner.procedures program.book runner.cursor runner.store.callers) →
-      ((k : ℕ) → Agrees k runner.procedures program.book runner.cursor runner.store → Agrees k runner.procedures program.book cursor runner.store) →
+  pub turned_round : (cursor : Cursor) → Stands runner program at false → IsStanding runner.procedures program.book cursor runner.counted.store →
+      place_of runner.counted.store.names runner.procedures program.book cursor runner.counted.store.callers ≡ mirror
+      (place_of runner.counted.store.names runner.procedures program.book runner.cursor runner.counted.store.callers) →
+      ((k : ℕ) → Agrees k runner.procedures program.book runner.cursor runner.counted.store →
+      Agrees k runner.procedures program.book cursor runner.counted.store) →
       (cursor.count ≡ runner.cursor.count) × (cursor.turned ≡ not runner.cursor.turned) →
-      Stands {L = L} (record { store = runner.store; cursor = cursor; procedures = runner.procedures; entries = runner.entries }) program at true
+      Stands {L = L} (record { counted = runner.counted; cursor = cursor; procedures = runner.procedures; entries = runner.entries }) program at true
   turned_round cursor h standing place agrees counts = record {
     cell = h.cell;
     good = h.good;
@@ -200,10 +205,11 @@ module _ {L : Type 0} (runner : Runner L) (program : Program) (at : Place) where
   }
 
 -- where it began no local and no call is open
-pub whole_at_start : {L : Type 0} (runner : Runner L) (program : Program) (at : Place) → at.count ≡ 0 → Stands runner program at true → IsWhole runner.store
+pub whole_at_start : {L : Type 0} (runner : Runner L) (program : Program) (at : Place) → at.count ≡ 0 → Stands runner program at true →
+    IsWhole runner.counted.store
 whole_at_start runner program at none h =
     let means = back_means runner program at h in
-    let start : runner.store.slots ≡ in_slots (start_at at).store = means.at_start none in
+    let start : runner.counted.store.slots ≡ in_slots (start_at at).store = means.at_start none in
     record {
       declared = h.declared ∙ sym (size_same (start_at at).store) ∙ sym (ap size_of start);
       callers = ended_callers runner program at h.standing (means.begun.1 none);
@@ -224,7 +230,8 @@ module _ {L : Type 0} (runner : Runner L) (program : Program) (at : Place) (t m 
 
   -- one whose next step is refused
   pub run_stopped : (n : ℕ) (f : machine.Fault) → t < m → n ≡ runner.cursor.count → has_ended runner.cursor ≡ false →
-      Refuses (procedures_in runner.entries (start_at at).procedures) (stacks_in (start_at at).store) runner.procedures program.book runner.cursor runner.store
+      Refuses (procedures_in runner.entries (start_at at).procedures)
+      (stacks_in (start_at at).store) runner.procedures program.book runner.cursor runner.counted.store
       f →
       CodePart at.code at.world n (world_inside at runner) × CodeStop at.code at.world n (fault_of f) × (n < at.count + m)
   run_stopped n f low is going refuses =

@@ -10,4 +10,4 @@ pub use Rattle.janus_machine.specs.declared.linked_procedure
 pub use Rattle.janus_machine.specs.declared.procedures
 pub use Rattle.janus_machine.specs.LinkedProcedure
 pub use Rattle.janus_machine.specs.Places
-pub use Rattle.janus_machine.specs.declared.book
+pub use Rattle.janus_machine.specs.declared.linked_code

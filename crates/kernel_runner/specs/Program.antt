@@ -10,7 +10,7 @@ use Rattle.janus_slots.specs.Slots.{block_in as block_in_slots, procedures_in}
 use Rattle.janus_machine.specs.Places.{block_in, BookHasNumbers}
 use Rattle.janus_machine.specs.Bodies.{AreBodiesFrom, onto}
 use Rattle.janus_machine.specs.Procedures.{kept_in}
-use Rattle.janus_machine.specs.declared.book.Direction.TheVariants.{Forward}
+use Rattle.janus_machine.specs.declared.linked_code.Direction.TheVariants.{Forward}
 use Rattle.janus_machine.specs.declared.procedures.Procedures.{Procedures}
 use Rattle.kernel_runner.specs.declared.program.Program.{Program}
 

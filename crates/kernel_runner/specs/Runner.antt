@@ -14,6 +14,8 @@ use Rattle.janus_machine.specs.Open.{Agrees}
 use Rattle.janus_machine.specs.Bodies.{AreBelow, Define}
 use Rattle.janus_machine.specs.Cursor as cursors
 use Rattle.janus_machine.specs.Cursors.{IsStanding}
+use Rattle.janus_machine.specs.CountedStore.{steps_in}
+use Rattle.janus_machine.specs.Steps.{TakesSafeSteps}
 use Rattle.janus_machine.specs.Law.{HasRun, FacesBack, NeverBroken}
 use Rattle.kernel_machine.specs.Language.{Code, Forward, Backward, CodeExec, IsFormed, IsSound, cell_of, run_block, start_of}
 use Rattle.janus_machine.specs.Procedures.{kept_in}
@@ -38,23 +40,24 @@ over bodies w = record { bodies = bodies; world = w }
 
 -- the declared names of the store, without the locals that are open, and beside them these procedures
 abbrev pub world_of : {L : Type 0} → List Proc → Runner L → World
-world_of ps runner = record { store = shown_store runner.store; procedures = ps }
+world_of ps runner = record { store = shown_store runner.counted.store; procedures = ps }
 
 -- The runner shows this world; each of its procedures is named in the table, and its bodies are those of the procedures, with slots in place of names.
 pub record Shows {L : Type 0} (runner : Runner L) (shown : ShownWorld) : Type 0 where
-  pub store : shown_store runner.store ≡ shown.world.store
-  pub texts : length runner.store.texts ≡ runner.store.declared
-  pub slots : AreSlots runner.store.names
+  pub store : shown_store runner.counted.store ≡ shown.world.store
+  pub texts : length runner.counted.store.texts ≡ runner.counted.store.declared
+  pub slots : AreSlots runner.counted.store.names
   pub listed : AreListed runner.entries shown.world.procedures
-  pub defined : Define runner.store.names runner.procedures shown.bodies (procedures_in runner.entries shown.world.procedures)
+  pub defined : Define runner.counted.store.names runner.procedures shown.bodies (procedures_in runner.entries shown.world.procedures)
 
--- The store has become one that shows this: no local is open, and its slots are as many as before, or more.
+-- The store has become one that shows this: no local is open, its slots are as many as before, or more, and nothing was written.
 pub record Becomes (old new : StoreState) (s : Store) : Type 0 where
   pub shown : shown_store new ≡ s
   pub texts : length new.texts ≡ new.declared
   pub whole : IsWhole new
   pub names : GoOn old.names new.names
   pub slots : AreSlots new.names
+  pub unwritten : new.writes ≡ old.writes
 
 -- `count` names, with the values that they were declared with, stand above this store
 pub record IsDeclaredOver (h : StoreState) (count : ℕ) (before : Store) : Type 0 where
@@ -111,11 +114,11 @@ slots_of w = in_slots w.store
 abbrev pub Faces : {L : Type 0} → Bool → Runner L → Program → Blk → World → ℕ → Type 0
 Faces false runner program b w count =
     HasRun (procedures_in runner.entries w.procedures) (stacks_in w.store) (block_of runner.entries b w) (slots_of w) count runner.procedures program.book
-    runner.cursor runner.store
+    runner.cursor runner.counted.store
     × NeverBroken (procedures_in runner.entries w.procedures) (stacks_in w.store) (block_of runner.entries b w) (slots_of w)
 Faces true runner program b w count =
     FacesBack (procedures_in runner.entries w.procedures) (stacks_in w.store) (block_of runner.entries b w) (slots_of w) count runner.procedures program.book
-    runner.cursor runner.store
+    runner.cursor runner.counted.store
 
 -- The runner stands at this place in the program's code. Its next steps go on, or, once it is turned, back.
 pub record Stands {L : Type 0} (runner : Runner L) (program : Program) (at : Place) (is_turned : Bool) : Type 0 where
@@ -125,16 +128,16 @@ pub record Stands {L : Type 0} (runner : Runner L) (program : Program) (at : Pla
   -- the cursor counts the steps itself
   pub counted : count_of runner ≡ at.count
   pub turned : cursors.is_turned runner.cursor ≡ is_turned
-  pub standing : IsStanding runner.procedures program.book runner.cursor runner.store
+  pub standing : IsStanding runner.procedures program.book runner.cursor runner.counted.store
   -- the store has the names of the world in which the steps began, and above them what is open at the cursor
-  pub declared : runner.store.declared ≡ size_of (start_at at).store
-  pub texts : runner.store.texts ≡ reverse (names_in (start_at at).store)
-  pub agrees : Agrees (stacks_in (start_at at).store) runner.procedures program.book runner.cursor runner.store
+  pub declared : runner.counted.store.declared ≡ size_of (start_at at).store
+  pub texts : runner.counted.store.texts ≡ reverse (names_in (start_at at).store)
+  pub agrees : Agrees (stacks_in (start_at at).store) runner.procedures program.book runner.cursor runner.counted.store
   -- what runs is the program's cell
-  pub ready : IsReady runner.store.names runner.entries (names_in (start_at at).store) runner.procedures program
-  pub slots : AreSlots runner.store.names
+  pub ready : IsReady runner.counted.store.names runner.entries (names_in (start_at at).store) runner.procedures program
+  pub slots : AreSlots runner.counted.store.names
   pub listed : AreListed runner.entries (start_at at).procedures
-  pub defined : Define runner.store.names runner.procedures at.bodies (procedures_in runner.entries (start_at at).procedures)
+  pub defined : Define runner.counted.store.names runner.procedures at.bodies (procedures_in runner.entries (start_at at).procedures)
   pub faces : Faces is_turned runner program (run_block at.code) (start_at at) at.count
 
 -- ---- the model
@@ -147,12 +150,33 @@ pub data Configuration : Type 0 where
 
 -- The runner is this. No function of its fields tells it, since the world in which a cell was entered is kept nowhere.
 abbrev pub Is : {L : Type 0} → Runner L → Configuration → Type 0
-Is runner (Between shown) = Shows runner shown × IsWhole runner.store
+Is runner (Between shown) = Shows runner shown × IsWhole runner.counted.store
 Is runner (Inside program at is_turned) = Stands runner program at is_turned
 
 -- it is somewhere in the code of this program
 abbrev pub IsInside : {L : Type 0} → Runner L → Program → Bool → Type 0
 IsInside runner program is_turned = (at : Place) × Is runner (Inside program at is_turned)
+
+-- ---- what it counts
+
+-- how often its store was written
+abbrev pub writes_of : {L : Type 0} → Runner L → ℕ
+writes_of runner = runner.counted.store.writes
+
+-- how many steps the machine has taken over its store
+abbrev pub steps_of : {L : Type 0} → Runner L → ℕ
+steps_of runner = steps_in runner.counted
+
+-- nothing was written, and no step taken
+pub record KeepsCounts {L : Type 0} (old new : Runner L) : Type 0 where
+  pub writes : writes_of new ≡ writes_of old
+  pub steps : steps_of new ≡ steps_of old
+
+-- From where cursor and store were, n steps of this program's code have led to where they are, of at most m, where none of those is broken: of
+-- whatever procedures are in effect.
+abbrev pub CameBy : {L : Type 0} → Program → (m n : ℕ) → Runner L → Runner L → Type 0
+CameBy program m n old new =
+    TakesSafeSteps m n old.procedures program.book old.cursor old.counted.store new.cursor new.counted.store
 
 -- ---- what its calls ask for
 
@@ -161,7 +185,7 @@ pub record CanEnter {L : Type 0} (runner : Runner L) (program : Program) (from :
   pub is : Is runner (Between from)
   pub sound : IsSound from.world
   pub formed : IsFormed (cell_of_program program) from.world
-  pub ready : IsReady runner.store.names runner.entries (names_in (entered (cell_of_program program) from.world).store) runner.procedures program
+  pub ready : IsReady runner.counted.store.names runner.entries (names_in (entered (cell_of_program program) from.world).store) runner.procedures program
   pub named : AreListed runner.entries (procedures_of program)
   pub behind : AreBelow program.first from.bodies
 
@@ -173,7 +197,7 @@ pub record CanReturn {L : Type 0} (runner : Runner L) (program : Program) (from 
   pub ran : CodeExec (Forward (cell_of_program program)) before steps from.world
   pub sound : IsSound before
   pub formed : IsFormed (cell_of_program program) before
-  pub ready : IsReady runner.store.names runner.entries (names_in from.world.store) runner.procedures program
+  pub ready : IsReady runner.counted.store.names runner.entries (names_in from.world.store) runner.procedures program
 
 -- the world in which the program's statements begin, where it was entered in this one
 abbrev pub begun_in : Program → ShownWorld → ShownWorld
@@ -202,7 +226,7 @@ count_after m (Stopped j fault) = j
 -- at the end of the code no local is open
 abbrev pub IsWholeAfter : {L : Type 0} → Progress → Runner L → Type 0
 IsWholeAfter Went runner = Unit {0}
-IsWholeAfter (Ended n) runner = IsWhole runner.store
+IsWholeAfter (Ended n) runner = IsWhole runner.counted.store
 IsWholeAfter (Stopped j fault) runner = Unit {0}
 
 -- with at most m steps to take in all, the code comes thus far, to the world that the runner shows then, and there the runner stands

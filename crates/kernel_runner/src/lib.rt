@@ -10,7 +10,7 @@
 //! The definitions are in specs/: `Program` (the cell that a program is), `Declarable` (what a store has room for) and `Runner` (the model of a
 //! runner, and what each call does to it).
 //!
-//! It gives the names of `janus_machine` again that the loader and the history cite: its books, cursors, procedures, store and writes, its
+//! It gives the names of `janus_machine` again that the loader and the history cite: its books, cursors, procedures and stores, its
 //! slices, and the names of frames.
 #![tactic(auto)]
 
@@ -20,5 +20,5 @@ mod runner;
 pub use crate::program::Program;
 pub use crate::runner::Runner;
 pub use janus_machine::{
-    Book, Cursor, FrameNames, LinkedProcedure, Procedures, Store, Writes, slice,
+    Book, CountedStore, Cursor, FrameNames, LinkedCode, LinkedProcedure, Procedures, Store, slice,
 };

@@ -5,13 +5,13 @@ ghost use Rattle.janus_syntax.specs.View.{plain_declaration, plain_procedure};
 ghost use Rattle.kernel_runner.specs.Program.{tree_of, declarations_of, procedures_of};
 
 use janus_check::Checked;
-use janus_machine::Book;
+use janus_machine::LinkedCode;
 use janus_syntax::tree::{Cell, Declaration, Procedure};
 
 /// What a cell declares and defines, and its code both ways.
 #[derive(Drop)]
 pub struct Program {
-    pub book: Book,
+    pub book: LinkedCode,
     /// The cell as it was checked. What it declares and defines is told from it.
     pub checked: Checked,
     /// Where the bodies of its procedures begin among those that are kept.

@@ -1,7 +1,7 @@
 //! The one store, the procedures in effect, and the place in the code of the open cell.
 //!
 //! It alone runs the machine of Janus: what stands above runs cells by these contracts.
-ghost use Rattle.std.specs.Prelude.{◌≡◌, [], map, length, IfOk, OnOk, OnErr, IsOk, true, false};
+ghost use Rattle.std.specs.Prelude.{◌≡◌, ◌+◌, ◌<◌, [], map, length, IfOk, OnOk, OnErr, IsOk, true, false};
 ghost use Rattle.janus_meaning.specs.Store.{Store as TheStore};
 ghost use Rattle.janus_meaning.specs.Shape.{shape_of};
 ghost use Rattle.janus_meaning.specs.FormedWorld.{AreNew, HaveValues};
@@ -15,21 +15,23 @@ ghost use Rattle.janus_store.specs.StoreState.{IsWhole, shown_store};
 ghost use Rattle.janus_machine.specs.Procedures.{kept_in};
 ghost use Rattle.janus_meaning.specs.Writes.{IsWritten};
 ghost use Rattle.kernel_runner.specs.Runner.{ShownWorld, over, Becomes, IsDeclaredOver, count_of, Is, Between, IsInside};
+ghost use Rattle.kernel_runner.specs.Runner.{writes_of, steps_of, KeepsCounts, CameBy};
 ghost use Rattle.kernel_runner.specs.Runner.{CanEnter, CanReturn, CanLeave, Enters, EntersInverse, Runs, Turns, GoesBack, Leaves};
 ghost use Rattle.kernel_machine.specs.StepsOfSlices.{steps_on, steps_back};
 
 use crate::program::Program;
-use janus_machine::{Cursor, End, Procedures, Store, Writes, slice};
+use janus_machine::{Book, CountedStore, Cursor, End, Procedures, Store, slice};
 use janus_names::Names;
 use janus_syntax::tree::Declaration;
 use kernel_machine::Progress;
 use std::alloc::{AllocError, Global};
-use std::sync::ledger::Ledger;
+use std::sync::ledger::{Blank, Ledger};
 
 /// The store, whose declared names are the shown world, the procedures in effect, and the cursor in the open cell's code.
 #[derive(Drop)]
 pub struct Runner<L: Ledger> {
-    pub store: Store<L>,
+    /// The store, with the counts of its writes and of the steps over it.
+    pub counted: CountedStore<L>,
     pub cursor: Cursor,
     pub procedures: Procedures,
     /// The names of the procedures of all cells that passed the check, each with its number.
@@ -37,14 +39,20 @@ pub struct Runner<L: Ledger> {
 }
 
 impl<L: Ledger> Runner<L> {
-    /// The empty world. It takes the memory that every run needs, that of all stacks, locals and calls; the only error is want of it.
-    pub fn new(alloc: Global) -> Result<Runner<L>, AllocError>
+    /// The empty world, with no writes and no steps so far, which are counted in the ledger that is opened by this blank. It takes the memory that
+    /// every run needs, that of all stacks, locals and calls; the only error is want of it.
+    pub fn new(alloc: Global, blank: Blank) -> Result<Runner<L>, AllocError>
+        requires name { blank.name ≡ L.name }
+        requires parts { blank.parts ≡ L.parts }
+        requires two { 1 < L.parts }
+        ensures unwritten { IfOk result (λ runner. writes_of runner ≡ 0) }
+        ensures no_steps { IfOk result (λ runner. steps_of runner ≡ 0) }
         ensures is { IfOk result (λ runner. Is runner (Between (over [] empty_world))) }
         ensures none { IfOk result (λ runner. kept_in runner.procedures ≡ []) }
     {
         let cursor = Cursor::new(alloc)?;
         Ok(Runner {
-            store: Store::new(alloc)?,
+            counted: CountedStore::new(alloc, blank)?,
             cursor,
             procedures: Procedures::new(alloc),
             entries: Names::new(alloc),
@@ -55,18 +63,23 @@ impl<L: Ledger> Runner<L> {
     pub fn enter(&mut self, program: &Program) -> Result<(), AllocError>
         requires { (from : ShownWorld) × CanEnter self.old program.now from }
         ensures ok { OnOk result (Enters program.now self.old self.new) }
-        ensures err { OnErr result (Becomes self.old.store self.new.store (shown_store self.old.store)) }
+        ensures err { OnErr result (Becomes self.old.counted.store self.new.counted.store (shown_store self.old.counted.store)) }
         ensures same { OnErr result (self.new.procedures ≡ self.old.procedures) }
         ensures kept { kept_in self.new.procedures ≡ kept_in self.old.procedures }
-        ensures names { GoOn self.old.store.names self.new.store.names }
+        ensures names { GoOn self.old.counted.store.names self.new.counted.store.names }
         ensures entries { self.new.entries ≡ self.old.entries }
+        ensures counts { KeepsCounts self.old self.new }
         // Without names it takes no memory.
         ensures none { (cell_of_program program.now).declarations ≡ [] → IsOk result }
     {
-        declare(&mut self.store, program.declarations())?;
+        declare(&mut self.counted.store, program.declarations())?;
         self.procedures
             .define_all(program.first, program.procedures().len());
-        self.cursor.enter(&program.book);
+        let book = Book {
+            code: &program.book,
+            procedures: &self.procedures,
+        };
+        self.cursor.enter(&book);
         Ok(())
     }
 
@@ -74,11 +87,15 @@ impl<L: Ledger> Runner<L> {
     pub fn enter_inverse(&mut self, program: &Program)
         requires { (from : ShownWorld) × CanReturn self.old program.now from }
         ensures enters { EntersInverse program.now self.old self.new }
-        ensures store { self.new.store ≡ self.old.store }
+        ensures counted { self.new.counted ≡ self.old.counted }
         ensures procedures { self.new.procedures ≡ self.old.procedures }
         ensures entries { self.new.entries ≡ self.old.entries }
     {
-        self.cursor.enter_inverse(&program.book);
+        let book = Book {
+            code: &program.book,
+            procedures: &self.procedures,
+        };
+        self.cursor.enter_inverse(&book);
     }
 
     /// How many steps of the open cell are taken, and not taken back.
@@ -89,22 +106,21 @@ impl<L: Ledger> Runner<L> {
     }
 
     /// Takes up to `m` steps, or all that are left to the end or to a fault.
-    pub fn run(&mut self, program: &Program, writes: &mut Writes<L>, m: u64) -> Progress
+    pub fn run(&mut self, program: &Program, m: u64) -> Progress
         requires { IsInside self.old program.now false }
         ensures runs { Runs program.now m result self.old self.new }
-        ensures names { self.new.store.names ≡ self.old.store.names }
+        ensures names { self.new.counted.store.names ≡ self.old.counted.store.names }
         ensures procedures { self.new.procedures ≡ self.old.procedures }
         ensures entries { self.new.entries ≡ self.old.entries }
-        ensures written { IsWritten (steps_on (count_of self.old) m result) writes.old writes.new }
+        ensures written { IsWritten (steps_on (count_of self.old) m result) (writes_of self.old) (writes_of self.new) }
+        ensures counted { steps_of self.new ≡ steps_of self.old + steps_on (count_of self.old) m result }
+        ensures came { CameBy program.now m (steps_on (count_of self.old) m result) self.old self.new }
     {
-        let sliced = slice(
-            &self.procedures,
-            &program.book,
-            &mut self.cursor,
-            &mut self.store,
-            writes,
-            m,
-        );
+        let book = Book {
+            code: &program.book,
+            procedures: &self.procedures,
+        };
+        let sliced = slice(&book, &mut self.cursor, &mut self.counted, m);
         let count = self.cursor.count();
         match sliced.end {
             End::Ended => Progress::Ended(count),
@@ -117,30 +133,33 @@ impl<L: Ledger> Runner<L> {
     pub fn turn(&mut self, program: &Program)
         requires { IsInside self.old program.now false }
         ensures turns { Turns program.now self.old self.new }
-        ensures store { self.new.store ≡ self.old.store }
+        ensures counted { self.new.counted ≡ self.old.counted }
         ensures procedures { self.new.procedures ≡ self.old.procedures }
         ensures entries { self.new.entries ≡ self.old.entries }
     {
-        self.cursor.mirror(&self.procedures, &program.book);
+        let book = Book {
+            code: &program.book,
+            procedures: &self.procedures,
+        };
+        self.cursor.mirror(&book);
     }
 
     /// Goes `m` steps back, or all.
-    pub fn back(&mut self, program: &Program, writes: &mut Writes<L>, m: u64)
+    pub fn back(&mut self, program: &Program, m: u64)
         requires { IsInside self.old program.now true }
         ensures goes { GoesBack program.now m self.old self.new }
-        ensures names { self.new.store.names ≡ self.old.store.names }
+        ensures names { self.new.counted.store.names ≡ self.old.counted.store.names }
         ensures procedures { self.new.procedures ≡ self.old.procedures }
         ensures entries { self.new.entries ≡ self.old.entries }
-        ensures written { IsWritten (steps_back (count_of self.old) m) writes.old writes.new }
+        ensures written { IsWritten (steps_back (count_of self.old) m) (writes_of self.old) (writes_of self.new) }
+        ensures counted { steps_of self.new ≡ steps_of self.old + steps_back (count_of self.old) m }
+        ensures came { CameBy program.now m (steps_back (count_of self.old) m) self.old self.new }
     {
-        let _sliced = slice(
-            &self.procedures,
-            &program.book,
-            &mut self.cursor,
-            &mut self.store,
-            writes,
-            m,
-        );
+        let book = Book {
+            code: &program.book,
+            procedures: &self.procedures,
+        };
+        let _sliced = slice(&book, &mut self.cursor, &mut self.counted, m);
     }
 
     /// Takes back the declarations and the definitions of a cell, from the world in which its statements begin.
@@ -148,10 +167,11 @@ impl<L: Ledger> Runner<L> {
         requires { (to : ShownWorld) × CanLeave self.old program.now to }
         ensures leaves { Leaves program.now self.old self.new }
         ensures kept { kept_in self.new.procedures ≡ kept_in self.old.procedures }
-        ensures names { GoOn self.old.store.names self.new.store.names }
+        ensures names { GoOn self.old.counted.store.names self.new.counted.store.names }
         ensures entries { self.new.entries ≡ self.old.entries }
+        ensures counts { KeepsCounts self.old self.new }
     {
-        retire(&mut self.store, program.declarations().len());
+        retire(&mut self.counted.store, program.declarations().len());
         self.procedures
             .retire_all(program.first, program.procedures().len());
     }

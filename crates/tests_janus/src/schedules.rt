@@ -24,14 +24,14 @@ pub(crate) fn tell(calls: &str, sheet: &mut Sheet) {
 
 /// Makes the calls on a new kernel, and writes each with its answer.
 fn tell_calls(calls: &String, sheet: &mut Sheet) {
-    tell_in::<Brand>(Blank::new(1), calls, sheet);
+    tell_in::<Brand>(Blank::new(2), calls, sheet);
 }
 
 /// Makes the calls on a new kernel over this ledger, and writes each with its answer.
 fn tell_in<L: Ledger>(blank: Blank, calls: &String, sheet: &mut Sheet)
     requires name { blank.name ≡ L.name }
     requires parts { blank.parts ≡ L.parts }
-    requires some { 0 < L.parts }
+    requires two { 1 < L.parts }
 {
     match Kernel::<L>::new(sheet.alloc(), blank) {
         Ok(mut kernel) => {

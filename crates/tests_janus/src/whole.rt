@@ -15,7 +15,7 @@ use janus_code::{Block, Code, FlatExp, Statement, Symbol};
 use janus_laying::{FlatRow, FrameNames, RESULT_LIMIT, lay_row};
 use janus_linear::{Linear, Order, link};
 use janus_rows::{are_in_sight, run_row};
-use janus_store::{Store, Writes};
+use janus_store::Store;
 use janus_syntax::parse_cell;
 use janus_syntax::tree::{Exp, Name, Stm};
 use std::alloc::{AllocError, Global};
@@ -33,29 +33,23 @@ pub(crate) fn answer(call: &str, sheet: &mut Sheet) {
 
 /// Writes the answer to a call.
 fn answer_call(call: &String, sheet: &mut Sheet) {
-    answer_in::<Brand>(Blank::new(1), call, sheet);
+    answer_in::<Brand>(Blank::new(2), call, sheet);
 }
 
 /// Writes the answer to a call, over this ledger.
 fn answer_in<L: Ledger>(blank: Blank, call: &String, sheet: &mut Sheet)
     requires name { blank.name ≡ L.name }
     requires parts { blank.parts ≡ L.parts }
-    requires some { 0 < L.parts }
+    requires two { 1 < L.parts }
 {
-    let mut writes = Writes::<L>::new(blank);
-    match Store::<L>::new(sheet.alloc()) {
-        Ok(mut store) => answer_over(&mut store, &mut writes, call, sheet),
+    match Store::<L>::new(sheet.alloc(), blank) {
+        Ok((mut store, _tally)) => answer_over(&mut store, call, sheet),
         Err(_) => sheet.refuse(),
     }
 }
 
 /// Writes the answer to a call, over a new store.
-fn answer_over<L: Ledger>(
-    store: &mut Store<L>,
-    writes: &mut Writes<L>,
-    call: &str,
-    sheet: &mut Sheet,
-)
+fn answer_over<L: Ledger>(store: &mut Store<L>, call: &str, sheet: &mut Sheet)
     requires { store.old ≡ empty_state }
 {
     let (word, rest) = cut(call);
@@ -64,7 +58,7 @@ fn answer_over<L: Ledger>(
         return sheet.refuse();
     }
     match frame_of(sheet.alloc(), frame) {
-        Ok(frame) => tell_over(&frame, row, store, writes, sheet),
+        Ok(frame) => tell_over(&frame, row, store, sheet),
         Err(_) => sheet.refuse(),
     }
 }
@@ -134,16 +128,10 @@ fn number_of(name: &str) -> usize {
 }
 
 /// What is told of a row over these names.
-fn tell_over<L: Ledger>(
-    frame: &FrameNames,
-    row: &str,
-    store: &mut Store<L>,
-    writes: &mut Writes<L>,
-    sheet: &mut Sheet,
-) {
+fn tell_over<L: Ledger>(frame: &FrameNames, row: &str, store: &mut Store<L>, sheet: &mut Sheet) {
     let (steps, text) = cut_cell(row);
     match row_of(sheet.alloc(), text, frame) {
-        Ok(row) => tell_row(&row, frame, steps, store, writes, sheet),
+        Ok(row) => tell_row(&row, frame, steps, store, sheet),
         Err(_) => sheet.refuse(),
     }
 }
@@ -296,7 +284,6 @@ fn tell_row<L: Ledger>(
     frame: &FrameNames,
     steps: &str,
     store: &mut Store<L>,
-    writes: &mut Writes<L>,
     sheet: &mut Sheet,
 )
     requires { (l : Linear) × IsLaidOf frame.now l row.now }
@@ -311,7 +298,7 @@ fn tell_row<L: Ledger>(
     }
     let mut results = [0i32; RESULT_LIMIT as usize];
     let most = number(most) as u64;
-    let led = run_row(row, frame, place, &mut results, store, writes, most);
+    let led = run_row(row, frame, place, &mut results, store, most);
     sheet.write("in sight, ");
     sheet.show(&led.taken);
     sheet.write(" of ");

@@ -32,7 +32,7 @@ fn tell_owned<R: Wait + Clock>(rt: &R, calls: String, sheet: &mut Sheet) {
         Ok(history) => {
             tell_in::<Brand, Brand, R>(
                 rt,
-                Blank::new(1),
+                Blank::new(2),
                 Blank::new(65_537),
                 history,
                 calls,
@@ -50,7 +50,7 @@ fn new_hall<W: Ledger, L: HistoryName>(
     posts: Blank,
     history: NewHistory<Entry>,
 ) -> Result<(Hall<W, L>, RingerSeat), AllocError>
-    requires writes { (writes.name ≡ W.name) × (writes.parts ≡ W.parts) × (0 < W.parts) }
+    requires writes { (writes.name ≡ W.name) × (writes.parts ≡ W.parts) × (1 < W.parts) }
     requires posts { (posts.name ≡ L.name) × (posts.parts ≡ 65537) × (posts.parts ≡ L.parts) }
     requires history { history ≡ L.history }
     ensures { IfOk result (λ made. made.1.bell ≡ made.0) }
@@ -73,7 +73,7 @@ fn tell_in<W: Ledger, L: HistoryName, R: Wait + Clock>(
     calls: String,
     sheet: &mut Sheet,
 )
-    requires writes { (writes.name ≡ W.name) × (writes.parts ≡ W.parts) × (0 < W.parts) }
+    requires writes { (writes.name ≡ W.name) × (writes.parts ≡ W.parts) × (1 < W.parts) }
     requires posts { (posts.name ≡ L.name) × (posts.parts ≡ 65537) × (posts.parts ≡ L.parts) }
     requires history { history ≡ L.history }
 {

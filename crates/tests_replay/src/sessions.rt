@@ -19,14 +19,14 @@ pub fn tell(session: &str, sheet: &mut Sheet) {
 
 /// Replays a session to a kernel of its own.
 fn replay_alone(session: &String, sheet: &mut Sheet) {
-    replay_session::<Brand>(Blank::new(1), session, sheet);
+    replay_session::<Brand>(Blank::new(2), session, sheet);
 }
 
 /// Replays a session to a new kernel, whose writes are counted in the ledger of this blank.
 fn replay_session<L: Ledger>(blank: Blank, session: &String, sheet: &mut Sheet)
     requires name { blank.name ≡ L.name }
     requires parts { blank.parts ≡ L.parts }
-    requires some { 0 < L.parts }
+    requires two { 1 < L.parts }
 {
     let (key, behind) = session.split_once('\n').unwrap_or((session, ""));
     let (list, connections) = parts_of(behind);
@@ -53,7 +53,7 @@ fn replay_to_new<L: Ledger>(
 )
     requires name { blank.name ≡ L.name }
     requires parts { blank.parts ≡ L.parts }
-    requires some { 0 < L.parts }
+    requires two { 1 < L.parts }
 {
     let alloc = sheet.alloc();
     match Kernel::<L>::new(alloc, blank) {

@@ -37,14 +37,14 @@ fn tell_on_new(rows: &str, is_connection: bool, sheet: &mut Sheet) {
 
 /// Tells a row, or the rows of a connection, on a new kernel.
 fn tell_alone(rows: &String, is_connection: bool, sheet: &mut Sheet) {
-    tell_in::<Brand>(Blank::new(1), rows, is_connection, sheet);
+    tell_in::<Brand>(Blank::new(2), rows, is_connection, sheet);
 }
 
 /// Tells a row, or the rows of a connection, on a new kernel over this ledger.
 fn tell_in<L: Ledger>(blank: Blank, rows: &String, is_connection: bool, sheet: &mut Sheet)
     requires name { blank.name ≡ L.name }
     requires parts { blank.parts ≡ L.parts }
-    requires some { 0 < L.parts }
+    requires two { 1 < L.parts }
 {
     match Kernel::<L>::new(sheet.alloc(), blank) {
         Ok(mut kernel) => {

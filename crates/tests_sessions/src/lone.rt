@@ -36,14 +36,14 @@ pub(crate) fn tell(case: &Case, sheet: &mut Sheet) {
 
 /// What goes out where what comes is served before a new kernel. Writes how that ended, and what a later connection is told of the kernel.
 fn seen(case: &Case, sheet: &mut Sheet) -> Vec<u8> {
-    seen_in::<Brand>(case, Blank::new(1), sheet)
+    seen_in::<Brand>(case, Blank::new(2), sheet)
 }
 
 /// The same, over this ledger.
 fn seen_in<L: Ledger>(case: &Case, blank: Blank, sheet: &mut Sheet) -> Vec<u8>
     requires name { blank.name ≡ L.name }
     requires parts { blank.parts ≡ L.parts }
-    requires some { 0 < L.parts }
+    requires two { 1 < L.parts }
 {
     let alloc = sheet.alloc();
     match Kernel::<L>::new(alloc, blank) {

@@ -34,7 +34,7 @@ impl<W: Ledger, L: HistoryName> Desk<W, L> {
         posts: Blank,
         history: NewHistory<Entry>,
     ) -> Result<Desk<W, L>, AllocError>
-        requires writes { (writes.name ≡ W.name) × (writes.parts ≡ W.parts) × (0 < W.parts) }
+        requires writes { (writes.name ≡ W.name) × (writes.parts ≡ W.parts) × (1 < W.parts) }
         requires posts { (posts.name ≡ L.name) × (posts.parts ≡ 65537) × (posts.parts ≡ L.parts) }
         requires history { history ≡ L.history }
     {

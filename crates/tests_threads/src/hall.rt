@@ -34,7 +34,7 @@ fn tell_owned<R: Threads + Wait + Sync>(rt: &R, calls: String, holds: bool, shee
         Ok(history) => {
             tell_in::<Brand, Brand, R>(
                 rt,
-                Blank::new(1),
+                Blank::new(2),
                 Blank::new(65_537),
                 history,
                 calls,
@@ -56,7 +56,7 @@ fn tell_in<W: Ledger + Send + Sync, L: HistoryName + Send + Sync, R: Threads + W
     holds: bool,
     sheet: &mut Sheet,
 )
-    requires writes { (writes.name ≡ W.name) × (writes.parts ≡ W.parts) × (0 < W.parts) }
+    requires writes { (writes.name ≡ W.name) × (writes.parts ≡ W.parts) × (1 < W.parts) }
     requires posts { (posts.name ≡ L.name) × (posts.parts ≡ 65537) × (posts.parts ≡ L.parts) }
     requires history { history ≡ L.history }
 {

@@ -139,3 +139,20 @@ returns-clause-done g c =
             back,
           )
     ]
+
+pub returns-then-wanted-number-clause-unwritten : goal.returns-then-wanted-number-clause-unwritten
+returns-then-wanted-number-clause-unwritten g c =
+    let xs = c.args.store.now.names in
+    let t = number_on_top (symbol_name xs c.args.name.now) (exp_of xs c.args.last.now) c.args.store.now.slots c.requires.safe in
+    let left = c.leave_local-number.ensures.left (symbol_name xs c.args.name.now) t.number t.rest t.top in
+    ap (λ (h : StoreState). h.writes) left.1
+
+pub returns-clause-unwritten : goal.returns-clause-unwritten
+returns-clause-unwritten g c =
+    let xs = c.args.store.now.names in
+    let x = symbol_name xs c.args.name.now in
+    let t = number_on_top x (exp_of xs c.args.last.now) c.args.store.now.slots c.requires.safe in
+    let left = c.leave_local-number.ensures.left x t.number t.rest t.top in
+    let again = c.enter_local.ensures x
+    (ap (λ (h : StoreState). slice_get h.names c.args.name.now.number) left.1 ∙ is_numbered xs c.args.name.now.number c.requires.at) in
+    ap (λ (h : StoreState). h.writes) again ∙ ap (λ (h : StoreState). h.writes) left.1

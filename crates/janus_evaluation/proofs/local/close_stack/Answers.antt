@@ -58,3 +58,13 @@ returns-clause-names g c =
       names = ap (λ (h : StoreState). h.names) left;
       callers = ap (λ (h : StoreState). h.callers) left;
     }
+
+pub returns-clause-unwritten : goal.returns-clause-unwritten
+returns-clause-unwritten g c =
+    let xs = c.args.store.now.names in
+    let at = is_numbered xs c.args.name.now.number c.requires.at in
+    let x = symbol_name xs c.args.name.now in
+    let t = stack_on_top x c.args.store.now.slots c.requires.safe in
+    let none = no_values t.values (sym (c.is_empty.ensures x t.values at t.there) ∙ c.if-not-is_empty.false) in
+    let left = c.leave_local_stack.ensures x t.rest (t.top ∙ ap (λ l. Slot x (Stk l) t.rest) none) in
+    ap (λ (h : StoreState). h.writes) left

@@ -34,3 +34,10 @@ returns-in-Ok-clause-names g c =
       names = ap (λ (h : StoreState). h.names) entered;
       callers = ap (λ (h : StoreState). h.callers) entered;
     }
+
+pub returns-in-Ok-clause-unwritten : goal.returns-in-Ok-clause-unwritten
+returns-in-Ok-clause-unwritten g c =
+    let xs = c.args.store.now.names in
+    let at = is_numbered xs c.args.name.now.number c.requires.at in
+    let entered = c.enter_local.ensures (symbol_name xs c.args.name.now) at in
+    ap (λ (h : StoreState). h.writes) entered

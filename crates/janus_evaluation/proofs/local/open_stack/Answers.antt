@@ -51,3 +51,10 @@ returns-clause-names g c =
       names = ap (λ (h : StoreState). h.names) entered;
       callers = ap (λ (h : StoreState). h.callers) entered;
     }
+
+pub returns-clause-unwritten : goal.returns-clause-unwritten
+returns-clause-unwritten g c =
+    let xs = c.args.store.now.names in
+    let at = is_numbered xs c.args.name.now.number c.requires.at in
+    let entered = c.enter_local_stack.ensures (symbol_name xs c.args.name.now) at in
+    ap (λ (h : StoreState). h.writes) entered

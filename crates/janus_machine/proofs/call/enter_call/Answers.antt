@@ -416,3 +416,27 @@ returns-clause-there g c =
     let is = c.args.cursor.now.calls.items in
     let there : body_at t c.in-Some.called ≡ Some c.in-Some-body.procedure.now = sym c.in-Some-body.ensures in
     sym (ap (λ is. book_in t b (reverse is)) c.push_reserved.ensures.items ∙ ap (book_in t b) (reverse-append is (_ ∷ [])) ∙ ap (book_or b) there)
+
+pub returns-clause-counted : goal.returns-clause-counted
+returns-clause-counted g c =
+    let t = c.args.procedures.now in
+    let b = c.args.book.now in
+    let u = c.args.cursor.now in
+    let h = c.args.store.now in
+    let n = c.args.at in
+    let room = c.args.room_left in
+    let st = c.args.statement.now in
+    let stands = c.requires.standing in
+    let here = c.requires.here in
+    let safe = c.requires.safe in
+    let num = c.in-Some.called in
+    let ys = c.in-Some.arguments.now in
+    let d = c.in-Some.way in
+    let callee = c.in-Some.ensures.called in
+    let numbered = c.requires.numbered in
+    let lt = c.if-room_left-cursor.false in
+    let body = c.in-Some-body.procedure.now in
+    let there : body_at t num ≡ Some body = sym c.in-Some-body.ensures in
+    let f = found t b u h stands n room st here num ys d callee numbered lt safe.0 safe.1 safe.2 safe.3 safe.4 body there in
+    let made = c.lend.ensures (names_of f.0.params) (subst (λ xs. AreNamed h.names xs (names_of f.0.params)) (sym c.deref.ensures.value) f.2.parameters) in
+    (omega (arith, made.unwritten), omega (arith, made.unwritten))

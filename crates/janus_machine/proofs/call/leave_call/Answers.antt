@@ -4,7 +4,7 @@ use Rattle.std.proofs.lemmas.List.{reverse-append}
 use Rattle.janus_code.specs.CodeBlock.{code_block}
 use Rattle.janus_linear.specs.declared.code.Linear.{Linear}
 use Rattle.janus_linear.specs.Layout.{block_size}
-use Rattle.janus_machine.specs.declared.book.Book.{Book}
+use Rattle.janus_machine.specs.declared.linked_code.LinkedCode.{LinkedCode}
 use Rattle.janus_machine.specs.Places.{linear_in, block_in}
 use Rattle.janus_machine.specs.Nested.{book_in, caller_way, call_at, AreOpenCalls}
 use Rattle.janus_machine.specs.Cursor.{calls_of}
@@ -47,7 +47,7 @@ returns-clause-stands g c =
     let end : c.last-end.result ≡ block_size (block_in h.names caller way) - 1 =
     c.last-end.ensures h.names
     ∙ ap (λ (l : Linear). block_size (code_block h.names l.code) - 1)
-    (c.linear.ensures ∙ ap (λ (k : Book). linear_in k way) (c.running-caller.ensures ∙ ap (λ is. book_in t b (reverse is)) c.deref.ensures.value)) in
+    (c.linear.ensures ∙ ap (λ (k : LinkedCode). linear_in k way) (c.running-caller.ensures ∙ ap (λ is. book_in t b (reverse is)) c.deref.ensures.value)) in
     let placed = c.turned_place-at.ensures h.names caller end in
     let to_go : c.saturating_sub-cursor.result ≡ block_size (block_in h.names caller (caller_way call.uncalled u.direction)) - 1 - suc
     (call_at h.names caller (caller_way call.uncalled u.direction) call.place) =
@@ -77,7 +77,7 @@ returns-clause-steps g c = λ ps k known a.
     let end : c.last-end.result ≡ block_size (block_in h.names caller way) - 1 =
     c.last-end.ensures h.names
     ∙ ap (λ (l : Linear). block_size (code_block h.names l.code) - 1)
-    (c.linear.ensures ∙ ap (λ (k : Book). linear_in k way) (c.running-caller.ensures ∙ ap (λ is. book_in t b (reverse is)) c.deref.ensures.value)) in
+    (c.linear.ensures ∙ ap (λ (k : LinkedCode). linear_in k way) (c.running-caller.ensures ∙ ap (λ is. book_in t b (reverse is)) c.deref.ensures.value)) in
     let placed = c.turned_place-at.ensures h.names caller end in
     let to_go : c.saturating_sub-cursor.result ≡ block_size (block_in h.names caller (caller_way call.uncalled u.direction)) - 1 - suc
     (call_at h.names caller (caller_way call.uncalled u.direction) call.place) =
@@ -116,7 +116,7 @@ returns-clause-agrees g c =
     let end : c.last-end.result ≡ block_size (block_in h.names caller way) - 1 =
     c.last-end.ensures h.names
     ∙ ap (λ (l : Linear). block_size (code_block h.names l.code) - 1)
-    (c.linear.ensures ∙ ap (λ (k : Book). linear_in k way) (c.running-caller.ensures ∙ ap (λ is. book_in t b (reverse is)) c.deref.ensures.value)) in
+    (c.linear.ensures ∙ ap (λ (k : LinkedCode). linear_in k way) (c.running-caller.ensures ∙ ap (λ is. book_in t b (reverse is)) c.deref.ensures.value)) in
     let placed = c.turned_place-at.ensures h.names caller end in
     let to_go : c.saturating_sub-cursor.result ≡ block_size (block_in h.names caller (caller_way call.uncalled u.direction)) - 1 - suc
     (call_at h.names caller (caller_way call.uncalled u.direction) call.place) =

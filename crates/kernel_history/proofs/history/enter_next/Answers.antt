@@ -3,6 +3,7 @@ use Rattle.kernel_history.specs.Standing.{shown_here}
 use Rattle.janus_store.specs.StoreState.{StoreState}
 use Rattle.kernel_loader.specs.Procedures.{kept_in}
 use Rattle.kernel_loader.specs.procedures.Procedures.{Procedures}
+use Rattle.kernel_loader.proofs.Counting.{same_store, same_counts}
 use Rattle.kernel_loader.proofs.Growing.{same_more}
 use Rattle.kernel_history.proofs.Standing.{below_there, next_down, can_go_down_to, stands_next_down, next_up, can_go_up_from, stands_next_up, declares_next}
 use Rattle.kernel_history.proofs.Standing.{ok_map}
@@ -29,7 +30,8 @@ enter_inverse-requires g c =
 
 pub returns-in-Up-clause-names : goal.returns-in-Up-clause-names
 returns-in-Up-clause-names g c =
-    same_more c.args.runner.now.store.names c.enter_inverse.new.self.store.names (ap (λ (h : StoreState). h.names) c.enter_inverse.ensures.store)
+    same_more c.args.runner.now.counted.store.names c.enter_inverse.new.self.counted.store.names
+    (ap (λ (h : StoreState). h.names) (same_store c.args.runner.now c.enter_inverse.new.self c.enter_inverse.ensures.counted))
 
 pub returns-in-Up-clause-bodies : goal.returns-in-Up-clause-bodies
 returns-in-Up-clause-bodies g c = ap (λ (t : Procedures). kept_in t) c.enter_inverse.ensures.procedures
@@ -68,3 +70,6 @@ content-requires-in-Down-clause-below_root g c =
 pub content-requires-in-Down-clause-known : goal.content-requires-in-Down-clause-known
 content-requires-in-Down-clause-known g c =
     (below_there c.args.tree.now c.args.travel c.below.result c.requires.legal (sym c.way.ensures ∙ c.in-Down.is) c.requires.possible c.below.ensures).1
+
+pub returns-in-Up-clause-counts : goal.returns-in-Up-clause-counts
+returns-in-Up-clause-counts g c = same_counts c.args.runner.now c.enter_inverse.new.self c.enter_inverse.ensures.counted

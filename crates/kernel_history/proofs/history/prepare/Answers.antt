@@ -36,6 +36,9 @@ pub returns-clause-ready : goal.returns-clause-ready
 returns-clause-ready g c =
     if_ok_map c.load.result
     (λ program ready.
-    subst (λ (s : Store). IsReady c.load.new.runner.store.names c.load.new.runner.entries (names_in (declare (declarations_of program) s))
+    subst (λ (s : Store). IsReady c.load.new.runner.counted.store.names c.load.new.runner.entries (names_in (declare (declarations_of program) s))
     c.load.new.runner.procedures program) c.requires.is.1.0.store ready)
     c.load.ensures.ready
+
+pub returns-clause-counts : goal.returns-clause-counts
+returns-clause-counts g c = record { writes = c.load.ensures.kept.unwritten; steps = c.load.ensures.steps }

@@ -1,13 +1,14 @@
-use Rattle.std.proofs.Common.{◌≡◌, ℕ, ◌-◌, true, refl, sym, ap, ◌∙◌, subst}
+use Rattle.std.proofs.Common.{◌≡◌, ℕ, ◌+◌, ◌-◌, true, refl, sym, ap, ◌∙◌, subst}
 use Rattle.kernel_loader.specs.Procedures.{kept_in}
 use Rattle.janus_meaning.specs.Writes.{IsWritten}
 use Rattle.kernel_loader.specs.procedures.Procedures.{Procedures}
 use Rattle.kernel_machine.specs.StepsOfSlices.{steps_back}
 use Rattle.kernel_history.specs.Standing.{place_in}
 use Rattle.kernel_history.specs.Kept.{Kept}
-use Rattle.kernel_loader.specs.Runner.{Stands}
+use Rattle.kernel_loader.specs.Runner.{Stands, writes_of, steps_of}
 use Rattle.kernel_machine.specs.declared.heading.Heading.TheVariants.{GoesBack}
 use Rattle.kernel_history.specs.declared.job.Open.TheVariants.{Inside}
+use Rattle.kernel_loader.proofs.Counting.{written_still}
 use Rattle.kernel_loader.proofs.Growing.{same_more}
 use Rattle.kernel_loader.proofs.Running.{whole_at_start}
 use Rattle.kernel_history.proofs.Standing.{stands_with, inside_with, kept_at, kept_idle}
@@ -28,7 +29,7 @@ settle_back-requires-clause-kept g c =
       subst (λ (n : ℕ). Kept c.args.tree.now c.back.new.self (Inside (record { work = c.args.entered.now.work; count = n; heading = GoesBack c.args.why }))) e
           (kept_at c.args.tree.now c.args.entered.now.work c.args.entered.now.count (c.args.entered.now.count - c.args.m) (GoesBack c.args.why)
           (GoesBack c.args.why) c.args.runner.now c.back.new.self c.program_of.result.now c.requires
-          (same_more c.args.runner.now.store.names c.back.new.self.store.names c.back.ensures.names) c.back.ensures.entries
+          (same_more c.args.runner.now.counted.store.names c.back.new.self.counted.store.names c.back.ensures.names) c.back.ensures.entries
           (ap (λ (t : Procedures). kept_in t) c.back.ensures.procedures) c.program_of.ensures stands),
     )
 
@@ -54,21 +55,36 @@ returns-else-left-eq0-clause-kept g c =
     let p = c.program_of.result.now in
     let stands = c.back.ensures.goes _ (stands_with tree work c.args.entered.now.count true c.args.runner.now p c.program_of.ensures c.requires.stands) in
     kept_at tree work c.args.entered.now.count c.saturating_sub-left.result (GoesBack c.args.why) (GoesBack c.args.why)
-    c.args.runner.now c.back.new.self p c.requires (same_more c.args.runner.now.store.names c.back.new.self.store.names c.back.ensures.names)
+    c.args.runner.now c.back.new.self p c.requires (same_more c.args.runner.now.counted.store.names c.back.new.self.counted.store.names c.back.ensures.names)
     c.back.ensures.entries
     (ap (λ (t : Procedures). kept_in t) c.back.ensures.procedures) c.program_of.ensures
     (subst (λ (n : ℕ). Stands c.back.new.self p (place_in tree work p n) true) (sym c.saturating_sub-left.ensures) stands)
 
 pub returns-then-left-eq0-clause-written : goal.returns-then-left-eq0-clause-written
 returns-then-left-eq0-clause-written g c =
-    let counted =
+    let same =
     (stands_with c.args.tree.now c.args.entered.now.work c.args.entered.now.count true c.args.runner.now c.program_of.result.now c.program_of.ensures
     c.requires.stands).counted in
-    subst (λ (n : ℕ). IsWritten (steps_back n c.args.m) c.args.writes.now c.back.new.writes) counted c.back.ensures.written
+    written_still _ _ c.back.new.self c.settle_back.new.runner c.settle_back.ensures.counts
+    (subst (λ (n : ℕ). IsWritten (steps_back n c.args.m) (writes_of c.args.runner.now) (writes_of c.back.new.self)) same c.back.ensures.written)
 
 pub returns-else-left-eq0-clause-written : goal.returns-else-left-eq0-clause-written
 returns-else-left-eq0-clause-written g c =
-    let counted =
+    let same =
     (stands_with c.args.tree.now c.args.entered.now.work c.args.entered.now.count true c.args.runner.now c.program_of.result.now c.program_of.ensures
     c.requires.stands).counted in
-    subst (λ (n : ℕ). IsWritten (steps_back n c.args.m) c.args.writes.now c.back.new.writes) counted c.back.ensures.written
+    subst (λ (n : ℕ). IsWritten (steps_back n c.args.m) (writes_of c.args.runner.now) (writes_of c.back.new.self)) same c.back.ensures.written
+
+pub returns-then-left-eq0-clause-counted : goal.returns-then-left-eq0-clause-counted
+returns-then-left-eq0-clause-counted g c =
+    let same =
+    (stands_with c.args.tree.now c.args.entered.now.work c.args.entered.now.count true c.args.runner.now c.program_of.result.now c.program_of.ensures
+    c.requires.stands).counted in
+    c.settle_back.ensures.counts.steps ∙ c.back.ensures.counted ∙ ap (λ (n : ℕ). steps_of c.args.runner.now + steps_back n c.args.m) same
+
+pub returns-else-left-eq0-clause-counted : goal.returns-else-left-eq0-clause-counted
+returns-else-left-eq0-clause-counted g c =
+    let same =
+    (stands_with c.args.tree.now c.args.entered.now.work c.args.entered.now.count true c.args.runner.now c.program_of.result.now c.program_of.ensures
+    c.requires.stands).counted in
+    c.back.ensures.counted ∙ ap (λ (n : ℕ). steps_of c.args.runner.now + steps_back n c.args.m) same

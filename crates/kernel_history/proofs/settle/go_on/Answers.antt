@@ -18,7 +18,7 @@ use Rattle.kernel_history.specs.declared.job.Entered.{Entered}
 use Rattle.kernel_history.specs.declared.job.Open.TheVariants.{Inside}
 use Rattle.kernel_history.specs.Fields.{past_of, work_of, state_of}
 use Rattle.kernel_machine.specs.Slices.{Backs}
-use Rattle.kernel_loader.specs.Runner.{world_of}
+use Rattle.kernel_loader.specs.Runner.{world_of, writes_of, steps_of}
 use Rattle.kernel_machine.specs.declared.progress.Progress.TheVariants.{Went, Stopped, Ended}
 use Rattle.kernel_loader.proofs.Growing.{same_more}
 use Rattle.kernel_history.proofs.Standing.{stands_with, inside_with, kept_at}
@@ -46,7 +46,8 @@ returns-in-Ended-clause-end g c =
       come = record {
         kept =
             kept_at c.args.tree.now c.args.entered.now.work c.args.entered.now.count c.in-Ended.n GoesOn GoesOn c.args.runner.now c.run.new.self
-            c.program_of.result.now kept (same_more c.args.runner.now.store.names c.run.new.self.store.names c.run.ensures.names) c.run.ensures.entries
+            c.program_of.result.now kept
+            (same_more c.args.runner.now.counted.store.names c.run.new.self.counted.store.names c.run.ensures.names) c.run.ensures.entries
             (ap (λ (t : Procedures). kept_in t) c.run.ensures.procedures) c.program_of.ensures came.is;
         ended = came.reaches.0;
         whole = came.whole;
@@ -57,7 +58,7 @@ pub turn_back-requires : goal.turn_back-requires
 turn_back-requires g c =
     let kept = onward c.args.tree.now c.args.runner.now c.args.entered.now c.requires.kept c.requires.onward in
     kept_at c.args.tree.now c.args.entered.now.work c.args.entered.now.count c.in-Stopped.j GoesOn GoesOn c.args.runner.now c.run.new.self
-    c.program_of.result.now kept (same_more c.args.runner.now.store.names c.run.new.self.store.names c.run.ensures.names) c.run.ensures.entries
+    c.program_of.result.now kept (same_more c.args.runner.now.counted.store.names c.run.new.self.counted.store.names c.run.ensures.names) c.run.ensures.entries
     (ap (λ (t : Procedures). kept_in t) c.run.ensures.procedures) c.program_of.ensures
     ((c.in-Stopped.ensures.runs
     _ (stands_with c.args.tree.now c.args.entered.now.work c.args.entered.now.count false c.args.runner.now c.program_of.result.now c.program_of.ensures
@@ -91,7 +92,7 @@ returns-in-Went-clause-kept g c =
     subst (λ (e : Entered). Kept c.args.tree.now c.run.new.self (Inside e)) (sym went)
     (kept_at c.args.tree.now c.args.entered.now.work c.args.entered.now.count (c.args.entered.now.count + c.args.m)
     GoesOn GoesOn c.args.runner.now c.run.new.self c.program_of.result.now kept
-    (same_more c.args.runner.now.store.names c.run.new.self.store.names c.run.ensures.names) c.run.ensures.entries
+    (same_more c.args.runner.now.counted.store.names c.run.new.self.counted.store.names c.run.ensures.names) c.run.ensures.entries
     (ap (λ (t : Procedures). kept_in t) c.run.ensures.procedures) c.program_of.ensures came.is)
 
 pub returns-in-Stopped-clause-step : goal.returns-in-Stopped-clause-step
@@ -148,7 +149,7 @@ returns-in-Ended-clause-written g c =
         reaches,
         refl,
       ),
-      subst (λ (i : ℕ). IsWritten (c.in-Ended.n - i) c.args.writes.now c.run.new.writes) is c.in-Ended.ensures.written,
+      subst (λ (i : ℕ). IsWritten (c.in-Ended.n - i) (writes_of c.args.runner.now) (writes_of c.run.new.self)) is c.in-Ended.ensures.written,
     )
 
 pub returns-in-Stopped-clause-written : goal.returns-in-Stopped-clause-written
@@ -160,7 +161,7 @@ returns-in-Stopped-clause-written g c =
     kept.stands)).reaches in
     let is = counted c.args.tree.now c.args.entered.now.work c.args.entered.now.count c.args.runner.now c.program_of.result.now c.program_of.ensures
     kept.stands in
-    let first = subst (λ (i : ℕ). IsWritten (c.in-Stopped.j - i) c.args.writes.now c.run.new.writes) is c.in-Stopped.ensures.written in
+    let first = subst (λ (i : ℕ). IsWritten (c.in-Stopped.j - i) (writes_of c.args.runner.now) (writes_of c.run.new.self)) is c.in-Stopped.ensures.written in
     let then = c.turn_back.ensures.written in (
       c.in-Stopped.j - c.args.entered.now.count,
       (
@@ -170,4 +171,62 @@ returns-in-Stopped-clause-written g c =
         refl,
       ),
       (omega (arith, first.0, then.0), omega (arith, first.1, then.1)),
+    )
+
+pub returns-in-Went-clause-counted : goal.returns-in-Went-clause-counted
+returns-in-Went-clause-counted g c =
+    let kept = onward c.args.tree.now c.args.runner.now c.args.entered.now c.requires.kept c.requires.onward in
+    let reaches =
+    (c.in-Went.ensures.runs
+    _ (stands_with c.args.tree.now c.args.entered.now.work c.args.entered.now.count false c.args.runner.now c.program_of.result.now c.program_of.ensures
+    kept.stands)).reaches in (
+      c.args.m,
+      (
+        Went,
+        world_of (start_of (code_of (past_of c.args.tree.now) (work_of c.args.entered.now.work)) (here (past_of c.args.tree.now))).procedures
+            c.run.new.self,
+        reaches,
+        refl,
+      ),
+      c.in-Went.ensures.counted,
+    )
+
+pub returns-in-Ended-clause-counted : goal.returns-in-Ended-clause-counted
+returns-in-Ended-clause-counted g c =
+    let kept = onward c.args.tree.now c.args.runner.now c.args.entered.now c.requires.kept c.requires.onward in
+    let reaches =
+    (c.in-Ended.ensures.runs
+    _ (stands_with c.args.tree.now c.args.entered.now.work c.args.entered.now.count false c.args.runner.now c.program_of.result.now c.program_of.ensures
+    kept.stands)).reaches in
+    let is = counted c.args.tree.now c.args.entered.now.work c.args.entered.now.count c.args.runner.now c.program_of.result.now c.program_of.ensures
+    kept.stands in (
+      c.in-Ended.n - c.args.entered.now.count,
+      (
+        Ended c.in-Ended.n,
+        world_of (start_of (code_of (past_of c.args.tree.now) (work_of c.args.entered.now.work)) (here (past_of c.args.tree.now))).procedures c.run.new.self,
+        reaches,
+        refl,
+      ),
+      c.in-Ended.ensures.counted ∙ ap (λ (i : ℕ). steps_of c.args.runner.now + (c.in-Ended.n - i)) is,
+    )
+
+pub returns-in-Stopped-clause-counted : goal.returns-in-Stopped-clause-counted
+returns-in-Stopped-clause-counted g c =
+    let kept = onward c.args.tree.now c.args.runner.now c.args.entered.now c.requires.kept c.requires.onward in
+    let reaches =
+    (c.in-Stopped.ensures.runs
+    _ (stands_with c.args.tree.now c.args.entered.now.work c.args.entered.now.count false c.args.runner.now c.program_of.result.now c.program_of.ensures
+    kept.stands)).reaches in
+    let is = counted c.args.tree.now c.args.entered.now.work c.args.entered.now.count c.args.runner.now c.program_of.result.now c.program_of.ensures
+    kept.stands in
+    let first = c.in-Stopped.ensures.counted ∙ ap (λ (i : ℕ). steps_of c.args.runner.now + (c.in-Stopped.j - i)) is in
+    let then = c.turn_back.ensures.counted in (
+      c.in-Stopped.j - c.args.entered.now.count,
+      (
+        Stopped c.in-Stopped.j c.in-Stopped.fault,
+        world_of (start_of (code_of (past_of c.args.tree.now) (work_of c.args.entered.now.work)) (here (past_of c.args.tree.now))).procedures c.run.new.self,
+        reaches,
+        refl,
+      ),
+      omega (arith, first, then),
     )

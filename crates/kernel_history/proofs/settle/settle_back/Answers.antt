@@ -28,7 +28,7 @@ pub returns-in-Cell-clause-ready : goal.returns-in-Cell-clause-ready
 returns-in-Cell-clause-ready g c =
     let k = c.requires.kept in
     nodes_forgotten c.args.tree.now c.args.runner.now c.args.work.now k.0 k.1 c.leave.new.self
-    (record { store = c.leave.new.self.store; cursor = c.leave.new.self.cursor; procedures = c.forget.new.self; entries = c.leave.new.self.entries })
+    (record { counted = c.leave.new.self.counted; cursor = c.leave.new.self.cursor; procedures = c.forget.new.self; entries = c.leave.new.self.entries })
     c.in-Cell.program c.in-Cell.is refl refl c.forget.ensures.kept
     (nodes_ready c.args.tree.now c.args.runner.now c.leave.new.self c.leave.ensures.names
     (same_more c.args.runner.now.entries c.leave.new.self.entries c.leave.ensures.entries) c.leave.ensures.kept k.1.ready)
@@ -96,4 +96,7 @@ content-requires-clause-known g c =
     (below_there c.args.tree.now c.in-Move.travel c.below.result k.1.legal (sym c.way.ensures ∙ c.in-Down.is) possible c.below.ensures).1
 
 pub returns-in-Up-clause-names : goal.returns-in-Up-clause-names
-returns-in-Up-clause-names g c = no_more c.args.runner.now.store.names
+returns-in-Up-clause-names g c = no_more c.args.runner.now.counted.store.names
+
+pub returns-in-Cell-clause-counts : goal.returns-in-Cell-clause-counts
+returns-in-Cell-clause-counts g c = record { writes = c.leave.ensures.counts.writes; steps = c.leave.ensures.counts.steps }

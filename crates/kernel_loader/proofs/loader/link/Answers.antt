@@ -22,7 +22,7 @@ use Rattle.kernel_loader.proofs.loader.link.Goals as goal
 
 pub returns-in_err-listed-clause-shown : goal.returns-in_err-listed-clause-shown
 returns-in_err-listed-clause-shown g c = λ shown h.
-    shows_more c.args.runner.now _ shown (keeps_same c.args.runner.now.store) c.slots_law.ensures.slots c.list_all-listed.ensures.onward
+    shows_more c.args.runner.now _ shown (keeps_same c.args.runner.now.counted.store) c.slots_law.ensures.slots c.list_all-listed.ensures.onward
     (all_kept (kept_in c.args.runner.now.procedures) (kept_in c.args.runner.now.procedures) refl) (λ d. d) h
 
 pub keep_and_link-kept-requires-clause-entries : goal.keep_and_link-kept-requires-clause-entries
@@ -69,7 +69,7 @@ returns-in-Err-clause-shown g c = λ shown h.
     c.forget.ensures.kept ∙ ap (λ (n : ℕ). take n (kept_in c.keep_and_link-kept.new.kept)) c.len-first.ensures ∙ c.keep_and_link-kept.ensures.older in
     let below : AreBelow c.len-first.result shown.bodies =
     subst (λ (n : ℕ). AreBelow n shown.bodies) (sym c.len-first.ensures)
-    (bodies_within c.args.runner.now.store.names (kept_in c.args.runner.now.procedures) shown.bodies _ h.0.defined.bodies) in
+    (bodies_within c.args.runner.now.counted.store.names (kept_in c.args.runner.now.procedures) shown.bodies _ h.0.defined.bodies) in
     shows_more c.args.runner.now _ shown c.keep_and_link-kept.ensures.sight c.slots_law-2.ensures.slots c.list_all-listed.ensures.onward
     (all_kept (kept_in c.args.runner.now.procedures) (kept_in c.forget.new.self) same)
     (λ d. c.forget.ensures.defined shown.bodies (c.keep_and_link-kept.ensures.defined shown.bodies d) below) h
@@ -96,9 +96,9 @@ pub returns-in-Ok-clause-slots : goal.returns-in-Ok-clause-slots
 returns-in-Ok-clause-slots g c =
     let cell = cell_in c.args.checked.now in
     let shape : Shape = over (shape_in c.args.env.now.names) c.args.own.now.names in
-    let seen : length shape ≡ length (names_in (declare (plain_cell cell).declarations (shown_store c.args.runner.now.store))) =
+    let seen : length shape ≡ length (names_in (declare (plain_cell cell).declarations (shown_store c.args.runner.now.counted.store))) =
     sym (length_names shape)
     ∙ ap (λ (xs : List Name). length xs)
     (names_here c.args.runner.now c.args.env.now c.args.own.now cell c.requires.known.0 c.requires.known.1 c.requires.own) in
     c.in-Ok.ensures.slots
-    ∙ ap (λ (n : ℕ). max (width_of_cell c.list_all-listed.new.entries n (plain_cell cell)) (length c.args.runner.now.store.names)) seen
+    ∙ ap (λ (n : ℕ). max (width_of_cell c.list_all-listed.new.entries n (plain_cell cell)) (length c.args.runner.now.counted.store.names)) seen

@@ -4,14 +4,14 @@ use Rattle.janus_linear.specs.declared.code.Order.TheVariants.{Turned}
 use Rattle.janus_linear.specs.Layout.{block_size}
 use Rattle.janus_linear.specs.Within.{within}
 use Rattle.janus_linear.proofs.Ends.{first_place}
-use Rattle.janus_machine.specs.declared.book.Direction.TheVariants.{Inverse}
+use Rattle.janus_machine.specs.declared.linked_code.Direction.TheVariants.{Inverse}
 use Rattle.janus_machine.specs.Places.{block_in}
 use Rattle.janus_machine.specs.Nested.{row_place, book_in, frames_outside}
 use Rattle.janus_machine.proofs.cursor.Cursor.enter_inverse.Goals as goal
 
 pub returns-clause-place : goal.returns-clause-place
 returns-clause-place c = λ xs t hs.
-    let b = c.args.book.now in
+    let b = c.args.book.now.code.now in
     let z : block_size (block_in xs b Inverse) - suc c.last-self.result ≡ 0 = omega (arith, c.last-self.ensures xs) in
     ap (λ cs. within (frames_outside xs t b Inverse (reverse cs) hs)
     (row_place xs (book_in t b (reverse cs)) Inverse (block_size (block_in xs (book_in t b (reverse cs)) Inverse) - suc c.last-self.result)))

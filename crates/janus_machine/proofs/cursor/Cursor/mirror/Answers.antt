@@ -4,8 +4,8 @@ use Rattle.janus_code.specs.CodeBlock.{code_block}
 use Rattle.janus_linear.specs.declared.code.Linear.{Linear}
 use Rattle.janus_linear.specs.Layout.{block_size}
 use Rattle.janus_linear.specs.Within.{within, frames_in}
-use Rattle.janus_machine.specs.declared.book.Book.{Book}
-use Rattle.janus_machine.specs.declared.book.Direction.{Direction}
+use Rattle.janus_machine.specs.declared.linked_code.LinkedCode.{LinkedCode}
+use Rattle.janus_machine.specs.declared.linked_code.Direction.{Direction}
 use Rattle.janus_machine.specs.Places.{linear_in, block_in}
 use Rattle.janus_machine.specs.Cursor.{calls_of}
 use Rattle.janus_machine.specs.Nested.{row_place, book_in, frames_outside, AreOpenCalls}
@@ -19,8 +19,8 @@ use Rattle.janus_machine.proofs.cursor.Cursor.mirror.Goals as goal
 
 pub returns-clause-place : goal.returns-clause-place
 returns-clause-place c = λ h stands.
-    let t = c.args.procedures.now in
-    let b = c.args.book.now in
+    let t = c.args.book.now.procedures.now in
+    let b = c.args.book.now.code.now in
     let u = c.args.self.now in
     let d = u.direction in
     let cs = calls_of u in
@@ -28,7 +28,7 @@ returns-clause-place c = λ h stands.
     let end : c.last.result ≡ block_size (block_in h.names (book_in t b cs) d) - 1 =
     c.last.ensures h.names
     ∙ ap (λ (l : Linear). block_size (code_block h.names l.code) - 1)
-    (c.linear-linear.ensures ∙ ap (λ (k : Book). linear_in k d) (c.running.ensures ∙ ap (λ is. book_in t b (reverse is)) c.deref.ensures.value)) in
+    (c.linear-linear.ensures ∙ ap (λ (k : LinkedCode). linear_in k d) (c.running.ensures ∙ ap (λ is. book_in t b (reverse is)) c.deref.ensures.value)) in
     let left : to ≡ block_size (block_in h.names (book_in t b cs) d) - 1 - u.to_go = omega (arith, c.saturating_sub-self.ensures, end) in
     ap (λ (w : Direction). within (frames_outside h.names t b w cs h.callers)
     (row_place h.names (book_in t b cs) w (block_size (block_in h.names (book_in t b cs) w) - suc to))) c.opposite-self.ensures
@@ -36,8 +36,8 @@ returns-clause-place c = λ h stands.
 
 pub returns-clause-stands : goal.returns-clause-stands
 returns-clause-stands c = λ h stands.
-    let t = c.args.procedures.now in
-    let b = c.args.book.now in
+    let t = c.args.book.now.procedures.now in
+    let b = c.args.book.now.code.now in
     let u = c.args.self.now in
     let d = u.direction in
     let cs = calls_of u in
@@ -52,8 +52,8 @@ returns-clause-stands c = λ h stands.
 
 pub returns-clause-agrees : goal.returns-clause-agrees
 returns-clause-agrees c = λ k h stands agrees.
-    let t = c.args.procedures.now in
-    let b = c.args.book.now in
+    let t = c.args.book.now.procedures.now in
+    let b = c.args.book.now.code.now in
     let u = c.args.self.now in
     let d = u.direction in
     let cs = calls_of u in
@@ -62,7 +62,7 @@ returns-clause-agrees c = λ k h stands agrees.
     let end : c.last.result ≡ block_size (block_in h.names (book_in t b cs) d) - 1 =
     c.last.ensures h.names
     ∙ ap (λ (l : Linear). block_size (code_block h.names l.code) - 1)
-    (c.linear-linear.ensures ∙ ap (λ (k : Book). linear_in k d) (c.running.ensures ∙ ap (λ is. book_in t b (reverse is)) c.deref.ensures.value)) in
+    (c.linear-linear.ensures ∙ ap (λ (k : LinkedCode). linear_in k d) (c.running.ensures ∙ ap (λ is. book_in t b (reverse is)) c.deref.ensures.value)) in
     let left : to ≡ block_size (block_in h.names (book_in t b cs) d) - 1 - u.to_go = omega (arith, c.saturating_sub-self.ensures, end) in
     let row = ap (λ (w : Direction). row_place h.names (book_in t b cs) w (block_size (block_in h.names (book_in t b cs) w) - suc to)) way
     ∙ place_mirrored h.names (book_in t b cs) d u.to_go to left in

@@ -144,11 +144,11 @@ invariant_of-self-2 g c =
     let longer = c.push_reserved.new.self.items in
     let is : longer ≡ a.numbers.items ++ more = c.push_reserved.ensures.items ∙ ap (λ l. l ++ more) c.reserve-2.ensures.items in
     let fits : length vs ≤ length a.numbers.items = omega (arith, c.self.invariant.beside) in
-    let over_lists : List (List ℤ) → Holdings = λ ls. record { lists = ls; numbers = longer; texts = a.texts } in
+    let over_lists : List (List ℤ) → Holdings = λ ls. record { lists = ls; numbers = longer; texts = a.texts; writes = a.writes } in
     let wide = over_lists a.stacks.lists in
     let wider : held_in (holdings a) xs a.declared vs cs ≡ held_in wide xs a.declared vs cs =
-    same_beside a.texts a.stacks.lists a.numbers.items more longer is xs a.declared vs cs h.nested fits in
-    let held : IsHeld wide xs ns vs a.declared cs = held_longer a.texts a.stacks.lists a.numbers.items more longer is xs ns vs a.declared cs fits h in
+    same_beside a.writes a.texts a.stacks.lists a.numbers.items more longer is xs a.declared vs cs h.nested fits in
+    let held : IsHeld wide xs ns vs a.declared cs = held_longer a.writes a.texts a.stacks.lists a.numbers.items more longer is xs ns vs a.declared cs fits h in
     let view : held_in wide xs a.declared vs cs ≡ now = sym wider in
     let last : slice_index_or longer (length vs) (pos 0) ≡ pos 0 = last_number a.numbers.items longer (pos 0) (length vs) is c.self.invariant.beside in
     let y : Variable = record { name = k; hidden = slice_index_or ns k 0; place = length vs; value = c.first_value-value.result } in
@@ -172,7 +172,7 @@ invariant_of-self-2 g c =
     let lists = c.first_value-value.ensures.lists in
     let spare = c.first_value-value.ensures.spare in
     kept_over xs _ stay (record {
-      held = other_texts c.first_value-value.new.stacks.lists longer a.texts ts xs ms ws (a.declared + 1) cs
+      held = other_texts a.writes c.first_value-value.new.stacks.lists longer a.texts ts xs ms ws (a.declared + 1) cs
           (subst (λ ls. IsHeld (over_lists ls) xs ms ws (a.declared + 1) cs) (sym lists)
           (put_declared wide xs ns vs a.declared cs held y refl at ms ws newest vars (no_calls (holdings a) xs ns vs a.declared cs h now refl whole) all
           (a.declared + 1) (omega arith)));
@@ -252,11 +252,11 @@ returns-clause-ok g c =
     let longer = c.push_reserved.new.self.items in
     let is : longer ≡ a.numbers.items ++ more = c.push_reserved.ensures.items ∙ ap (λ l. l ++ more) c.reserve-2.ensures.items in
     let fits : length vs ≤ length a.numbers.items = omega (arith, c.self.invariant.beside) in
-    let over_lists : List (List ℤ) → Holdings = λ ls. record { lists = ls; numbers = longer; texts = a.texts } in
+    let over_lists : List (List ℤ) → Holdings = λ ls. record { lists = ls; numbers = longer; texts = a.texts; writes = a.writes } in
     let wide = over_lists a.stacks.lists in
     let wider : held_in (holdings a) xs a.declared vs cs ≡ held_in wide xs a.declared vs cs =
-    same_beside a.texts a.stacks.lists a.numbers.items more longer is xs a.declared vs cs h.nested fits in
-    let held : IsHeld wide xs ns vs a.declared cs = held_longer a.texts a.stacks.lists a.numbers.items more longer is xs ns vs a.declared cs fits h in
+    same_beside a.writes a.texts a.stacks.lists a.numbers.items more longer is xs a.declared vs cs h.nested fits in
+    let held : IsHeld wide xs ns vs a.declared cs = held_longer a.writes a.texts a.stacks.lists a.numbers.items more longer is xs ns vs a.declared cs fits h in
     let view : held_in wide xs a.declared vs cs ≡ now = sym wider in
     let last : slice_index_or longer (length vs) (pos 0) ≡ pos 0 = last_number a.numbers.items longer (pos 0) (length vs) is c.self.invariant.beside in
     let y : Variable = record { name = k; hidden = slice_index_or ns k 0; place = length vs; value = c.first_value-value.result } in
@@ -292,4 +292,5 @@ returns-clause-ok g c =
       names = (on.0, stay ∙ names ∙ on.1);
       callers = ap (λ l. (held_in (over_lists c.first_value-value.new.stacks.lists) l a.declared ws cs).callers) stay
           ∙ ap (λ ls. (held_in (over_lists ls) xs a.declared ws cs).callers) lists ∙ ap (λ (h : StoreState). h.callers) over ∙ callers;
+      unwritten = ap (λ (h : StoreState). h.writes) c.self.view_is ∙ ap (λ (h : StoreState). h.writes) c.in_ok-number.ensures.same;
     }

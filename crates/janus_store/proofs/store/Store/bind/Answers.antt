@@ -141,10 +141,10 @@ invariant_of-self g c =
     let zeros = c.put_zeros.ensures.more in
     let all = c.put_zeros.new.numbers.items in
     let fits : length vs ≤ length a.numbers.items = omega (arith, c.self.invariant.beside) in
-    let wide : Holdings = record { lists = a.stacks.lists; numbers = all; texts = a.texts } in
+    let wide : Holdings = record { lists = a.stacks.lists; numbers = all; texts = a.texts; writes = a.writes } in
     let wider : held_in (holdings a) xs d vs cs ≡ held_in wide xs d vs cs =
-    same_beside a.texts a.stacks.lists a.numbers.items zeros.0 all zeros.1 xs d vs cs h.nested fits in
-    let k : IsHeld wide xs ns vs d cs = held_longer a.texts a.stacks.lists a.numbers.items zeros.0 all zeros.1 xs ns vs d cs fits h in
+    same_beside a.writes a.texts a.stacks.lists a.numbers.items zeros.0 all zeros.1 xs d vs cs h.nested fits in
+    let k : IsHeld wide xs ns vs d cs = held_longer a.writes a.texts a.stacks.lists a.numbers.items zeros.0 all zeros.1 xs ns vs d cs fits h in
     let view : held_in wide xs d vs cs ≡ H = sym wider ∙ c.self.view_is in
     let ms = c.bind_all.new.newest.items in
     let ws = c.bind_all.new.variables.items in
@@ -218,10 +218,10 @@ returns g c = λ ps zs p e.
     let zeros = c.put_zeros.ensures.more in
     let all = c.put_zeros.new.numbers.items in
     let fits : length vs ≤ length a.numbers.items = omega (arith, c.self.invariant.beside) in
-    let wide : Holdings = record { lists = a.stacks.lists; numbers = all; texts = a.texts } in
+    let wide : Holdings = record { lists = a.stacks.lists; numbers = all; texts = a.texts; writes = a.writes } in
     let wider : held_in (holdings a) xs d vs cs ≡ held_in wide xs d vs cs =
-    same_beside a.texts a.stacks.lists a.numbers.items zeros.0 all zeros.1 xs d vs cs h.nested fits in
-    let k : IsHeld wide xs ns vs d cs = held_longer a.texts a.stacks.lists a.numbers.items zeros.0 all zeros.1 xs ns vs d cs fits h in
+    same_beside a.writes a.texts a.stacks.lists a.numbers.items zeros.0 all zeros.1 xs d vs cs h.nested fits in
+    let k : IsHeld wide xs ns vs d cs = held_longer a.writes a.texts a.stacks.lists a.numbers.items zeros.0 all zeros.1 xs ns vs d cs fits h in
     let view : held_in wide xs d vs cs ≡ H = sym wider ∙ c.self.view_is in
     let ms = c.bind_all.new.newest.items in
     let ws = c.bind_all.new.variables.items in

@@ -111,11 +111,11 @@ invariant_of-self g c =
     let all = c.push_reserved.new.self.items in
     let is : all ≡ a.numbers.items ++ more = c.push_reserved.ensures.items in
     let fits : length vs ≤ length a.numbers.items = omega (arith, c.self.invariant.beside) in
-    let on : List (List ℤ) → Holdings = λ ls. record { lists = ls; numbers = all; texts = a.texts } in
+    let on : List (List ℤ) → Holdings = λ ls. record { lists = ls; numbers = all; texts = a.texts; writes = a.writes } in
     let wide = on a.stacks.lists in
     let wider : held_in (holdings a) xs a.declared vs cs ≡ held_in wide xs a.declared vs cs =
-    same_beside a.texts a.stacks.lists a.numbers.items more all is xs a.declared vs cs h.nested fits in
-    let k : IsHeld wide xs ns vs a.declared cs = held_longer a.texts a.stacks.lists a.numbers.items more all is xs ns vs a.declared cs fits h in
+    same_beside a.writes a.texts a.stacks.lists a.numbers.items more all is xs a.declared vs cs h.nested fits in
+    let k : IsHeld wide xs ns vs a.declared cs = held_longer a.writes a.texts a.stacks.lists a.numbers.items more all is xs ns vs a.declared cs fits h in
     let view : held_in wide xs a.declared vs cs ≡ H = sym wider ∙ c.self.view_is in
     let last : slice_index_or all (length vs) (pos 0) ≡ pos 0 = last_number a.numbers.items all (pos 0) (length vs) is c.self.invariant.beside in
     let y : Variable = record { name = c.args.name; hidden = slice_index_or ns c.args.name 0; place = length vs; value = c.first_value-value.result } in
@@ -181,11 +181,11 @@ returns g c = λ x known.
     let all = c.push_reserved.new.self.items in
     let is : all ≡ a.numbers.items ++ more = c.push_reserved.ensures.items in
     let fits : length vs ≤ length a.numbers.items = omega (arith, c.self.invariant.beside) in
-    let on : List (List ℤ) → Holdings = λ ls. record { lists = ls; numbers = all; texts = a.texts } in
+    let on : List (List ℤ) → Holdings = λ ls. record { lists = ls; numbers = all; texts = a.texts; writes = a.writes } in
     let wide = on a.stacks.lists in
     let wider : held_in (holdings a) xs a.declared vs cs ≡ held_in wide xs a.declared vs cs =
-    same_beside a.texts a.stacks.lists a.numbers.items more all is xs a.declared vs cs h.nested fits in
-    let k : IsHeld wide xs ns vs a.declared cs = held_longer a.texts a.stacks.lists a.numbers.items more all is xs ns vs a.declared cs fits h in
+    same_beside a.writes a.texts a.stacks.lists a.numbers.items more all is xs a.declared vs cs h.nested fits in
+    let k : IsHeld wide xs ns vs a.declared cs = held_longer a.writes a.texts a.stacks.lists a.numbers.items more all is xs ns vs a.declared cs fits h in
     let view : held_in wide xs a.declared vs cs ≡ H = sym wider ∙ c.self.view_is in
     let last : slice_index_or all (length vs) (pos 0) ≡ pos 0 = last_number a.numbers.items all (pos 0) (length vs) is c.self.invariant.beside in
     let y : Variable = record { name = c.args.name; hidden = slice_index_or ns c.args.name 0; place = length vs; value = c.first_value-value.result } in

@@ -140,10 +140,10 @@ invariant_of-self g c =
     let few_long : length few ≡ length ws =
     omega (arith, ap length cut, length-take-le n a.numbers.items (omega (arith, is_long, was_long, c.self.invariant.beside)), is_long) in
     let fits : length ws ≤ length few = omega (arith, few_long) in
-    let on : List (List ℤ) → Holdings = λ ls. record { lists = ls; numbers = few; texts = a.texts } in
+    let on : List (List ℤ) → Holdings = λ ls. record { lists = ls; numbers = few; texts = a.texts; writes = a.writes } in
     let nested = left_nested (holdings a) xs ns vs a.declared cs h y ms ws gone newest above over in
     let shorter : held_in (on a.stacks.lists) xs a.declared ws cs ≡ held_in (holdings a) xs a.declared ws cs =
-    same_beside a.texts a.stacks.lists few more a.numbers.items tail xs a.declared ws cs nested fits in
+    same_beside a.writes a.texts a.stacks.lists few more a.numbers.items tail xs a.declared ws cs nested fits in
     let left = held_in (holdings a) xs a.declared ws cs in
     let top : H.slots ≡ Slot (name_among xs y) (val_at (holdings a) (length ws) y.value) left.slots = ap (λ (h : StoreState). h.slots) was in
     let slots : live_stacks H ≡ stacks_with (val_at (holdings a) (length ws) y.value) (live_stacks left) =
@@ -156,7 +156,7 @@ invariant_of-self g c =
     let none : held_by (val_at (holdings a) (length ws) y.value) ≡ 0 = ap held_by same in
     kept_over xs _ stay (record {
       held = subst (λ ls. IsHeld (on ls) xs ms ws a.declared cs) (sym lists)
-          (held_shorter a.texts a.stacks.lists few more a.numbers.items tail xs ms ws a.declared cs fits
+          (held_shorter a.writes a.texts a.stacks.lists few more a.numbers.items tail xs ms ws a.declared cs fits
           (left_held (holdings a) xs ns vs a.declared cs h y ms ws gone newest above over a.declared (omega arith)
           (still_declared (holdings a) xs ns vs a.declared cs h y ms ws gone newest H c.self.view_is c.requires.local) (omega arith)));
       stacks = omega (
@@ -223,10 +223,10 @@ returns g c = λ x r e.
     let few_long : length few ≡ length ws =
     omega (arith, ap length cut, length-take-le n a.numbers.items (omega (arith, is_long, was_long, c.self.invariant.beside)), is_long) in
     let fits : length ws ≤ length few = omega (arith, few_long) in
-    let on : List (List ℤ) → Holdings = λ ls. record { lists = ls; numbers = few; texts = a.texts } in
+    let on : List (List ℤ) → Holdings = λ ls. record { lists = ls; numbers = few; texts = a.texts; writes = a.writes } in
     let nested = left_nested (holdings a) xs ns vs a.declared cs h y ms ws gone newest above over in
     let shorter : held_in (on a.stacks.lists) xs a.declared ws cs ≡ held_in (holdings a) xs a.declared ws cs =
-    same_beside a.texts a.stacks.lists few more a.numbers.items tail xs a.declared ws cs nested fits in
+    same_beside a.writes a.texts a.stacks.lists few more a.numbers.items tail xs a.declared ws cs nested fits in
     let left = held_in (holdings a) xs a.declared ws cs in
     let top : H.slots ≡ Slot (name_among xs y) (val_at (holdings a) (length ws) y.value) left.slots = ap (λ (h : StoreState). h.slots) was in
     let both : Slot (name_among xs y) (val_at (holdings a) (length ws) y.value) left.slots ≡ Slot x (Stk []) r = sym top ∙ e in
@@ -236,3 +236,4 @@ returns g c = λ x r e.
     ∙ ap (λ ls. held_in (on ls) xs a.declared ws cs) lists ∙ shorter
     ∙ same_state rest (ap (λ (h : StoreState). h.declared) c.self.view_is) (ap (λ (h : StoreState). h.texts) c.self.view_is)
     (ap (λ (h : StoreState). h.names) c.self.view_is) (sym (ap (λ (h : StoreState). h.callers) was))
+    (ap (λ (h : StoreState). h.writes) c.self.view_is)

@@ -93,11 +93,11 @@ invariant_of-self g c =
     let spare = ap (λ (s : Pooled). s.spare) c.pop.ensures.rest in
     record {
       held = stack_held (holdings a) xs ns vs a.declared cs h H c.self.view_is c.args.name c.requires.0 (c.requires.2.0 ∷ c.requires.2.1)
-          c.requires.1 c.requires.2.2 i s once after lists;
+          c.requires.1 c.requires.2.2 i s once after lists c.add.new.self;
       stacks = omega (
         arith,
         stack_live (holdings a) xs ns vs a.declared cs h H c.self.view_is c.args.name c.requires.0 (c.requires.2.0 ∷ c.requires.2.1)
-            c.requires.1 c.requires.2.2 i s once after lists,
+            c.requires.1 c.requires.2.2 i s once after lists c.add.new.self,
         ap length spare,
         c.self.invariant.stacks,
         ap live_stacks c.self.view_is,
@@ -105,7 +105,7 @@ invariant_of-self g c =
       values = omega (
         arith,
         stack_values (holdings a) xs ns vs a.declared cs h H c.self.view_is c.args.name c.requires.0 (c.requires.2.0 ∷ c.requires.2.1)
-            c.requires.1 c.requires.2.2 i s once after lists,
+            c.requires.1 c.requires.2.2 i s once after lists c.add.new.self,
         ap length c.pop.ensures.top,
         ap length (list_is (holdings a) xs ns vs a.declared cs h H c.self.view_is c.args.name c.requires.0 (c.requires.2.0 ∷ c.requires.2.1)
             c.requires.1 c.requires.2.2 i s),
@@ -163,7 +163,7 @@ returns-clause-written g c = λ x n l named f.
     let both : c.pop.result ∷ list_of after i ≡ n ∷ l = sym c.pop.ensures.top ∙ at in
     let rest : list_of after i ≡ l = cc in
     ap (λ m. write x (Stk m) H.slots) (sym rest) ∙ stack_written (holdings a) xs ns vs a.declared cs h H c.self.view_is c.args.name x
-    (n ∷ l) named f i s once after lists
+    (n ∷ l) named f i s once after lists c.add.new.self
 
 pub returns-clause-shape : goal.returns-clause-shape
 returns-clause-shape g c =
@@ -182,4 +182,4 @@ returns-clause-shape g c =
     let after = c.pop.new.self.lists in
     let lists = ap (λ (s : Pooled). s.lists) c.pop.ensures.rest in
     stack_like (holdings a) xs ns vs a.declared cs h H c.self.view_is c.args.name c.requires.0 (c.requires.2.0 ∷ c.requires.2.1)
-    c.requires.1 c.requires.2.2 i s once after lists
+    c.requires.1 c.requires.2.2 i s once after lists c.add.new.self

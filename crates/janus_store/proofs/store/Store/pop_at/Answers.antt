@@ -181,11 +181,11 @@ invariant_of-self g c =
     let spare = ap (λ (s : Pooled). s.spare) c.pop.ensures.rest in
     record {
       held = stack_held (holdings a) xs ns vs a.declared cs h H c.self.view_is r.number c.requires.0 (c.requires.2.0 ∷ c.requires.2.1)
-          r.named c.requires.2.2 i s once after lists;
+          r.named c.requires.2.2 i s once after lists c.add.new.self;
       stacks = omega (
         arith,
         stack_live (holdings a) xs ns vs a.declared cs h H c.self.view_is r.number c.requires.0 (c.requires.2.0 ∷ c.requires.2.1)
-            r.named c.requires.2.2 i s once after lists,
+            r.named c.requires.2.2 i s once after lists c.add.new.self,
         ap length spare,
         c.self.invariant.stacks,
         ap live_stacks c.self.view_is,
@@ -193,7 +193,7 @@ invariant_of-self g c =
       values = omega (
         arith,
         stack_values (holdings a) xs ns vs a.declared cs h H c.self.view_is r.number c.requires.0 (c.requires.2.0 ∷ c.requires.2.1)
-            r.named c.requires.2.2 i s once after lists,
+            r.named c.requires.2.2 i s once after lists c.add.new.self,
         ap length c.pop.ensures.top,
         ap length (list_is (holdings a) xs ns vs a.declared cs h H c.self.view_is r.number c.requires.0 (c.requires.2.0 ∷ c.requires.2.1)
             r.named c.requires.2.2 i s),
@@ -271,7 +271,7 @@ returns-clause-written g c = λ x n l nth f.
     let both : c.pop.result ∷ list_of after i ≡ n ∷ l = sym c.pop.ensures.top ∙ at in
     let rest : list_of after i ≡ l = cc in
     ap (λ m. write x (Stk m) H.slots) (sym rest) ∙ stack_written (holdings a) xs ns vs a.declared cs h H c.self.view_is r.number x
-    (n ∷ l) r.named f i s once after lists
+    (n ∷ l) r.named f i s once after lists c.add.new.self
 
 pub returns-clause-shape : goal.returns-clause-shape
 returns-clause-shape g c =
@@ -300,4 +300,4 @@ returns-clause-shape g c =
     let after = c.pop.new.self.lists in
     let lists = ap (λ (s : Pooled). s.lists) c.pop.ensures.rest in
     stack_like (holdings a) xs ns vs a.declared cs h H c.self.view_is r.number c.requires.0 (c.requires.2.0 ∷ c.requires.2.1)
-    r.named c.requires.2.2 i s once after lists
+    r.named c.requires.2.2 i s once after lists c.add.new.self

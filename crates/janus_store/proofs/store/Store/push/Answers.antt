@@ -78,11 +78,11 @@ invariant_of-self g c =
     let spare = ap (λ (s : Pooled). s.spare) c.push.ensures.rest in
     record {
       held = stack_held (holdings a) xs ns vs a.declared cs h H c.self.view_is c.args.name c.requires.stack.0 c.requires.stack.2.0 c.requires.stack.1
-          c.requires.stack.2.1 i s once after lists;
+          c.requires.stack.2.1 i s once after lists c.add.new.self;
       stacks = omega (
         arith,
         stack_live (holdings a) xs ns vs a.declared cs h H c.self.view_is c.args.name c.requires.stack.0 c.requires.stack.2.0 c.requires.stack.1
-            c.requires.stack.2.1 i s once after lists,
+            c.requires.stack.2.1 i s once after lists c.add.new.self,
         ap length spare,
         c.self.invariant.stacks,
         ap live_stacks c.self.view_is,
@@ -90,7 +90,7 @@ invariant_of-self g c =
       values = omega (
         arith,
         stack_values (holdings a) xs ns vs a.declared cs h H c.self.view_is c.args.name c.requires.stack.0 c.requires.stack.2.0 c.requires.stack.1
-            c.requires.stack.2.1 i s once after lists,
+            c.requires.stack.2.1 i s once after lists c.add.new.self,
         ap length c.push.ensures.top,
         ap length (list_is (holdings a) xs ns vs a.declared cs h H c.self.view_is c.args.name c.requires.stack.0 c.requires.stack.2.0 c.requires.stack.1
             c.requires.stack.2.1 i s),
@@ -131,7 +131,7 @@ returns-clause-written g c = λ x l named f.
     let number = to_z w32 (of_z w32 c.args.number) in
     ap (λ n. write x (Stk (n ∷ l)) H.slots) (sym (to_z-of_z w32 c.args.number c.ranges.number))
     ∙ ap (λ m. write x (Stk m) H.slots) (sym (c.push.ensures.top ∙ ap (λ m. number ∷ m) at))
-    ∙ stack_written (holdings a) xs ns vs a.declared cs h H c.self.view_is c.args.name x l named f i s once after lists
+    ∙ stack_written (holdings a) xs ns vs a.declared cs h H c.self.view_is c.args.name x l named f i s once after lists c.add.new.self
 
 pub returns-clause-shape : goal.returns-clause-shape
 returns-clause-shape g c =
@@ -150,4 +150,4 @@ returns-clause-shape g c =
     let after = c.push.new.self.lists in
     let lists = ap (λ (s : Pooled). s.lists) c.push.ensures.rest in
     stack_like (holdings a) xs ns vs a.declared cs h H c.self.view_is c.args.name c.requires.stack.0 c.requires.stack.2.0 c.requires.stack.1
-    c.requires.stack.2.1 i s once after lists
+    c.requires.stack.2.1 i s once after lists c.add.new.self

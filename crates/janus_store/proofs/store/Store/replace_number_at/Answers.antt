@@ -106,18 +106,18 @@ invariant_of-self g c =
     let m = to_z w32 (of_z w32 c.args.number) in
     let after = set a.numbers.items p m in
     record {
-      held = number_held (holdings a) xs ns vs a.declared cs h H c.self.view_is r.number c.requires.0 n.0 r.named seen p r.place m after refl fits;
+      held = number_held (holdings a) xs ns vs a.declared cs h H c.self.view_is r.number c.requires.0 n.0 r.named seen p r.place m after refl fits c.add.new.self;
       stacks = omega (
         arith,
         c.self.invariant.stacks,
         ap live_stacks c.self.view_is,
-        number_live (holdings a) xs ns vs a.declared cs h H c.self.view_is r.number c.requires.0 n.0 r.named seen p r.place m after refl fits,
+        number_live (holdings a) xs ns vs a.declared cs h H c.self.view_is r.number c.requires.0 n.0 r.named seen p r.place m after refl fits c.add.new.self,
       );
       values = omega (
         arith,
         c.self.invariant.values,
         ap values_held c.self.view_is,
-        number_values (holdings a) xs ns vs a.declared cs h H c.self.view_is r.number c.requires.0 n.0 r.named seen p r.place m after refl fits,
+        number_values (holdings a) xs ns vs a.declared cs h H c.self.view_is r.number c.requires.0 n.0 r.named seen p r.place m after refl fits c.add.new.self,
       );
       apart = c.self.invariant.apart;
       known = c.self.invariant.known;
@@ -159,7 +159,7 @@ returns-clause-shape g c =
     ) in
     let m = to_z w32 (of_z w32 c.args.number) in
     let after = set a.numbers.items p m in
-    number_like (holdings a) xs ns vs a.declared cs h H c.self.view_is r.number c.requires.0 n.0 r.named seen p r.place m after refl fits
+    number_like (holdings a) xs ns vs a.declared cs h H c.self.view_is r.number c.requires.0 n.0 r.named seen p r.place m after refl fits c.add.new.self
 
 pub returns-clause-written : goal.returns-clause-written
 returns-clause-written g c = λ x nth.
@@ -184,7 +184,7 @@ returns-clause-written g c = λ x nth.
     let m = to_z w32 (of_z w32 c.args.number) in
     let after = set a.numbers.items p m in
     ap (λ n. write x (Num n) H.slots) (sym (to_z-of_z w32 c.args.number c.ranges.number))
-    ∙ number_written (holdings a) xs ns vs a.declared cs h H c.self.view_is r.number x n.0 r.named seen p r.place m after refl fits
+    ∙ number_written (holdings a) xs ns vs a.declared cs h H c.self.view_is r.number x n.0 r.named seen p r.place m after refl fits c.add.new.self
 
 pub returns-clause-former : goal.returns-clause-former
 returns-clause-former g c = λ x nth.

@@ -148,10 +148,10 @@ invariant_of-self g c =
     let few_long : length few ≡ length ws =
     omega (arith, ap length cut, length-take-le n a.numbers.items (omega (arith, is_long, was_long, c.self.invariant.beside)), is_long) in
     let fits : length ws ≤ length few = omega (arith, few_long) in
-    let on : List (List ℤ) → Holdings = λ ls. record { lists = ls; numbers = few; texts = a.texts } in
+    let on : List (List ℤ) → Holdings = λ ls. record { lists = ls; numbers = few; texts = a.texts; writes = a.writes } in
     let nested = left_nested (holdings a) xs ns vs a.declared cs h y ms ws gone newest above over in
     let shorter : held_in (on a.stacks.lists) xs a.declared ws cs ≡ held_in (holdings a) xs a.declared ws cs =
-    same_beside a.texts a.stacks.lists few more a.numbers.items tail xs a.declared ws cs nested fits in
+    same_beside a.writes a.texts a.stacks.lists few more a.numbers.items tail xs a.declared ws cs nested fits in
     let left = held_in (holdings a) xs a.declared ws cs in
     let top : H.slots ≡ Slot (name_among xs y) (val_at (holdings a) (length ws) y.value) left.slots = ap (λ (h : StoreState). h.slots) was in
     let slots : live_stacks H ≡ stacks_with (val_at (holdings a) (length ws) y.value) (live_stacks left) =
@@ -166,9 +166,9 @@ invariant_of-self g c =
     let none : held_by (val_at (holdings a) (length ws) y.value) ≡ 0 =
     none_cleared (val_at (holdings a) (length ws) y.value) (subst (λ v. cleared_val v ≡ v) (sym same) e.4) in
     kept_over xs _ stay (record {
-      held = other_texts c.take_back.new.stacks.lists few a.texts ts xs ms ws (a.declared - 1) cs
+      held = other_texts a.writes c.take_back.new.stacks.lists few a.texts ts xs ms ws (a.declared - 1) cs
           (subst (λ ls. IsHeld (on ls) xs ms ws (a.declared - 1) cs) (sym lists)
-          (held_shorter a.texts a.stacks.lists few more a.numbers.items tail xs ms ws (a.declared - 1) cs fits
+          (held_shorter a.writes a.texts a.stacks.lists few more a.numbers.items tail xs ms ws (a.declared - 1) cs fits
           (left_held (holdings a) xs ns vs a.declared cs h y ms ws gone newest above over (a.declared - 1) (omega arith)
           (omega (arith, all, long, outermost_alone (length ws) cs alone)) (omega (arith, all, long)))));
       stacks = omega (
@@ -238,11 +238,11 @@ returns g c =
     let few_long : length few ≡ length ws =
     omega (arith, ap length cut, length-take-le n a.numbers.items (omega (arith, is_long, was_long, c.self.invariant.beside)), is_long) in
     let fits : length ws ≤ length few = omega (arith, few_long) in
-    let on : List (List ℤ) → Holdings = λ ls. record { lists = ls; numbers = few; texts = ts } in
-    let with_texts : Holdings = record { lists = a.stacks.lists; numbers = a.numbers.items; texts = ts } in
+    let on : List (List ℤ) → Holdings = λ ls. record { lists = ls; numbers = few; texts = ts; writes = a.writes } in
+    let with_texts : Holdings = record { lists = a.stacks.lists; numbers = a.numbers.items; texts = ts; writes = a.writes } in
     let nested = left_nested (holdings a) xs ns vs a.declared cs h y ms ws gone newest above over in
     let shorter : held_in (on a.stacks.lists) xs (a.declared - 1) ws cs ≡ held_in with_texts xs (a.declared - 1) ws cs =
-    same_beside ts a.stacks.lists few more a.numbers.items tail xs (a.declared - 1) ws cs nested fits in
+    same_beside a.writes ts a.stacks.lists few more a.numbers.items tail xs (a.declared - 1) ws cs nested fits in
     let left = held_in (holdings a) xs a.declared ws cs in
     let top : H.slots ≡ Slot (name_among xs y) (val_at (holdings a) (length ws) y.value) left.slots = ap (λ (h : StoreState). h.slots) was in
     let lists = ap (λ (s : Pooled). s.lists) c.take_back.ensures in
@@ -250,7 +250,7 @@ returns g c =
     ∙ ap (λ ls. held_in (on ls) xs (a.declared - 1) ws cs) lists ∙ shorter
     ∙ same_state (sym (ap rest_of top)) (ap (λ (h : StoreState). h.declared - 1) c.self.view_is)
     (c.truncate-2.ensures.names ∙ ap (λ (h : StoreState). take (h.declared - 1) h.texts) c.self.view_is) (ap (λ (h : StoreState). h.names) c.self.view_is)
-    (sym (ap (λ (h : StoreState). h.callers) was) ∙ c.requires.whole.callers)
+    (sym (ap (λ (h : StoreState). h.callers) was) ∙ c.requires.whole.callers) (ap (λ (h : StoreState). h.writes) c.self.view_is)
 
 pub overflow_sub-self : goal.overflow_sub-self
 overflow_sub-self g c =

@@ -110,20 +110,20 @@ invariant_of-self g c =
     (same_shape a.stacks.lists b v.value new (shape ∙ sym (ap cleared_val same))) in
     record {
       held = set_held (holdings a) xs ns vs a.declared cs h H c.self.view_is r.number c.requires.0 (Arr c.requires.2.0) p v r.named c.requires.2.2 r.place read
-          (holdings a) (λ j ne. refl) new;
+          (record (holdings a) { writes = c.add.new.self }) (λ j ne. refl) new;
       stacks = omega (
         arith,
         c.self.invariant.stacks,
         ap live_stacks c.self.view_is,
         set_stacks (holdings a) xs ns vs a.declared cs h H c.self.view_is r.number c.requires.0 (Arr c.requires.2.0) p v r.named c.requires.2.2 r.place read
-            (holdings a) (λ j ne. refl) new shape,
+            (record (holdings a) { writes = c.add.new.self }) (λ j ne. refl) new shape,
       );
       values = omega (
         arith,
         c.self.invariant.values,
         ap values_held c.self.view_is,
         set_values (holdings a) xs ns vs a.declared cs h H c.self.view_is r.number c.requires.0 (Arr c.requires.2.0) p v r.named c.requires.2.2 r.place read
-            (holdings a) (λ j ne. refl) new,
+            (record (holdings a) { writes = c.add.new.self }) (λ j ne. refl) new,
         ap held_by (c.set_element.ensures.written a.stacks.lists b c.requires.2.0 same),
       );
       apart = λ i. let z = ap (times i) keep in let o = c.self.invariant.apart i in omega (arith, z, o);
@@ -164,7 +164,7 @@ returns-clause-shape g c =
     let shape : cleared_val (val_at (holdings a) p new) ≡ cleared_val (Arr c.requires.2.0) = c.set_element.ensures.extent a.stacks.lists b
     ∙ ap cleared_val same in
     set_like (holdings a) xs ns vs a.declared cs h H c.self.view_is r.number c.requires.0 (Arr c.requires.2.0) p v r.named c.requires.2.2 r.place read
-    (holdings a) (λ j ne. refl) new shape refl
+    (record (holdings a) { writes = c.add.new.self }) (λ j ne. refl) new shape refl
 
 pub returns-clause-written : goal.returns-clause-written
 returns-clause-written g c = λ x l nth k.
@@ -190,4 +190,4 @@ returns-clause-written g c = λ x l nth k.
     ap (λ n. write x (Arr (set_element l n c.args.number)) H.slots) (sym (to_z-of_z w32 c.args.index c.ranges.index))
     ∙ ap (λ n. write x (Arr (set_element l (to_z w32 (of_z w32 c.args.index)) n)) H.slots) (sym (to_z-of_z w32 c.args.number c.ranges.number))
     ∙ ap (λ u. write x u H.slots) (sym (c.set_element.ensures.written a.stacks.lists b l same))
-    ∙ set_written (holdings a) xs ns vs a.declared cs h H c.self.view_is r.number x (Arr l) p v r.named k r.place read (holdings a) (λ j ne. refl) new
+    ∙ set_written (holdings a) xs ns vs a.declared cs h H c.self.view_is r.number x (Arr l) p v r.named k r.place read (record (holdings a) { writes = c.add.new.self }) (λ j ne. refl) new

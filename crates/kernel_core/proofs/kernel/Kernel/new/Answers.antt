@@ -13,7 +13,7 @@ invariant_of-result g c = record {
   queue = subst (λ (places : List ℕ). ArePosts (entries_in c.new-3.result) places) (sym c.new-2.ensures.items) tt;
   legal =
       subst (λ (s : State). IsLegalMachine (machine_from s (map (job_at (entries_in c.new-3.result)) c.new-2.result.items) 0 (entries_in c.new-3.result) false))
-      (sym c.in_ok-history.ensures)
+      (sym c.in_ok-history.ensures.state)
       (subst (λ (es : List Entry). IsLegalMachine (machine_from new_state (map (job_at es) c.new-2.result.items) 0 es false)) (sym c.new-3.ensures.none)
       (subst (λ (places : List ℕ). IsLegalMachine (machine_from new_state (map (job_at []) places) 0 [] false)) (sym c.new-2.ensures.items) new_kept));
 }

@@ -31,12 +31,12 @@ queued g c =
 
 -- the machine behind the post
 abbrev over : (g : given.Over) (c : goal.After-post g) → Machine
-over g c = machine_with c.self.inside.history c.push_back.new.self.items c.self.inside.counter c.post.new.self c.self.inside.closing
+over g c = machine_with c.self.inside.history.state c.push_back.new.self.items c.self.inside.counter c.post.new.self c.self.inside.closing
 
 is_posted : (g : given.Over) (c : goal.After-post g) → over g c ≡ posted (machine_of c.self.inside) c.args.lane (request_of c.args.job)
 is_posted g c =
     posted_view (entries_in c.self.inside.minutes) (entries_in c.post.new.self) c.self.inside.queue.items c.push_back.new.self.items c.args.lane
-    (request_of c.args.job) c.self.inside.history
+    (request_of c.args.job) c.self.inside.history.state
     c.self.inside.counter c.self.inside.closing (written g c) (queued g c) c.self.invariant.queue
 
 number : (g : given.Over) (c : goal.After-post g) → c.post.result ≡ suc (posted_in (entries_in c.self.inside.minutes))

@@ -1,8 +1,8 @@
 use Rattle.std.proofs.Common.{◌≡◌, List, length, take, Bool, false, inl, refl, sym, ap, ◌∙◌, subst}
 use Rattle.janus_meaning.specs.World.{Cell}
 use Rattle.kernel_machine.specs.State as state
-use Rattle.kernel_machine.specs.State.{State}
 use Rattle.cell_tree.specs.Tree as cells
+use Rattle.kernel_history.specs.CountedState.{CountedState}
 use Rattle.kernel_history.specs.Fields.{past_of}
 use Rattle.kernel_history.specs.declared.tree.EndedCell.{EndedCell}
 use Rattle.kernel_history.specs.declared.tree.HistoryTree.{HistoryTree}
@@ -10,7 +10,7 @@ use Rattle.kernel_machine.specs.Begins.{TakesCell}
 use Rattle.kernel_machine.specs.declared.heading.Heading.TheVariants.{GoesOn}
 use Rattle.kernel_machine.specs.declared.outcome.Begun.TheVariants as begun
 use Rattle.kernel_loader.specs.Program.{cell_of_program}
-use Rattle.kernel_loader.specs.Runner.{CanEnter}
+use Rattle.kernel_loader.specs.Runner.{CanEnter, KeepsCounts as RunnerKeepsCounts}
 use Rattle.kernel_history.specs.Standing.{shown_here}
 use Rattle.kernel_history.specs.Kept.{Kept, IsKept}
 use Rattle.kernel_history.specs.declared.job.Open.{Open}
@@ -27,7 +27,7 @@ use Rattle.kernel_loader.specs.procedures.Procedures.{Procedures}
 
 pub prepare-requires-clause-legal : goal.prepare-requires-clause-legal
 prepare-requires-clause-legal g c =
-    let idle : c.self.inside.job ≡ Idle = idle_job c.self.inside.job (subst (λ (s : State). s.job ≡ state.Idle) (sym c.self.view_is) c.requires) in
+    let idle : c.self.inside.job ≡ Idle = idle_job c.self.inside.job (subst (λ (s : CountedState). s.state.job ≡ state.Idle) (sym c.self.view_is) c.requires) in
     let kept : Kept c.self.inside.tree c.self.inside.runner Idle =
     subst (λ (j : Open). Kept c.self.inside.tree c.self.inside.runner j) idle c.self.invariant.kept in
     let tree = c.self.inside.tree in
@@ -37,7 +37,7 @@ prepare-requires-clause-legal g c =
 
 pub prepare-requires-clause-is : goal.prepare-requires-clause-is
 prepare-requires-clause-is g c =
-    let idle : c.self.inside.job ≡ Idle = idle_job c.self.inside.job (subst (λ (s : State). s.job ≡ state.Idle) (sym c.self.view_is) c.requires) in
+    let idle : c.self.inside.job ≡ Idle = idle_job c.self.inside.job (subst (λ (s : CountedState). s.state.job ≡ state.Idle) (sym c.self.view_is) c.requires) in
     let kept : Kept c.self.inside.tree c.self.inside.runner Idle =
     subst (λ (j : Open). Kept c.self.inside.tree c.self.inside.runner j) idle c.self.invariant.kept in
     let tree = c.self.inside.tree in
@@ -47,7 +47,7 @@ prepare-requires-clause-is g c =
 
 pub enter-requires : goal.enter-requires
 enter-requires g c =
-    let idle : c.self.inside.job ≡ Idle = idle_job c.self.inside.job (subst (λ (s : State). s.job ≡ state.Idle) (sym c.self.view_is) c.requires) in
+    let idle : c.self.inside.job ≡ Idle = idle_job c.self.inside.job (subst (λ (s : CountedState). s.state.job ≡ state.Idle) (sym c.self.view_is) c.requires) in
     let kept : Kept c.self.inside.tree c.self.inside.runner Idle =
     subst (λ (j : Open). Kept c.self.inside.tree c.self.inside.runner j) idle c.self.invariant.kept in
     let tree = c.self.inside.tree in
@@ -70,7 +70,7 @@ enter-requires g c =
 
 pub invariant_of-self-2 : goal.invariant_of-self-2
 invariant_of-self-2 g c =
-    let idle : c.self.inside.job ≡ Idle = idle_job c.self.inside.job (subst (λ (s : State). s.job ≡ state.Idle) (sym c.self.view_is) c.requires) in
+    let idle : c.self.inside.job ≡ Idle = idle_job c.self.inside.job (subst (λ (s : CountedState). s.state.job ≡ state.Idle) (sym c.self.view_is) c.requires) in
     let kept : Kept c.self.inside.tree c.self.inside.runner Idle =
     subst (λ (j : Open). Kept c.self.inside.tree c.self.inside.runner j) idle c.self.invariant.kept in
     let tree = c.self.inside.tree in
@@ -96,7 +96,7 @@ invariant_of-self-2 g c =
 -- a refused text: there may be more slots, and more names of procedures
 pub invariant_of-self : goal.invariant_of-self
 invariant_of-self g c =
-    let idle : c.self.inside.job ≡ Idle = idle_job c.self.inside.job (subst (λ (s : State). s.job ≡ state.Idle) (sym c.self.view_is) c.requires) in
+    let idle : c.self.inside.job ≡ Idle = idle_job c.self.inside.job (subst (λ (s : CountedState). s.state.job ≡ state.Idle) (sym c.self.view_is) c.requires) in
     let kept : Kept c.self.inside.tree c.self.inside.runner Idle =
     subst (λ (j : Open). Kept c.self.inside.tree c.self.inside.runner j) idle c.self.invariant.kept in
     let tree = c.self.inside.tree in
@@ -112,7 +112,7 @@ invariant_of-self g c =
 -- no memory for its node or its names: its bodies are dropped again
 pub invariant_of-self-then-is_err : goal.invariant_of-self-then-is_err
 invariant_of-self-then-is_err g c =
-    let idle : c.self.inside.job ≡ Idle = idle_job c.self.inside.job (subst (λ (s : State). s.job ≡ state.Idle) (sym c.self.view_is) c.requires) in
+    let idle : c.self.inside.job ≡ Idle = idle_job c.self.inside.job (subst (λ (s : CountedState). s.state.job ≡ state.Idle) (sym c.self.view_is) c.requires) in
     let kept : Kept c.self.inside.tree c.self.inside.runner Idle =
     subst (λ (j : Open). Kept c.self.inside.tree c.self.inside.runner j) idle c.self.invariant.kept in
     let tree = c.self.inside.tree in
@@ -145,7 +145,7 @@ invariant_of-self-then-is_err g c =
             past = past;
             nodes = nodes;
             position = refl;
-            names = more_yet old.store.names met.store.names w.enter.new.self.store.names c.prepare.ensures.kept.names entered.names;
+            names = more_yet old.counted.store.names met.counted.store.names w.enter.new.self.counted.store.names c.prepare.ensures.kept.names entered.names;
             entries = more_yet old.entries met.entries w.enter.new.self.entries c.prepare.ensures.entries
                 (same_more met.entries w.enter.new.self.entries w.enter.ensures.entries);
             whole = entered.whole;
@@ -155,12 +155,12 @@ invariant_of-self-then-is_err g c =
           }))
     ] in
     kept_dropped tree left.tree old left.runner
-    (record { store = left.runner.store; cursor = left.runner.cursor; procedures = c.forget.new.self; entries = left.runner.entries })
+    (record { counted = left.runner.counted; cursor = left.runner.cursor; procedures = c.forget.new.self; entries = left.runner.entries })
     left.job c.in-Ok.program.first kept unentered c.in-Ok.ensures.behind low refl refl c.forget.ensures.kept c.forget.ensures.defined
 
-pub returns : goal.returns
-returns g c =
-    let idle : c.self.inside.job ≡ Idle = idle_job c.self.inside.job (subst (λ (s : State). s.job ≡ state.Idle) (sym c.self.view_is) c.requires) in
+pub returns-clause-takes : goal.returns-clause-takes
+returns-clause-takes g c =
+    let idle : c.self.inside.job ≡ Idle = idle_job c.self.inside.job (subst (λ (s : CountedState). s.state.job ≡ state.Idle) (sym c.self.view_is) c.requires) in
     let kept : Kept c.self.inside.tree c.self.inside.runner Idle =
     subst (λ (j : Open). Kept c.self.inside.tree c.self.inside.runner j) idle c.self.invariant.kept in
     let cell : Cell = cell_of_program c.in-Ok.program in
@@ -168,7 +168,8 @@ returns g c =
     let made : HistoryTree = record { cells = c.room.new.self; position = c.self.inside.tree.position } in
     let same = ap (λ (t : cells.Tree EndedCell). past_of (record { cells = t; position = c.self.inside.tree.position })) c.room.ensures.same in
     let room : state.is_full (past_of c.self.inside.tree) ≡ false = sym c.is_full.ensures ∙ c.if-is_full.false in
-    subst (λ (s : State). TakesCell s.past c.args.text.now (state.is_full s.past) begun.Going (record { past = past_of made; job = job })) c.self.view_is
+    subst (λ (s : CountedState). TakesCell s.state.past c.args.text.now (state.is_full s.state.past) begun.Going (record { past = past_of made; job = job }))
+    c.self.view_is
     (subst (λ (full : Bool). TakesCell (past_of c.self.inside.tree) c.args.text.now full begun.Going (record { past = past_of made; job = job })) (sym room)
     (inl (
       cell_of_program c.in-Ok.program,
@@ -176,3 +177,32 @@ returns g c =
       refl,
       ap (λ (p : state.Past). record { past = p; job = job }) same,
     )))
+
+pub returns-in-Err-clause-counts : goal.returns-in-Err-clause-counts
+returns-in-Err-clause-counts g c =
+    record {
+      writes = c.prepare.ensures.counts.writes ∙ ap (λ (s : CountedState). s.writes) c.self.view_is;
+      steps = c.prepare.ensures.counts.steps ∙ ap (λ (s : CountedState). s.steps) c.self.view_is;
+    }
+
+pub returns-then-is_err-clause-counts : goal.returns-then-is_err-clause-counts
+returns-then-is_err-clause-counts g c =
+    let left = c.then-is_err.self-inside in
+    let same : RunnerKeepsCounts c.self.inside.runner left.runner = elim c.then-is_err.branch [
+      | then-is_err-via-then-is_err w ↦ rw w.self-inside-is c.prepare.ensures.counts
+      | then-is_err-via-else-is_err+then-is_err-2 w ↦ rw w.self-inside-is (record {
+        writes = w.enter.ensures.counts.writes ∙ c.prepare.ensures.counts.writes;
+        steps = w.enter.ensures.counts.steps ∙ c.prepare.ensures.counts.steps;
+      })
+    ] in
+    record {
+      writes = same.writes ∙ ap (λ (s : CountedState). s.writes) c.self.view_is;
+      steps = same.steps ∙ ap (λ (s : CountedState). s.steps) c.self.view_is;
+    }
+
+pub returns-clause-counts : goal.returns-clause-counts
+returns-clause-counts g c =
+    record {
+      writes = c.enter.ensures.counts.writes ∙ c.prepare.ensures.counts.writes ∙ ap (λ (s : CountedState). s.writes) c.self.view_is;
+      steps = c.enter.ensures.counts.steps ∙ c.prepare.ensures.counts.steps ∙ ap (λ (s : CountedState). s.steps) c.self.view_is;
+    }

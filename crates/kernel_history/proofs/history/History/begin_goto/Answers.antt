@@ -1,7 +1,8 @@
-use Rattle.std.proofs.Common.{◌≡◌, ◌<◌, length, inl, inr, sym, ap, subst}
+use Rattle.std.proofs.Common.{◌≡◌, ◌<◌, length, inl, inr, sym, ap, ◌∙◌, subst}
 use Rattle.std.proofs.lemmas.Bool.{cases_lt}
 use Rattle.kernel_machine.specs.State as state
-use Rattle.kernel_machine.specs.State.{State, Past}
+use Rattle.kernel_machine.specs.State.{Past}
+use Rattle.kernel_history.specs.CountedState.{CountedState}
 use Rattle.kernel_history.specs.Kept.{Kept, IsKept}
 use Rattle.kernel_history.specs.declared.job.Open.{Open}
 use Rattle.kernel_history.specs.declared.job.Open.TheVariants.{Idle}
@@ -28,7 +29,7 @@ depart-job-requires-clause-way g c =
 -- a way that is sought changes the tree's way alone
 pub depart-job-requires-clause-idle : goal.depart-job-requires-clause-idle
 depart-job-requires-clause-idle g c =
-    let idle : c.self.inside.job ≡ Idle = idle_job c.self.inside.job (subst (λ (s : State). s.job ≡ state.Idle) (sym c.self.view_is) c.requires) in
+    let idle : c.self.inside.job ≡ Idle = idle_job c.self.inside.job (subst (λ (s : CountedState). s.state.job ≡ state.Idle) (sym c.self.view_is) c.requires) in
     let kept : Kept c.self.inside.tree c.self.inside.runner Idle =
     subst (λ (j : Open). Kept c.self.inside.tree c.self.inside.runner j) idle c.self.invariant.kept in
     kept_with_room c.self.inside.tree c.find_way.new.tree c.self.inside.runner kept c.find_way.ensures.same c.find_way.ensures.nodes
@@ -36,10 +37,17 @@ depart-job-requires-clause-idle g c =
 
 pub invariant_of-self : goal.invariant_of-self
 invariant_of-self g c =
-    let idle : c.self.inside.job ≡ Idle = idle_job c.self.inside.job (subst (λ (s : State). s.job ≡ state.Idle) (sym c.self.view_is) c.requires) in
+    let idle : c.self.inside.job ≡ Idle = idle_job c.self.inside.job (subst (λ (s : CountedState). s.state.job ≡ state.Idle) (sym c.self.view_is) c.requires) in
     let kept : Kept c.self.inside.tree c.self.inside.runner Idle =
     subst (λ (j : Open). Kept c.self.inside.tree c.self.inside.runner j) idle c.self.invariant.kept in
     let now : Kept c.find_way.new.tree c.self.inside.runner Idle =
     kept_with_room c.self.inside.tree c.find_way.new.tree c.self.inside.runner kept c.find_way.ensures.same c.find_way.ensures.nodes
     (ap (λ (s : Past). s.position) c.find_way.ensures.same) in
     subst (λ (j : Open). IsKept c.find_way.new.tree c.self.inside.runner j) (sym idle) (idle_in_time c.find_way.new.tree c.self.inside.runner now)
+
+pub returns-clause-counts : goal.returns-clause-counts
+returns-clause-counts g c =
+    record {
+      writes = c.depart-job.ensures.counts.writes ∙ ap (λ (s : CountedState). s.writes) c.self.view_is;
+      steps = c.depart-job.ensures.counts.steps ∙ ap (λ (s : CountedState). s.steps) c.self.view_is;
+    }

@@ -8,5 +8,6 @@ invariant_of-result g c =
     idle_in_time _ _ (kept_new _ _ (new_past (record { cells = c.in_ok-cells.cells; position = 0 }) c.in_ok-cells.ensures refl) refl c.in_ok-runner.ensures.is
     (no_other_new (record { cells = c.in_ok-cells.cells; position = 0 }) c.in_ok-runner.runner.procedures c.in_ok-cells.ensures c.in_ok-runner.ensures.none))
 
-pub returns : goal.returns
-returns g c = ap (λ (p : Past). record { past = p; job = Idle }) (new_past (record { cells = c.in_ok-cells.cells; position = 0 }) c.in_ok-cells.ensures refl)
+pub returns-clause-state : goal.returns-clause-state
+returns-clause-state g c =
+    ap (λ (p : Past). record { past = p; job = Idle }) (new_past (record { cells = c.in_ok-cells.cells; position = 0 }) c.in_ok-cells.ensures refl)

@@ -17,10 +17,14 @@ returns-clause-ok g c = λ from can.
     sym (ap (λ (ps : List Proc). length ps) c.procedures.ensures) ∙ length-map (procedures_view c.procedures.result.now) plain_procedure
     ∙ length-map c.procedures.result.now procedure_view in
     entered_here c.args.self.now
-    (record { store = c.declare.new.store; cursor = c.enter.new.self; procedures = c.define_all.new.self; entries = c.args.self.now.entries })
+    (record { counted = record c.args.self.now.counted { store = c.declare.new.store }; cursor = c.enter.new.self; procedures =
+    c.define_all.new.self; entries = c.args.self.now.entries })
     c.args.program.now from can
-    (becomes_same _ _ _ _ (ap (λ l. declare l (shown_store c.args.self.now.store)) c.declarations.ensures) c.in_ok-declare.ensures.ok)
+    (becomes_same _ _ _ _ (ap (λ l. declare l (shown_store c.args.self.now.counted.store)) c.declarations.ensures) c.in_ok-declare.ensures.ok)
     c.define_all.ensures.kept refl
     (subst (λ (n : ℕ). AreDefined c.define_all.new.self (onto c.args.program.now.first n from.bodies)) (sym same)
     (c.define_all.ensures.defined from.bodies can.is.0.defined.defined can.behind))
     (record { stands = c.enter.ensures.stands; place = c.enter.ensures.place c.declare.new.store.names; counts = c.enter.ensures.counts })
+
+pub returns-clause-counts : goal.returns-clause-counts
+returns-clause-counts g c = record { writes = c.in_ok-declare.ensures.ok.unwritten; steps = refl }

@@ -6,14 +6,14 @@ pub returns-clause-enters : goal.returns-clause-enters
 returns-clause-enters g c = λ from can.
     entered_inverse_here c.args.self.now
     (record {
-      store = c.args.self.now.store;
+      counted = c.args.self.now.counted;
       cursor = c.enter_inverse.new.self;
       procedures = c.args.self.now.procedures;
       entries = c.args.self.now.entries;
     }) c.args.program.now from can refl refl refl
     (record {
       stands = c.enter_inverse.ensures.stands;
-      place = c.enter_inverse.ensures.place c.args.self.now.store.names;
+      place = c.enter_inverse.ensures.place c.args.self.now.counted.store.names;
       counts =
           c.enter_inverse.ensures.counts;
     })

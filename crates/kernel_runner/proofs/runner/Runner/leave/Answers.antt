@@ -14,7 +14,7 @@ use Rattle.kernel_runner.proofs.runner.Runner.leave.Goals as goal
 
 -- the names of the cell are taken back
 retired : (g : given.Over) (c : goal.After-retire_all g) (to : ShownWorld) → CanLeave c.args.self.now c.args.program.now to →
-    Becomes c.args.self.now.store c.retire.new.store to.world.store
+    Becomes c.args.self.now.counted.store c.retire.new.store to.world.store
 retired g c to can =
     let ds : List Declaration = declarations_of c.args.program.now in
     let many : length ds ≡ length c.declarations.result.now = sym (ap (λ (l : List Declaration). length l) c.declarations.ensures)
@@ -29,3 +29,6 @@ returns-clause-leaves g c = λ to can.
     left_here c.args.self.now _ c.args.program.now to can (retired g c to can) c.retire_all.ensures.kept refl
     (c.retire_all.ensures.defined to.bodies
     (subst (λ (n : ℕ). AreDefined c.args.self.now.procedures (onto c.args.program.now.first n to.bodies)) same can.is.0.defined.defined))
+
+pub returns-clause-counts : goal.returns-clause-counts
+returns-clause-counts g c = record { writes = (retired g c c.requires.0 c.requires.1).unwritten; steps = refl }

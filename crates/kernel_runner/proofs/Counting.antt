@@ -1,0 +1,20 @@
+-- What a runner counts.
+use Rattle.std.proofs.Common.{◌≡◌, ℕ, sym, ap, subst}
+use Rattle.janus_meaning.specs.Writes.{IsWritten}
+use Rattle.janus_store.specs.StoreState.{StoreState}
+use Rattle.janus_machine.specs.CountedStore.{steps_in}
+use Rattle.janus_machine.specs.declared.counted_store.CountedStore.{CountedStore}
+use Rattle.kernel_runner.specs.Runner.{KeepsCounts, writes_of}
+use Rattle.kernel_runner.specs.declared.runner.Runner.{Runner}
+
+-- where the counted store stays, so does the store
+pub same_store : {L : Type 0} (old new : Runner L) → new.counted ≡ old.counted → new.counted.store ≡ old.counted.store
+same_store {L} old new e = ap (λ (s : CountedStore L). s.store) e
+
+-- and nothing was counted
+pub same_counts : {L : Type 0} (old new : Runner L) → new.counted ≡ old.counted → KeepsCounts old new
+same_counts {L} old new e = record { writes = ap (λ (s : CountedStore L). s.store.writes) e; steps = ap (λ (s : CountedStore L). steps_in s) e }
+
+-- what was written before what counts nothing
+pub written_still : {L : Type 0} (k old : ℕ) (mid new : Runner L) → KeepsCounts mid new → IsWritten k old (writes_of mid) → IsWritten k old (writes_of new)
+written_still k old mid new same w = subst (λ (n : ℕ). IsWritten k old n) (sym same.writes) w
