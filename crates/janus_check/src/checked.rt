@@ -50,7 +50,7 @@ impl<'a> Checked<'a> {
 
     /// The cell alone, which is kept for longer than what it was checked over.
     pub fn into_cell(self) -> Cell
-        ensures { cell_view result ≡ cell_in self }
+        ensures { cell_view result ≡ cell_in self.entry }
     {
         self.cell
     }

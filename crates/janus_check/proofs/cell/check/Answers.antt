@@ -25,6 +25,6 @@ returns-in-None-clause-well_formed c =
     no_faults_formed (shape_in c.args.env.now.names) (heads_in c.args.env.now.procedures) (cell_view c.args.cell)
     (first_none (faults_over c.args.env.now (cell_view c.args.cell)) (sym c.in_ok-first_fault.ensures.first ∙ c.in-None.is))
 
-pub returns-in-Some-clause-first : goal.returns-in-Some-clause-first
-returns-in-Some-clause-first c =
+pub returns-clause-first : goal.returns-clause-first
+returns-clause-first c =
     λ _. found_is_first (faults_over c.args.env.now (cell_view c.args.cell)) c.in-Some.fault (sym c.in_ok-first_fault.ensures.first ∙ c.in-Some.is)
