@@ -1,5 +1,5 @@
-use Rattle.std.proofs.Common.{◌≡◌, List, length, ap, ◌∙◌, sym, subst}
-use Rattle.janus_meaning.specs.Syntax.{Blk, Name, names_of}
+use Rattle.std.proofs.Common.{◌≡◌, length, ap, ◌∙◌, sym, subst}
+use Rattle.janus_meaning.specs.Syntax.{names_of}
 use Rattle.janus_meaning.specs.Shape.{Shape}
 use Rattle.janus_syntax.specs.View.{block_of, plain_block, plain_cell}
 use Rattle.janus_syntax.specs.Tree.{Block, Cell, cell_of}
