@@ -139,18 +139,10 @@ formed_no_faults g hs (cell_of ds b ps) f =
 pub own_is : (k own : Known) (ds : List Declaration) (b : Block) (ps : List Procedure) → IsWellFormedOver k (cell_of ds b ps) →
     over (shape_in k.names) own.names ≡ after_declarations (shape_in k.names) ds → heads_over k own ≡ heads_with (heads_in k.procedures) ps →
     IsOwn k own (cell_of ds b ps)
-own_is k own ds b ps f n m =
-    let g = shape_in k.names in
-    let hs = heads_in k.procedures in
-    let names = n ∙ (declares_no_faults g ds f.names).1 in
-    let heads = m ∙ (defines_no_faults hs [] ps (all_apart (heads_of (plain ps))) f.once f.heads).1 in
-    record {
-      names = names;
-      heads = heads;
-      block = subst (λ (g : Shape). IsBlk (heads_over k own) g (plain_block b)) (sym names)
-          (subst (λ (hs : Heads). IsBlk hs (with_declared g (declared ds)) (plain_block b)) (sym heads) f.block);
-      procedures = subst (λ (hs : Heads). AreProcs hs (plain ps)) (sym heads) f.procedures;
-    }
+own_is k own ds b ps f n m = record {
+  names = n ∙ (declares_no_faults (shape_in k.names) ds f.names).1;
+  heads = m ∙ (defines_no_faults (heads_in k.procedures) [] ps (all_apart (heads_of (plain ps))) f.once f.heads).1;
+}
 
 pub faults_are_exact : FaultsAreExact
 faults_are_exact k =

@@ -13,6 +13,5 @@ pub mod DropLemmas
 pub mod SameHeads
 pub mod Found
 pub mod SlotLemmas
-pub mod Crosses
 -- Of janus_slots, given again.
 pub use Rattle.janus_slots.proofs.Stores

@@ -16,10 +16,6 @@ IsWellFormed g hs c = IsFormedOver g hs (plain_cell c)
 abbrev pub IsWellFormedOver : Known → Cell → Type 0
 IsWellFormedOver k c = IsWellFormed (shape_in k.names) (heads_in k.procedures) c
 
--- there are names and heads over which it is
-abbrev pub IsSomewhereWellFormed : Cell → Type 0
-IsSomewhereWellFormed c = ∥ ((g : Shape) × (hs : Heads) × IsWellFormed g hs c) ∥₁
-
 -- Over what may be known a cell has no faults exactly where it is well formed, and so an expression.
 pub record AreExact (k : Known) : Type 0 where
   pub cells : (c : Cell) → (faults_over k c ≡ []) ↔ IsWellFormedOver k c

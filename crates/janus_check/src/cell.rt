@@ -7,7 +7,7 @@ ghost use Rattle.janus_check.specs.Fault.{IsFirst, first_from};
 ghost use Rattle.janus_check.specs.Check.{is_full, has_all_stacks, fault_if, name_faults, extended, faults_over, declaration_faults, declarations_faults};
 ghost use Rattle.janus_check.specs.Check.{after_declaration, after_declarations, is_array_length};
 ghost use Rattle.janus_check.specs.WellFormed.{IsWellFormedOver};
-ghost use Rattle.janus_check.specs.Checked.{cell_in};
+ghost use Rattle.janus_check.specs.Checked.{cell_in, known_in};
 ghost use Rattle.janus_check.specs.Own.{IsOwn};
 ghost use Rattle.janus_check.specs.declared.fault.CheckFault.TheVariants.{Declared, TooMany, ArrayLength, Memory as NoMemory};
 
@@ -22,19 +22,19 @@ use janus_syntax::token::Span;
 use janus_syntax::tree::{Cell, Declaration, Name};
 use std::alloc::{AllocError, Global};
 
-/// Checks a cell over the names that are declared already and the procedures that are defined. What passes is well formed, and stands beside the names
-/// and the procedures of its own: over both, `Sight::Declared` has the names in sight of its statements, each with its slot, and the procedures that it
-/// calls. Else the answer is the fault that stands first in the text, and at one place the one with the smaller number, or want of memory.
-pub fn check(alloc: Global, env: &Env, cell: Cell) -> Result<(Checked, Env), CheckFault>
+/// Checks a cell over the names that are declared already and the procedures that are defined. What passes is well formed over them, and keeps the names
+/// and the procedures of its own. Else the answer is the fault that stands first in the text, and at one place the one with the smaller number, or want of
+/// memory.
+pub fn check<'a>(alloc: Global, env: &'a Env, cell: Cell) -> Result<Checked<'a>, CheckFault>
     ensures passes { OnOk result (faults_over env.now (cell_view cell) ≡ []) }
     ensures well_formed { OnOk result (IsWellFormedOver env.now (cell_view cell)) }
-    ensures same { IfOk result (λ passed. cell_in passed.0 ≡ cell_view cell) }
-    ensures own { IfOk result (λ passed. IsOwn env.now passed.1 (cell_view cell)) }
+    ensures same { IfOk result (λ checked. cell_in checked ≡ cell_view cell) }
+    ensures known { IfOk result (λ checked. known_in checked ≡ env.now) }
     ensures first { IfErr result (λ fault. fault ≢ NoMemory → IsFirst fault (faults_over env.now (cell_view cell))) }
 {
     let mut own = Env::new(alloc);
     match first_fault(alloc, env, &mut own, &cell)? {
-        None => Ok((Checked::new(cell), own)),
+        None => Ok(Checked::new(env, own, cell)),
         Some(fault) => Err(fault),
     }
 }

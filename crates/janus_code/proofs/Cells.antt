@@ -94,7 +94,7 @@ mutual
   inverse_plain (Call f xs) = refl
   inverse_plain (Uncall f xs) = refl
 
-  turned_plain : (b acc : Block) → plain_block (turned b acc) ≡ tree.turn (plain_block b) (plain_block acc)
+  pub turned_plain : (b acc : Block) → plain_block (turned b acc) ≡ tree.turn (plain_block b) (plain_block acc)
   turned_plain Empty acc = refl
   turned_plain (More s b) acc =
       turned_plain b (More (inverse_stm s) acc) ∙ ap (λ s. tree.turn (plain_block b) (tree.Cons s (plain_block acc))) (inverse_plain s)

@@ -1,5 +1,6 @@
 pub mod Cells
 pub mod Pairs
+pub mod HeldLemmas
 pub mod Trees
 pub mod Flattened
 pub mod Seeing

@@ -1,12 +1,12 @@
 -- Well-formed trees name what is in sight, and call procedures that calls see.
 use Rattle.std.proofs.Common.{◌≡◌, ◌<◌, ◌+◌, length, get_or, ℕ, zero, suc, Bool, true, false, List, [], ◌∷◌, map, refl, ap, ◌∙◌, sym, subst, arith}
-use Rattle.std.specs.Prelude.{Some}
+use Rattle.std.specs.Prelude.{Some, Contains}
 use Rattle.janus_meaning.specs.Syntax as tree
-use Rattle.janus_meaning.specs.Syntax.{Name, Kind, Exp, Number, Var, At, Empty, Top, Negate, Binary, And, Or, Stm, Blk, Skip, Set, SetAt, Push, Pop, Swap, If}
-use Rattle.janus_meaning.specs.Syntax.{From, LocalInt, LocalStack, Call, Uncall, Nil, Cons}
+use Rattle.janus_meaning.specs.Syntax.{Name, Kind, Exp, Number, Var, At, Empty, Top, Negate, Binary, And, Or, Stm, Blk, Proc, Skip, Set, SetAt, Push, Pop, Swap}
+use Rattle.janus_meaning.specs.Syntax.{If, From, LocalInt, LocalStack, Call, Uncall, Nil, Cons}
 use Rattle.janus_meaning.specs.Store.{same_name}
 use Rattle.janus_meaning.specs.Shape.{Shape, Heads, kind_at, pick_newest, left_out, without}
-use Rattle.janus_meaning.specs.Formed.{IsExp, AreArguments, IsStm, IsBlk}
+use Rattle.janus_meaning.specs.Formed.{IsExp, AreArguments, IsStm, IsBlk, IsProc, AreProcs}
 use Rattle.janus_syntax.specs.declared.tree.Stm as code_stm
 use Rattle.janus_syntax.specs.declared.tree.Name as code_name
 use Rattle.janus_syntax.specs.Tree.{names_view}
@@ -99,6 +99,12 @@ pub one_seen : (es : List Name) (g : Shape) (ss : List code_stm.Stm) (i : ℕ) (
 one_seen es g [] i s lt e h = absurd (omega arith)
 one_seen es g (r ∷ ss) zero s lt e h = subst (λ s. SeesStm es g (stm_of s)) e h.0
 one_seen es g (r ∷ ss) (suc i) s lt e h = one_seen es g ss i s (omega arith) e h.1
+
+-- each of several procedures
+pub formed_one : (hs : Heads) (ps : List Proc) (p : Proc) → AreProcs hs ps → Contains ps p → IsProc hs p
+formed_one hs [] p h c = absurd (omega (arith, c.1))
+formed_one hs (q ∷ ps) p h (zero, lt, e) = subst (λ (q : Proc). IsProc hs q) e h.0
+formed_one hs (q ∷ ps) p h (suc k, lt, e) = formed_one hs ps p h.1 (k, omega (arith, lt), e)
 
 -- ---- how heavy trees are
 

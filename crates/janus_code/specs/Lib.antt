@@ -7,6 +7,7 @@ pub mod Slotted
 pub mod Flat
 pub mod CodeBlock
 pub mod Procedures
+pub mod Held
 pub mod Grown
 pub mod Fault
 pub mod Closed

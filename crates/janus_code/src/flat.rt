@@ -1,15 +1,15 @@
 //! From a cell to flat code.
 
 ghost use Rattle.std.specs.Prelude.{◌≡◌, ◌<◌, ◌≤◌, ◌^◌, List, ℕ, ◌+◌, suc, length, max, slice_index_or, IfOk, OnOk, OnErr};
-ghost use Rattle.janus_check.specs.Checked.{cell_in};
-ghost use Rattle.janus_check.specs.Sight.{in_sight, heads_seen};
+ghost use Rattle.janus_check.specs.Checked.{cell_in, names_seen, heads_called};
+ghost use Rattle.janus_check.specs.Sight.{in_sight};
 ghost use Rattle.janus_syntax.specs.View.{stm_of, block_of, plain_cell};
 ghost use Rattle.janus_check.specs.Slots.{slot, stm_in, block_in};
 ghost use Rattle.janus_code.specs.Flat.{IsBelow, BlocksAreBelow, AreBelow, AreBelow-prop, built, ahead, tree_at, block_at};
 ghost use Rattle.janus_code.specs.CodeBlock.{code_block};
 ghost use Rattle.janus_code.specs.Grown.{Grows};
+ghost use Rattle.janus_code.specs.Held.{IsMember, IsInside, HasMember, AreInsideFrom, AreReached};
 ghost use Rattle.janus_meaning.specs.Syntax.{Name, names_of};
-ghost use Rattle.janus_meaning.specs.Formed.{IsBlk};
 ghost use Rattle.janus_code.specs.Expressions.{symbol_name};
 ghost use Rattle.janus_code.specs.Numbered.{StatementHasNumbers, HaveNumbers};
 ghost use Rattle.janus_code.specs.Seen.{SeesStm, SeesBlk};
@@ -34,23 +34,25 @@ struct Draft {
     ghost below: { AreBelow members.items statements.items } by { AreBelow-prop members.items statements.items },
 }
 
-/// The flat code of a checked cell's statements, which are well formed over these names in sight; each procedure that they may call has its name in the
-/// table. The only error is want of memory, as which more names than a `usize` counts are refused too.
+/// The flat code of a checked cell's statements; each procedure that they may call has its name in the table. The only error is want of memory, as which
+/// more names than a `usize` counts are refused too.
 pub fn flatten(
     alloc: Global,
     checked: &Checked,
-    sight: &Sight,
     entries: &Names,
 ) -> Result<SlottedCode, InvertFault>
-    requires formed { IsBlk (heads_seen sight.now) (in_sight sight.now) (plain_cell (cell_in checked.now)).block }
-    requires entries { HasEntries (heads_seen sight.now) entries.now }
+    requires entries { HasEntries (heads_called checked.now) entries.now }
     ensures block { IfOk result
         (λ slotted. (xs : List Name) → AreSlots xs → HaveNumbers xs slotted.code.statements.items →
-        code_block xs slotted.code ≡ block_in entries.now (names_of (in_sight sight.now)) (plain_cell (cell_in checked.now)).block) }
+        code_block xs slotted.code ≡ block_in entries.now (names_of (names_seen checked.now)) (plain_cell (cell_in checked.now)).block) }
     ensures wide { IfOk result (λ slotted. (xs : List Name) → slotted.width ≤ length xs → HaveNumbers xs slotted.code.statements.items) }
-    ensures width { IfOk result (λ slotted. slotted.width ≡ width_of entries.now (length (in_sight sight.now)) (plain_cell (cell_in checked.now)).block) }
+    ensures width { IfOk result (λ slotted. slotted.width ≡ width_of entries.now (length (names_seen checked.now)) (plain_cell (cell_in checked.now)).block) }
+    // No statement is there that no block holds.
+    ensures reached { IfOk result (λ slotted. AreReached slotted.code.members.items slotted.code.statements.items slotted.code.body) }
 {
-    Ok(flat_code(alloc, &checked.cell().statements, sight, entries)?)
+    checked.formed_law();
+    let sight = checked.sight();
+    Ok(flat_code(alloc, &checked.cell().statements, &sight, entries)?)
 }
 
 /// The flat code of a block.
@@ -66,6 +68,7 @@ pub(crate) fn flat_code(
         code_block xs slotted.code ≡ block_in entries.now (names_of (in_sight sight.now)) (block_of block.now)) }
     ensures wide { IfOk result (λ slotted. (xs : List Name) → slotted.width ≤ length xs → HaveNumbers xs slotted.code.statements.items) }
     ensures width { IfOk result (λ slotted. slotted.width ≡ width_of entries.now (length (in_sight sight.now)) (block_of block.now)) }
+    ensures reached { IfOk result (λ slotted. AreReached slotted.code.members.items slotted.code.statements.items slotted.code.body) }
 {
     let Some(count) = sight.counted() else {
         return Err(AllocError);
@@ -117,6 +120,8 @@ fn flat_block(
         HaveNumbers xs draft.old.statements.items → HaveNumbers xs draft.new.statements.items) }
     ensures wider { draft.old.width ≤ draft.new.width }
     ensures width { OnOk result (draft.new.width ≡ max draft.old.width (length (in_sight sight.now) + open_in_block (block_of block.now))) }
+    ensures inside { IfOk result (λ b. AreInsideFrom (length draft.old.statements.items) draft.new.members.items draft.new.statements.items
+        (IsMember draft.new.members.items b)) }
 {
     let mut numbers = Vec::new(alloc);
     for i in 0..block.len() {
@@ -136,6 +141,7 @@ fn add_block(draft: &mut Draft, numbers: &[usize]) -> Result<Block, AllocError>
         ≡ ahead (tree_at xs draft.old.members.items draft.old.statements.items) numbers.now 0 (length numbers.now)) }
     ensures statements { draft.new.statements.items ≡ draft.old.statements.items }
     ensures width { draft.new.width ≡ draft.old.width }
+    ensures members { IfOk result (λ b. (i : ℕ) → i < length numbers.now → IsMember draft.new.members.items b (slice_index_or numbers.now i 0)) }
 {
     let start = draft.members.len();
     draft.members.extend_from_slice(numbers)?;
@@ -187,6 +193,7 @@ fn flat_statement(
         HaveNumbers xs draft.old.statements.items → HaveNumbers xs draft.new.statements.items) }
     ensures wider { draft.old.width ≤ draft.new.width }
     ensures width { OnOk result (draft.new.width ≡ max draft.old.width (length (in_sight sight.now) + open_in_stm (stm_of statement.now))) }
+    ensures inside { IfOk result (λ n. AreInsideFrom (length draft.old.statements.items) draft.new.members.items draft.new.statements.items (λ m. m ≡ n)) }
 {
     match statement {
         Stm::Skip => add(draft, Statement::Skip),
@@ -265,6 +272,8 @@ fn add(draft: &mut Draft, statement: Statement) -> Result<usize, AllocError>
     ensures width { draft.new.width ≡ draft.old.width }
     ensures numbered { IfOk result
         (λ n. (xs : List Name) → HaveNumbers xs draft.old.statements.items → StatementHasNumbers xs statement → HaveNumbers xs draft.new.statements.items) }
+    ensures alone { IfOk result (λ n. AreInsideFrom (length draft.old.statements.items) draft.new.members.items draft.new.statements.items (λ m. m ≡ n)) }
+    ensures inside { IfOk result (λ n. (m : ℕ) → HasMember draft.old.members.items m statement → IsInside draft.new.members.items draft.new.statements.items m) }
 {
     let number = draft.statements.len();
     draft.statements.push(statement)?;

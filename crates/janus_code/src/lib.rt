@@ -2,7 +2,8 @@
 //!
 //! To the layer above it promises that `invert` gives the inverse of a cell's statements, that `closed` gives a procedure with its local's
 //! name behind each `delocal`, that flat code stands for one block over a table of names, that `flatten` gives code that over a table of slots stands for
-//! the cell's block with slots in place of names, and `flatten_procedure` a procedure whose code stands for its body so. `janus_invert` has the inverse of
+//! the cell's block with slots in place of names, and `flatten_procedure` a procedure whose code stands for its body so, both without a statement that no
+//! block holds. `janus_invert` has the inverse of
 //! flat code; what it makes of copied expressions is copied here, where they stand. In flat code a variable's slot stands for it, and for a procedure its
 //! number in a table of procedures' names, so that what runs compares no text. What code means is told over a table of names.
 //! The inverse of a statement is that of Yokoyama and Glück (2007), "A reversible programming language and its invertible
@@ -10,7 +11,8 @@
 //! exit, and their blocks stay where they are, each inverted; `skip` and a swap stay; `push` and `pop`, `call` and `uncall` exchange, a
 //! local exchanges its two expressions; a block is reversed with each of its statements inverted.
 //!
-//! It gives again what the layers above cite with flat code: how trees are read (`View` of `janus_syntax`), and `Kind` of `janus_check`.
+//! It gives again what the layers above cite with flat code: how trees are read (`View` of `janus_syntax`), `Kind` of `janus_check`, and `Names` of
+//! `janus_names`, in which procedures have their numbers.
 #![tactic(auto)]
 
 ghost use Rattle.janus_code.specs.Cells.{InverseCellTwice};
@@ -35,6 +37,7 @@ pub use crate::flat::flatten;
 pub use crate::inverse::{invert, opposite};
 pub use crate::procedure::flatten_procedure;
 pub use janus_check::Kind;
+pub use janus_names::Names;
 
 /// A law about the definitions of `specs/`: the inverse of a cell's inverse is the cell. It does nothing.
 pub fn inverse_cell_twice_law()

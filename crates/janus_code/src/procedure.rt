@@ -1,12 +1,12 @@
 //! From a procedure to flat code.
 
-ghost use Rattle.std.specs.Prelude.{◌≡◌, ◌≤◌, List, IfOk, length, map};
+ghost use Rattle.std.specs.Prelude.{◌≡◌, ◌≤◌, List, IfOk, length, map, Contains};
 ghost use Rattle.janus_meaning.specs.Syntax.{Name};
-ghost use Rattle.janus_meaning.specs.Formed.{IsProc};
 ghost use Rattle.janus_syntax.specs.Tree.{parameters_view, procedure_view};
-ghost use Rattle.janus_syntax.specs.View.{plain_parameter, plain_procedure};
+ghost use Rattle.janus_syntax.specs.View.{plain_parameter, plain_procedure, plain_cell};
 ghost use Rattle.janus_check.specs.Slots.{stacked, procedure_in};
-ghost use Rattle.janus_check.specs.Sight.{heads_seen};
+ghost use Rattle.janus_check.specs.Checked.{cell_in, heads_called};
+ghost use Rattle.janus_code.specs.Held.{AreReached};
 ghost use Rattle.janus_code.specs.Procedures.{params_of, proc_of, ParametersHaveNumbers, ProcedureHasNumbers};
 ghost use Rattle.janus_code.specs.Slotted.{AreSlots, HasEntries, all_slots, slots_from};
 ghost use Rattle.janus_code.specs.Width.{width_of_procedure};
@@ -15,28 +15,32 @@ use crate::code::{FlatParameter, FlatProcedure, SlottedProcedure};
 use crate::expression::{entry, symbol_of};
 use crate::fault::InvertFault;
 use crate::flat::flat_code;
-use janus_check::Sight;
+use janus_check::Checked;
 use janus_check::parameter::kind_of;
 use janus_names::Names;
 use janus_syntax::tree;
 use std::alloc::{AllocError, Global};
 
-/// The flat code of a procedure, which is well formed over the procedures that calls see; each of these has its name in the table. The body sees the
-/// parameters alone, the first in the highest slot. The only error is want of memory, as which more names than a `usize` counts are refused too.
+/// The flat code of a procedure that a checked cell defines; each procedure that the cell may call has its name in the table. The body sees the parameters
+/// alone, the first in the highest slot. The only error is want of memory, as which more names than a `usize` counts are refused too.
 pub fn flatten_procedure(
     alloc: Global,
+    checked: &Checked,
     procedure: &tree::Procedure,
-    sight: &Sight,
     entries: &Names,
 ) -> Result<SlottedProcedure, InvertFault>
-    requires formed { IsProc (heads_seen sight.now) (plain_procedure (procedure_view procedure.now)) }
-    requires entries { HasEntries (heads_seen sight.now) entries.now }
+    requires defined { Contains (plain_cell (cell_in checked.now)).procedures (plain_procedure (procedure_view procedure.now)) }
+    requires entries { HasEntries (heads_called checked.now) entries.now }
     ensures procedure { IfOk result
         (λ slotted. (xs : List Name) → AreSlots xs → ProcedureHasNumbers xs slotted.procedure →
         proc_of xs slotted.procedure ≡ procedure_in entries.now (plain_procedure (procedure_view procedure.now))) }
     ensures wide { IfOk result (λ slotted. (xs : List Name) → slotted.width ≤ length xs → ProcedureHasNumbers xs slotted.procedure) }
     ensures width { IfOk result (λ slotted. slotted.width ≡ width_of_procedure entries.now (plain_procedure (procedure_view procedure.now))) }
+    ensures reached { IfOk result (λ slotted.
+        AreReached slotted.procedure.body.members.items slotted.procedure.body.statements.items slotted.procedure.body.body) }
 {
+    checked.formed_law();
+    let sight = checked.sight();
     let name = entry(entries, &procedure.name);
     let parameters = flat_parameters(alloc, &procedure.parameters)?;
     let inside = sight.body(&procedure.parameters);

@@ -1,3 +1,4 @@
 pub mod Longer
 pub mod Inverted
 pub mod InvertedBlock
+pub mod FlatCode

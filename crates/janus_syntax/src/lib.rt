@@ -12,9 +12,10 @@
 //! - `one_tokens_law`, `one_tree_law`, `one_refusal_law`: a text has one list of tokens at most, one tree at most and one
 //!   refusal at most. `tree_or_refusal_law`: it has a tree or a refusal, and not both. So no answer is left to choice.
 //! - `wanted_law`: behind the beginning of a text one item is wanted at most, and one is just behind what begins a text.
-//! - `print_cell`, `print_exp`: the text is the one that `Printing` gives the tree. That it is read as the same tree is proved in
-//!   `janus_printing`.
+//! - `print_cell`, `print_procedure`, `print_exp`: the text is the one that `Printing` gives the tree, and the only fault is want of memory. That it is
+//!   read as the same tree is proved in `janus_printing`.
 //! - `Exp::copy`, `Name::copy`: the same tree at the same places.
+//! - Tokens, trees and faults, and what their public fields have, are named at the root.
 //!
 //! The code, in reading order:
 //!
@@ -56,8 +57,10 @@ mod text_token;
 pub mod token;
 pub mod tree;
 
-pub use fault::SyntaxFault;
+pub use fault::{SyntaxFault, What};
 pub use laws::{one_refusal_law, one_tokens_law, one_tree_law, tree_or_refusal_law, wanted_law};
 pub use lexer::tokens;
 pub use parser::{parse_cell, parse_exp};
 pub use printer::{print_cell, print_exp, print_procedure};
+pub use token::{Keyword, Sign, Span, Token, TokenKind};
+pub use tree::{Cell, Declaration, Exp, Name, Operator, Parameter, Procedure, Stm, Update};

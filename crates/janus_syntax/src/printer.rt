@@ -1,6 +1,6 @@
 //! From a tree to its text.
 
-ghost use Rattle.std.specs.Prelude.{◌≡◌, IfOk, string_bytes, [], ◌∷◌, ◌++◌, false};
+ghost use Rattle.std.specs.Prelude.{◌≡◌, IfOk, IfErr, string_bytes, [], ◌∷◌, ◌++◌, false};
 ghost use Rattle.janus_syntax.specs.Tree.{names_view, exp_view, stm_view, block_view, declaration_view, declarations_view, parameter_view, parameters_view};
 ghost use Rattle.janus_syntax.specs.Tree.{procedure_view, procedures_view, cell_view};
 ghost use Rattle.janus_syntax.specs.Printed.{line_view, Becomes, Adds};
@@ -9,11 +9,13 @@ ghost use Rattle.janus_syntax.specs.Printing.{more_names_pieces, names_pieces, c
 ghost use Rattle.janus_syntax.specs.Printing.{sign_level, infix_pieces, exp_pieces, update_sign, whole_pieces, stm_pieces, block_pieces, declaration_pieces};
 ghost use Rattle.janus_syntax.specs.Printing.{declarations_pieces, parameter_pieces, more_parameters_pieces, parameters_pieces, procedure_pieces};
 ghost use Rattle.janus_syntax.specs.Printing.{procedures_pieces, printed, printed_procedure, printed_exp, no_text};
+ghost use Rattle.janus_syntax.specs.declared.fault.SyntaxFault.TheVariants.{Memory};
 
+use crate::fault::SyntaxFault;
 use crate::operator::infix_of;
 use crate::token::{Keyword, Sign};
 use crate::tree::{Cell, Declaration, Exp, Name, Operator, Parameter, Procedure, Stm, Update};
-use std::alloc::{AllocError, Global};
+use std::alloc::Global;
 
 /// A line as far as it is printed. It keeps that memory was refused, and then its text does not count: who prints a tree goes on to its end, and
 /// asks once.
@@ -441,29 +443,31 @@ fn no_line(alloc: Global) -> Line
     }
 }
 
-/// The text of a line that is printed; an error if memory was refused.
-fn text_of(line: Line) -> Result<String, AllocError>
-    ensures { IfOk result (λ text. (line.refused ≡ false) × (string_bytes text ≡ string_bytes line.text)) }
+/// The text of a line that is printed; `Memory` if memory was refused.
+fn text_of(line: Line) -> Result<String, SyntaxFault>
+    ensures text { IfOk result (λ text. (line.refused ≡ false) × (string_bytes text ≡ string_bytes line.text)) }
+    ensures memory { IfErr result (λ fault. fault ≡ Memory) }
 {
     if line.refused {
-        return Err(AllocError);
+        return Err(SyntaxFault::Memory);
     }
     Ok(line.text)
 }
 
-/// The procedure as it is printed, as in the print of a cell; an error for want of memory.
-pub fn print_procedure(alloc: Global, procedure: &Procedure) -> Result<String, AllocError>
-    ensures { IfOk result (λ text. string_bytes text ≡ printed_procedure (procedure_view procedure.now)) }
+/// The procedure as it is printed, as in the print of a cell; the only fault is `Memory`.
+pub fn print_procedure(alloc: Global, procedure: &Procedure) -> Result<String, SyntaxFault>
+    ensures text { IfOk result (λ text. string_bytes text ≡ printed_procedure (procedure_view procedure.now)) }
+    ensures memory { IfErr result (λ fault. fault ≡ Memory) }
 {
     let mut line = no_line(alloc);
     put_procedure(alloc, &mut line, procedure);
     text_of(line)
 }
 
-/// The cell as it is printed: one line, all parts told, with parentheses only where precedence needs them; an error for want
-/// of memory.
-pub fn print_cell(alloc: Global, cell: &Cell) -> Result<String, AllocError>
-    ensures { IfOk result (λ text. string_bytes text ≡ printed (cell_view cell.now)) }
+/// The cell as it is printed: one line, all parts told, with parentheses only where precedence needs them; the only fault is `Memory`.
+pub fn print_cell(alloc: Global, cell: &Cell) -> Result<String, SyntaxFault>
+    ensures text { IfOk result (λ text. string_bytes text ≡ printed (cell_view cell.now)) }
+    ensures memory { IfErr result (λ fault. fault ≡ Memory) }
 {
     let mut line = no_line(alloc);
     put_declarations(alloc, &mut line, &cell.declarations);
@@ -472,10 +476,10 @@ pub fn print_cell(alloc: Global, cell: &Cell) -> Result<String, AllocError>
     text_of(line)
 }
 
-/// The expression as it is printed: one line, with parentheses only where precedence needs them; an error for want of
-/// memory.
-pub fn print_exp(alloc: Global, exp: &Exp) -> Result<String, AllocError>
-    ensures { IfOk result (λ text. string_bytes text ≡ printed_exp (exp_view exp.now)) }
+/// The expression as it is printed: one line, with parentheses only where precedence needs them; the only fault is `Memory`.
+pub fn print_exp(alloc: Global, exp: &Exp) -> Result<String, SyntaxFault>
+    ensures text { IfOk result (λ text. string_bytes text ≡ printed_exp (exp_view exp.now)) }
+    ensures memory { IfErr result (λ fault. fault ≡ Memory) }
 {
     let mut line = no_line(alloc);
     put_whole(alloc, &mut line, exp);

@@ -31,5 +31,8 @@ pub fn procedure_text(alloc: Global, procedure: &Procedure) -> Result<String, Al
     ensures { IfOk result (λ text. string_bytes text ≡ procedure_text_of (plain_procedure (procedure_view procedure.now))) }
 {
     let procedure = closed(alloc, procedure)?;
-    print_procedure(alloc, &procedure)
+    let Ok(text) = print_procedure(alloc, &procedure) else {
+        return Err(AllocError);
+    };
+    Ok(text)
 }

@@ -98,7 +98,7 @@ fn check_text(env: &Env, text: &str, sheet: &mut Sheet) {
 }
 
 /// What the check said of a cell.
-fn tell_check(checked: Result<(Checked, Env), CheckFault>, sheet: &mut Sheet) {
+fn tell_check(checked: Result<Checked, CheckFault>, sheet: &mut Sheet) {
     match checked {
         Ok(_) => sheet.write("passes"),
         Err(fault) => {

@@ -4,12 +4,10 @@
 //! an expression, which is copied, and what is printed of the copy.
 use crate::outlines::{write_cell, write_exp};
 use janus_invert::invert;
-use janus_syntax::token::{Token, TokenKind};
-use janus_syntax::tree::{Cell, Exp};
 use janus_syntax::{
-    SyntaxFault, parse_cell, parse_exp, print_cell, print_exp, print_procedure, tokens,
+    Cell, Exp, SyntaxFault, Token, TokenKind, parse_cell, parse_exp, print_cell, print_exp,
+    print_procedure, tokens,
 };
-use std::alloc::AllocError;
 use tests_rows::{Sheet, cut, written};
 
 /// Writes the answer to a call, or the refusal of its text.
@@ -38,10 +36,10 @@ fn tell_fault(fault: SyntaxFault, sheet: &mut Sheet) {
 }
 
 /// Writes what was printed, or that there was no memory for it.
-fn tell_printed(printed: Result<String, AllocError>, sheet: &mut Sheet) {
+fn tell_printed(printed: Result<String, SyntaxFault>, sheet: &mut Sheet) {
     match printed {
         Ok(text) => sheet.write(&text),
-        Err(_) => tell_fault(SyntaxFault::Memory, sheet),
+        Err(fault) => tell_fault(fault, sheet),
     }
 }
 
@@ -124,7 +122,7 @@ fn tell_of_exp(exp: &Exp, sheet: &mut Sheet) {
 fn tell_again(cell: &Cell, sheet: &mut Sheet) {
     match print_cell(sheet.alloc(), cell) {
         Ok(line) => tell_tree(&line, sheet),
-        Err(_) => tell_fault(SyntaxFault::Memory, sheet),
+        Err(fault) => tell_fault(fault, sheet),
     }
 }
 

@@ -6,6 +6,16 @@ use Rattle.janus_check.proofs.FirstLemmas.{first_none, found_is_first}
 use Rattle.janus_check.proofs.FormedLemmas.{no_faults_formed}
 use Rattle.janus_check.proofs.cell.check.Goals as goal
 
+pub new-requires-clause-passes : goal.new-requires-clause-passes
+new-requires-clause-passes c =
+    first_none (faults_over c.args.env.now (cell_view c.args.cell)) (sym c.in_ok-first_fault.ensures.first ∙ c.in-None.is)
+
+pub new-requires-clause-own : goal.new-requires-clause-own
+new-requires-clause-own c =
+    c.in_ok-first_fault.ensures.own
+    (no_faults_formed (shape_in c.args.env.now.names) (heads_in c.args.env.now.procedures) (cell_view c.args.cell)
+    (first_none (faults_over c.args.env.now (cell_view c.args.cell)) (sym c.in_ok-first_fault.ensures.first ∙ c.in-None.is)))
+
 pub returns-in-None-clause-passes : goal.returns-in-None-clause-passes
 returns-in-None-clause-passes c =
     first_none (faults_over c.args.env.now (cell_view c.args.cell)) (sym c.in_ok-first_fault.ensures.first ∙ c.in-None.is)
@@ -15,21 +25,6 @@ returns-in-None-clause-well_formed c =
     no_faults_formed (shape_in c.args.env.now.names) (heads_in c.args.env.now.procedures) (cell_view c.args.cell)
     (first_none (faults_over c.args.env.now (cell_view c.args.cell)) (sym c.in_ok-first_fault.ensures.first ∙ c.in-None.is))
 
-pub returns-in-None-clause-own : goal.returns-in-None-clause-own
-returns-in-None-clause-own c =
-    c.in_ok-first_fault.ensures.own
-    (no_faults_formed (shape_in c.args.env.now.names) (heads_in c.args.env.now.procedures) (cell_view c.args.cell)
-    (first_none (faults_over c.args.env.now (cell_view c.args.cell)) (sym c.in_ok-first_fault.ensures.first ∙ c.in-None.is)))
-
-pub returns-in-Some-clause-first : goal.returns-in-Some-clause-first
-returns-in-Some-clause-first c =
+pub returns-clause-first : goal.returns-clause-first
+returns-clause-first c =
     λ _. found_is_first (faults_over c.args.env.now (cell_view c.args.cell)) c.in-Some.fault (sym c.in_ok-first_fault.ensures.first ∙ c.in-Some.is)
-
-pub new-requires : goal.new-requires
-new-requires c =
-    ∣ (
-      shape_in c.args.env.now.names,
-      heads_in c.args.env.now.procedures,
-      no_faults_formed (shape_in c.args.env.now.names) (heads_in c.args.env.now.procedures) (cell_view c.args.cell)
-          (first_none (faults_over c.args.env.now (cell_view c.args.cell)) (sym c.in_ok-first_fault.ensures.first ∙ c.in-None.is)),
-    ) ∣₁

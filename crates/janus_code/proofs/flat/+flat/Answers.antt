@@ -3,8 +3,11 @@ use Rattle.std.specs.Prelude.{slice_get, Some}
 use Rattle.std.proofs.lemmas.List.{drop_all}
 use Rattle.std.proofs.lemmas.Option.{slice_get_within, slice_get_read}
 use Rattle.janus_syntax.specs.View.{name_of, stm_of, block_of}
+use Rattle.janus_code.specs.declared.code.Statement.{Statement}
 use Rattle.janus_code.specs.Flat.{tree_at, ahead}
 use Rattle.janus_code.proofs.Trees.{row_is, block_grown, grows_on}
+use Rattle.janus_code.specs.Held.{IsMember, AreInsideFrom}
+use Rattle.janus_code.proofs.HeldLemmas.{if_both, if_three, both_inside, one_inside, row_inside, row_reached, IsListed}
 use Rattle.janus_code.proofs.Flattened.{if_ok, always_ok, if_parts, loop_parts, local_int_part, local_stack_part, row_below, row_trees, if_flat, loop_flat}
 use Rattle.janus_code.proofs.Flattened.{local_int_flat, local_stack_flat}
 use Rattle.janus_code.proofs.Seeing.{block_weight, one_seen, one_lighter}
@@ -184,6 +187,8 @@ flat_block-loop-i-preserved t c =
       numbered = λ xs w p. one.numbered xs w (v.numbered xs (omega (arith, w, one.wider)) p);
       wider = omega (arith, v.wider, one.wider);
       width = omega (arith, v.width, one.width, open_more c.args.block.now i s c.index-block-i.is inside);
+      inside = row_inside (length c.args.draft.now.statements.items) old.members.items new.members.items old.statements.items new.statements.items ns more n i
+          one.grows grown v.as_many v.inside one.inside;
     }
 
 pub flat_statement-flat_block-requires-in-LocalInt : goal.flat_statement-flat_block-requires-in-LocalInt
@@ -372,3 +377,63 @@ flat_statement-returns-in_ok-block-in-LocalStack-clause-width t c =
     c.deref-in-LocalStack.result.now c.in-LocalStack.is c.deref-in-LocalStack.ensures.value in
     always_ok c.add-in-LocalStack.result (λ n.
     omega (arith, most, c.in_ok-symbol-in-LocalStack.ensures.width, c.in_ok-block-in-LocalStack.ensures.width, c.add-in-LocalStack.ensures.width))
+
+pub flat_block-returns-clause-inside : goal.flat_block-returns-clause-inside
+flat_block-returns-clause-inside t c =
+    let d = c.loop-i.draft in
+    let v = c.loop-i.invariant in
+    let ns = c.deref.result.now in
+    let long : c.loop-i.i ≤ length ns = omega (arith, ap length c.deref.ensures.value, v.as_many) in
+    let listed : AreInsideFrom (length c.args.draft.now.statements.items) d.members.items d.statements.items (IsListed ns c.loop-i.i) =
+    subst (λ (ns : List ℕ). AreInsideFrom (length c.args.draft.now.statements.items) d.members.items d.statements.items (IsListed ns c.loop-i.i))
+    (sym c.deref.ensures.value) v.inside in
+    if_both c.add_block.result (λ b g members.
+    row_reached (length c.args.draft.now.statements.items) d.members.items c.add_block.new.draft.members.items d.statements.items
+    c.add_block.new.draft.statements.items ns c.loop-i.i b g c.add_block.ensures.statements long listed members)
+    c.add_block.ensures.grows c.add_block.ensures.members
+
+pub flat_statement-returns-in_ok-test-in-If-clause-inside : goal.flat_statement-returns-in_ok-test-in-If-clause-inside
+flat_statement-returns-in_ok-test-in-If-clause-inside t c =
+    let d = c.flat_block.new.draft in
+    let e = c.flat_block-in-If.new.draft in
+    let f = c.add-in-If.new.draft in
+    if_three c.add-in-If.result (λ n g alone held.
+    both_inside (length c.args.draft.now.statements.items) d.members.items e.members.items f.members.items d.statements.items e.statements.items
+    f.statements.items c.in_ok-then_part-in-If.then_part c.in_ok-else_part-in-If.else_part n c.in_ok-else_part-in-If.ensures.grows g
+    c.in_ok-then_part-in-If.ensures.inside c.in_ok-else_part-in-If.ensures.inside alone held)
+    c.add-in-If.ensures.grows c.add-in-If.ensures.alone c.add-in-If.ensures.inside
+
+pub flat_statement-returns-in_ok-entry-in-Loop-clause-inside : goal.flat_statement-returns-in_ok-entry-in-Loop-clause-inside
+flat_statement-returns-in_ok-entry-in-Loop-clause-inside t c =
+    let d = c.flat_block-in-Loop.new.draft in
+    let e = c.flat_block-in-Loop-2.new.draft in
+    let f = c.add-in-Loop.new.draft in
+    if_three c.add-in-Loop.result (λ n g alone held.
+    both_inside (length c.args.draft.now.statements.items) d.members.items e.members.items f.members.items d.statements.items e.statements.items
+    f.statements.items c.in_ok-do_part-in-Loop.do_part c.in_ok-loop_part-in-Loop.loop_part n c.in_ok-loop_part-in-Loop.ensures.grows g
+    c.in_ok-do_part-in-Loop.ensures.inside c.in_ok-loop_part-in-Loop.ensures.inside alone held)
+    c.add-in-Loop.ensures.grows c.add-in-Loop.ensures.alone c.add-in-Loop.ensures.inside
+
+pub flat_statement-returns-in_ok-first-in-LocalInt-clause-inside : goal.flat_statement-returns-in_ok-first-in-LocalInt-clause-inside
+flat_statement-returns-in_ok-first-in-LocalInt-clause-inside t c =
+    let d = c.flat_block-in-LocalInt.new.draft in
+    let e = c.add-in-LocalInt.new.draft in
+    let p = c.in_ok-block-in-LocalInt.block in
+    let first : AreInsideFrom (length c.args.draft.now.statements.items) d.members.items d.statements.items (IsMember d.members.items p) =
+    subst (λ (ss : List Statement). AreInsideFrom (length ss) d.members.items d.statements.items (IsMember d.members.items p))
+    c.in_ok-symbol-in-LocalInt.ensures.statements c.in_ok-block-in-LocalInt.ensures.inside in
+    if_three c.add-in-LocalInt.result (λ n g alone held.
+    one_inside (length c.args.draft.now.statements.items) d.members.items e.members.items d.statements.items e.statements.items p n g first alone held)
+    c.add-in-LocalInt.ensures.grows c.add-in-LocalInt.ensures.alone c.add-in-LocalInt.ensures.inside
+
+pub flat_statement-returns-in_ok-block-in-LocalStack-clause-inside : goal.flat_statement-returns-in_ok-block-in-LocalStack-clause-inside
+flat_statement-returns-in_ok-block-in-LocalStack-clause-inside t c =
+    let d = c.flat_block-in-LocalStack.new.draft in
+    let e = c.add-in-LocalStack.new.draft in
+    let p = c.in_ok-block-in-LocalStack.block in
+    let first : AreInsideFrom (length c.args.draft.now.statements.items) d.members.items d.statements.items (IsMember d.members.items p) =
+    subst (λ (ss : List Statement). AreInsideFrom (length ss) d.members.items d.statements.items (IsMember d.members.items p))
+    c.in_ok-symbol-in-LocalStack.ensures.statements c.in_ok-block-in-LocalStack.ensures.inside in
+    if_three c.add-in-LocalStack.result (λ n g alone held.
+    one_inside (length c.args.draft.now.statements.items) d.members.items e.members.items d.statements.items e.statements.items p n g first alone held)
+    c.add-in-LocalStack.ensures.grows c.add-in-LocalStack.ensures.alone c.add-in-LocalStack.ensures.inside

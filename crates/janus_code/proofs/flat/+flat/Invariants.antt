@@ -1,10 +1,12 @@
 use Rattle.std.proofs.Common.{◌≡◌, ℕ, ◌<◌, ◌≤◌, ◌+◌, max, List, length, get_or, drop}
 use Rattle.std.specs.Prelude.{slice_get, Some}
 use Rattle.janus_syntax.specs.View.{stm_of, block_of}
+use Rattle.janus_code.proofs.HeldLemmas.{IsListed}
 use Rattle.janus_code.proofs.Seeing.{stm_weight, block_weight}
 use Rattle.janus_syntax.specs.declared.tree.Stm as code_stm
 use Rattle.janus_code.specs.Flat.{tree_at}
 use Rattle.janus_code.specs.Grown.{Grows}
+use Rattle.janus_code.specs.Held.{AreInsideFrom}
 use Rattle.janus_code.specs.Numbered.{HaveNumbers}
 use Rattle.janus_check.specs.Sight.{in_sight}
 use Rattle.janus_meaning.specs.Syntax.{Name, names_of}
@@ -24,6 +26,7 @@ invariant-flat_block-loop-i l = record {
   wider : l.fn.draft.width ≤ l.draft.width;
   width : max l.draft.width (length (in_sight l.sight) + open_in_block (block_of (drop l.i l.block)))
       ≡ max l.fn.draft.width (length (in_sight l.sight) + open_in_block (block_of l.block));
+  inside : AreInsideFrom (length l.fn.draft.statements.items) l.draft.members.items l.draft.statements.items (IsListed l.numbers.items l.i);
 }
 
 abbrev pub decreases-flat_block : goal.decreases-flat_block

@@ -1,5 +1,6 @@
 use Rattle.std.proofs.Common.{ℕ, List, sym, subst, arith}
 use Rattle.janus_code.specs.Grown.{Grows}
+use Rattle.janus_code.proofs.HeldLemmas.{members_added}
 use Rattle.janus_code.proofs.Trees.{grows_by_members, below_if, block_added}
 use Rattle.janus_code.proofs.flat.add_block.Goals as goal
 
@@ -22,4 +23,11 @@ returns-clause-block c =
     let ns = c.args.numbers.now in
     λ xs. block_added xs ms ns d.statements.items (c.extend_from_slice.new.self.items) (record { start = c.len-start.result; end = c.len.result })
     d.below c.requires c.in_ok-extend_from_slice.ensures.items (omega (arith, d.members.ok.0))
+    (omega (arith, d.members.ok.0, c.in_ok-extend_from_slice.ensures.len))
+
+pub returns-clause-members : goal.returns-clause-members
+returns-clause-members c =
+    let d = c.args.draft.now in
+    members_added d.members.items c.args.numbers.now (c.extend_from_slice.new.self.items) (record { start = c.len-start.result; end = c.len.result })
+    c.in_ok-extend_from_slice.ensures.items (omega (arith, d.members.ok.0))
     (omega (arith, d.members.ok.0, c.in_ok-extend_from_slice.ensures.len))

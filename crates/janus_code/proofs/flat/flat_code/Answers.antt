@@ -1,9 +1,10 @@
-use Rattle.std.proofs.Common.{◌≡◌, ℕ, List, ◌≤◌, length, ◌∙◌, sym, subst, arith}
+use Rattle.std.proofs.Common.{◌≡◌, ℕ, List, ◌≤◌, length, ap, ◌∙◌, sym, subst, arith}
 use Rattle.janus_meaning.specs.Syntax.{names_of}
 use Rattle.janus_check.specs.Slots.{block_in}
 use Rattle.janus_syntax.specs.View.{block_of}
 use Rattle.janus_check.specs.Sight.{in_sight}
 use Rattle.janus_code.specs.Flat.{block_at, tree_at}
+use Rattle.janus_code.specs.Held.{AreReached}
 use Rattle.janus_code.specs.Numbered.{HaveNumbers}
 use Rattle.janus_code.specs.Slotted.{all_slots}
 use Rattle.janus_code.specs.declared.code.Statement.{Statement}
@@ -23,3 +24,12 @@ returns-clause-block c =
     (subst (λ (ss : List Statement). block_at (tree_at all_slots c.flat_block.new.draft.members.items ss) c.flat_block.new.draft.members.items b ≡ block)
     (sym c.shrink_to_fit.ensures.items) c.in_ok-body.ensures.block) in
     λ xs s h. same_code xs all_slots _ s are_all h all ∙ code_is _ ∙ is
+
+pub returns-clause-reached : goal.returns-clause-reached
+returns-clause-reached c =
+    let b = c.in_ok-body.body in
+    let d = c.flat_block.new.draft in
+    let made : AreReached d.members.items d.statements.items b = λ n lt.
+    c.in_ok-body.ensures.inside n (omega (arith, ap length c.new.ensures.items)) lt in
+    subst (λ (ms : List ℕ). AreReached ms c.shrink_to_fit.new.self.items b) (sym c.shrink_to_fit-2.ensures.items)
+    (subst (λ (ss : List Statement). AreReached d.members.items ss b) (sym c.shrink_to_fit.ensures.items) made)

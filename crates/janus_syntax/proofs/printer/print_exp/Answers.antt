@@ -1,5 +1,5 @@
 use Rattle.janus_syntax.proofs.Pieces.{told}
 use Rattle.janus_syntax.proofs.printer.print_exp.Goals as goal
 
-pub returns : goal.returns
-returns c = told _ _ _ _ c.no_line-line.ensures c.put_whole.ensures c.text_of.ensures
+pub returns-clause-text : goal.returns-clause-text
+returns-clause-text c = told _ _ _ _ c.no_line-line.ensures c.put_whole.ensures c.text_of.ensures.text

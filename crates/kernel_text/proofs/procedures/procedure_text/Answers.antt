@@ -1,5 +1,4 @@
-use Rattle.std.proofs.Common.{◌≡◌, ℕ, List, ap, ◌∙◌, sym, subst, string_bytes}
-use Rattle.std.specs.Prelude.{IfOk}
+use Rattle.std.proofs.Common.{ap, ◌∙◌, sym}
 use Rattle.janus_syntax.specs.Tree.{procedure_view}
 use Rattle.janus_syntax.specs.Printing.{printed_procedure}
 use Rattle.kernel_text.proofs.OnePrint.{text_is_print}
@@ -7,6 +6,4 @@ use Rattle.kernel_text.proofs.procedures.procedure_text.Goals as goal
 
 pub returns : goal.returns
 returns c =
-    subst (λ (t : List ℕ). IfOk c.print_procedure.result (λ text. string_bytes text ≡ t))
-    (ap printed_procedure c.in_ok-procedure.ensures ∙ sym (text_is_print (procedure_view c.args.procedure.now)))
-    c.print_procedure.ensures
+    c.in-Ok.ensures.text ∙ ap printed_procedure c.in_ok-procedure.ensures ∙ sym (text_is_print (procedure_view c.args.procedure.now))
