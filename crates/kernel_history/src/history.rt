@@ -208,7 +208,8 @@ impl<L: Ledger> History<L> {
         self.tree.position
     }
 
-    /// The cell of a node, as it was read from its text and checked; none of the root, or where there is no such node.
+    /// A tree that is read as the cell of a node; none of the root, or where there is no such node. Which places its names and numbers have, and which
+    /// names stand behind `delocal`, is not said.
     pub fn cell(&self, node: usize) -> Option<&Cell>
         ensures some { IfSome result (λ cell. IsTreeAt self.now.state.past node (cell_view cell.now)) }
         ensures none { IfNone result (HasNoTree self.now.state.past node) }
