@@ -151,6 +151,9 @@ fn prepare<L: Ledger>(
     ensures named { IfOk result (λ program. AreListed runner.new.entries (procedures_of program)) }
     // Its bodies are behind those that were kept, with none behind them, and what is refused leaves those alone.
     ensures behind { IfOk result (λ program. program.first ≡ length (kept_in runner.old.procedures)) }
+    ensures first_name { IfOk result (λ program. program.first_name ≡ length runner.old.entries) }
+    ensures no_names { OnErr result (runner.new.entries ≡ runner.old.entries) }
+    ensures no_slots { OnErr result (runner.new.counted.store.names ≡ runner.old.counted.store.names) }
     ensures last { IfOk result (λ program. length (kept_in runner.new.procedures) ≡ program.first + length (procedures_of program)) }
     ensures older { KeepsOlder runner.old.procedures runner.new.procedures }
     ensures none { OnErr result (kept_in runner.new.procedures ≡ kept_in runner.old.procedures) }
@@ -242,7 +245,7 @@ impl<L: Ledger> History<L> {
             Err(refusal) => return Begun::Ended(Outcome::Refused(refusal)),
         };
         if self.tree.cells.room().is_err() || self.runner.enter(&program).is_err() {
-            self.runner.procedures.forget(program.first);
+            self.runner.forget(&program);
             return Begun::Ended(Outcome::Refused(Refusal::Memory));
         }
         self.job = Open::Inside(Entered {

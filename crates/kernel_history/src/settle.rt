@@ -15,6 +15,7 @@ ghost use Rattle.kernel_loader.specs.Runner.{Is, Between, KeepsCounts, writes_of
 ghost use Rattle.kernel_history.specs.Bodies.{IsProgramOf, NodesAreReady, KeepsNoOther};
 ghost use Rattle.kernel_history.specs.Standing.{shown_here};
 ghost use Rattle.kernel_history.specs.Kept.{Kept, left_by, HasCome, HasComeAt, ComesToEnd, HasPathFor, SettlesFrom, SettlesAt};
+ghost use Rattle.kernel_history.specs.Kept.{entries_left, CameInside};
 
 use crate::job::{Entered, Open, Work};
 use crate::tree::{EndedCell, HistoryTree, below};
@@ -63,7 +64,7 @@ fn turned(work: &Work, why: Why) -> Outcome
 }
 
 /// Back at the count 0: the names that were declared at the begin and the procedures that were defined are taken back, and those of a
-/// posted cell are forgotten.
+/// posted cell are forgotten: of what was loaded for it no body is kept, and no name stands in the table.
 fn settle_back<L: Ledger>(tree: &HistoryTree, runner: &mut Runner<L>, work: &Work)
     requires kept { (why : Why) × Kept tree.now runner.old (Open.Inside (record { work = work.now; count = 0; heading = Heading.GoesBack why })) }
     requires whole { IsWhole runner.old.counted.store }
@@ -71,13 +72,14 @@ fn settle_back<L: Ledger>(tree: &HistoryTree, runner: &mut Runner<L>, work: &Wor
     ensures ready { NodesAreReady tree.now runner.new }
     ensures no_other { KeepsNoOther tree.now runner.new.procedures }
     ensures names { GoOn runner.old.counted.store.names runner.new.counted.store.names }
-    ensures entries { runner.new.entries ≡ runner.old.entries }
+    ensures entries { runner.new.entries ≡ entries_left work.now runner.old.entries }
     ensures counts { KeepsCounts runner.old runner.new }
+    ensures cursor { runner.new.cursor ≡ runner.old.cursor }
 {
     match work {
         Work::Cell(program) => {
             runner.leave(program);
-            runner.procedures.forget(program.first);
+            runner.forget(program);
         }
         Work::Move(travel) => match travel.way() {
             Way::Up => {}
@@ -99,6 +101,8 @@ fn go_back<L: Ledger>(
     ensures kept { Kept tree.now runner.new (left_by result entered.new) }
     ensures written { IsWritten (steps_back entered.old.count m) (writes_of runner.old) (writes_of runner.new) }
     ensures counted { steps_of runner.new ≡ steps_of runner.old + steps_back entered.old.count m }
+    // The cursor too, where the cell is left by it.
+    ensures came { CameInside tree.now entered.old.work m (steps_back entered.old.count m) runner.old runner.new }
 {
     runner.back(program_of(tree, &entered.work), m);
     let left = entered.count.saturating_sub(m);
@@ -173,6 +177,7 @@ fn settle_up<L: Ledger>(
     ensures step { SettlesFrom tree.old runner.old (Work.Move travel) n result.1 (state_of tree.new result.0) }
     ensures kept { Kept tree.new runner.new result.0 }
     ensures counts { KeepsCounts runner.old runner.new }
+    ensures cursor { runner.new.cursor ≡ runner.old.cursor }
 {
     runner.leave(&tree.cells.content(tree.position).program);
     tree.position = tree.cells.parent(tree.position);
@@ -208,6 +213,7 @@ fn settle<L: Ledger>(
     ensures step { SettlesFrom tree.old runner.old work n result.1 (state_of tree.new result.0) }
     ensures kept { Kept tree.new runner.new result.0 }
     ensures counts { KeepsCounts runner.old runner.new }
+    ensures cursor { runner.new.cursor ≡ runner.old.cursor }
 {
     match work {
         Work::Cell(program) => settle_cell(tree, runner, program, n),
@@ -224,6 +230,7 @@ fn settle_job<L: Ledger>(tree: &mut HistoryTree, runner: &mut Runner<L>, job: &m
     ensures step { SettlesAt tree.old runner.old job.old result (state_of tree.new job.new) }
     ensures kept { Kept tree.new runner.new job.new }
     ensures counts { KeepsCounts runner.old runner.new }
+    ensures cursor { runner.new.cursor ≡ runner.old.cursor }
 {
     let Open::Inside(entered) = mem::replace(job, Open::Idle) else {
         unreachable!()
@@ -249,6 +256,7 @@ fn go_on<L: Ledger>(
     ensures end { IfNone result (ComesToEnd tree.now runner.new entered.old m entered.new) }
     ensures written { WritesOn (past_of tree.now) (work_of entered.old.work) entered.old.count m (writes_of runner.old) (writes_of runner.new) }
     ensures counted { StepsOn (past_of tree.now) (work_of entered.old.work) entered.old.count m (steps_of runner.old) (steps_of runner.new) }
+    ensures came { IfNone result (CameInside tree.now entered.old.work m (entered.new.count - entered.old.count) runner.old runner.new) }
 {
     match runner.run(program_of(tree, &entered.work), m) {
         Progress::Went => {
@@ -284,6 +292,7 @@ fn slice_inside<L: Ledger>(
     ensures unasked { IfNone result (asked ≡ false) }
     ensures written { WritesOnSlice (state_of tree.now (Open.Inside entered.old)) m asked (writes_of runner.old) (writes_of runner.new) }
     ensures counted { StepsOnSlice (state_of tree.now (Open.Inside entered.old)) m asked (steps_of runner.old) (steps_of runner.new) }
+    ensures came { IfNone result (CameInside tree.now entered.old.work m (entered.new.count - entered.old.count) runner.old runner.new) }
 {
     match entered.heading {
         Heading::GoesBack(why) => Some(go_back(tree, runner, entered, why, m)),

@@ -7,7 +7,7 @@ use Rattle.janus_slots.specs.Slots.{procedures_in}
 use Rattle.janus_slots.specs.Law.{AreListed}
 use Rattle.kernel_runner.specs.Bodies.{Define}
 use Rattle.kernel_runner.specs.Procedures.{kept_in}
-use Rattle.kernel_runner.specs.Runner.{ShownWorld, Is, Between}
+use Rattle.kernel_runner.specs.Runner.{ShownWorld, Shows, Is, Between}
 use Rattle.kernel_runner.specs.declared.runner.Runner.{Runner}
 use Rattle.kernel_loader.proofs.Listed.{procedures_stay}
 use Rattle.kernel_loader.proofs.CodeCalls.{defined_call}
@@ -25,18 +25,22 @@ shown_same old es shown onward is =
     procedures_stay old.entries es onward ps h.listed
     (defined_call old.counted.store.names h.slots old.entries (kept_in old.procedures) shown.bodies ps h.defined.bodies)
 
+-- a table of fewer names, in which all that is shown is listed, shows the same
+pub shows_less : {L : Type 0} (runner : Runner L) (es : List Name) (shown : ShownWorld) → AreListed es shown.world.procedures →
+    procedures_in runner.entries shown.world.procedures ≡ procedures_in es shown.world.procedures → Shows runner shown →
+    Shows (record runner { entries = es }) shown
+shows_less runner es shown listed same h = record {
+  store = h.store;
+  texts = h.texts;
+  slots = h.slots;
+  listed = listed;
+  defined = subst (λ (qs : List Proc). Define runner.counted.store.names runner.procedures shown.bodies qs) same h.defined;
+}
+
+-- so what was listed since can be taken out again
 pub shows_unlisted : {L : Type 0} (old mid : Runner L) (es : List Name) (shown : ShownWorld) → GoOn old.entries mid.entries → es ≡ old.entries →
-    Is old (Between shown) → Is mid (Between shown) → Is (record mid { entries = es }) (Between shown)
-shows_unlisted old mid es shown onward same is now =
+    Is old (Between shown) → Shows mid shown → Shows (record mid { entries = es }) shown
+shows_unlisted old mid es shown onward same is h =
     let ps : List Proc = shown.world.procedures in
-    let named : procedures_in mid.entries ps ≡ procedures_in es ps =
-    shown_same old mid.entries shown onward is ∙ ap (λ (l : List Name). procedures_in l ps) (sym same) in (
-      record {
-        store = now.0.store;
-        texts = now.0.texts;
-        slots = now.0.slots;
-        listed = subst (λ (l : List Name). AreListed l ps) (sym same) is.0.listed;
-        defined = subst (λ (qs : List Proc). Define mid.counted.store.names mid.procedures shown.bodies qs) named now.0.defined;
-      },
-      now.1,
-    )
+    shows_less mid es shown (subst (λ (l : List Name). AreListed l ps) (sym same) is.0.listed)
+    (shown_same old mid.entries shown onward is ∙ ap (λ (l : List Name). procedures_in l ps) (sym same)) h

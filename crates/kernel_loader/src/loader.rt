@@ -56,6 +56,8 @@ pub fn load<L: Ledger>(
     ensures ready { IfOk result (λ program. IsReady runner.new.counted.store.names runner.new.entries
         (names_in (entered (cell_of_program program) (world_of (in_a_row procedures.now) runner.old)).store) runner.new.procedures program) }
     ensures named { IfOk result (λ program. AreListed runner.new.entries (procedures_of program)) }
+    // Its names are behind those that stood in the table, and are of its procedures.
+    ensures first_name { IfOk result (λ program. program.first_name ≡ length runner.old.entries) }
     ensures only { IfOk result (λ program. AddNamesOf runner.old.entries runner.new.entries (procedures_of program)) }
     // What is refused leaves no names in the table, and no slots.
     ensures no_names { OnErr result (runner.new.entries ≡ runner.old.entries) }
@@ -78,11 +80,13 @@ pub fn load<L: Ledger>(
         return Err(Refusal::Memory);
     };
     let (checked, own) = cell_of_text(alloc, text, &env)?;
+    let first_name = runner.entries.len();
     match link(alloc, &env, &own, &checked, runner) {
         Ok((book, first)) => Ok(Program {
             book,
             checked,
             first,
+            first_name,
         }),
         Err(_) => Err(Refusal::Memory),
     }
@@ -102,7 +106,7 @@ fn link<L: Ledger>(
     requires own { IsOwn env.now own.now (cell_in checked.now) }
     ensures ready { IfOk result (λ made. IsReady runner.new.counted.store.names runner.new.entries
         (names_in (declare (plain_cell (cell_in checked.now)).declarations (shown_store runner.old.counted.store)))
-        runner.new.procedures (record { book = made.0; checked = checked.now; first = made.1 })) }
+        runner.new.procedures (record { book = made.0; checked = checked.now; first = made.1; first_name = length runner.old.entries })) }
     ensures named { OnOk result (AreListed runner.new.entries (plain_cell (cell_in checked.now)).procedures) }
     ensures only { OnOk result (AddNamesOf runner.old.entries runner.new.entries (plain_cell (cell_in checked.now)).procedures) }
     ensures no_names { OnErr result (runner.new.entries ≡ runner.old.entries) }
@@ -141,7 +145,7 @@ fn list_and_link<L: Ledger>(
     requires own { IsOwn env.now own.now (cell_in checked.now) }
     ensures ready { IfOk result (λ made. IsReady runner.new.counted.store.names runner.new.entries
         (names_in (declare (plain_cell (cell_in checked.now)).declarations (shown_store runner.old.counted.store)))
-        runner.new.procedures (record { book = made.0; checked = checked.now; first = made.1 })) }
+        runner.new.procedures (record { book = made.0; checked = checked.now; first = made.1; first_name = length runner.old.entries })) }
     ensures named { OnOk result (AreListed runner.new.entries (plain_cell (cell_in checked.now)).procedures) }
     ensures only { AddNamesOf runner.old.entries runner.new.entries (plain_cell (cell_in checked.now)).procedures }
     ensures behind { IfOk result (λ made. made.1 ≡ length (kept_in runner.old.procedures)) }

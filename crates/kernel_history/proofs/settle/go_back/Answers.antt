@@ -8,7 +8,7 @@ use Rattle.kernel_history.specs.Kept.{Kept}
 use Rattle.kernel_loader.specs.Runner.{Stands, writes_of, steps_of}
 use Rattle.kernel_machine.specs.declared.heading.Heading.TheVariants.{GoesBack}
 use Rattle.kernel_history.specs.declared.job.Open.TheVariants.{Inside}
-use Rattle.kernel_loader.proofs.Counting.{written_still}
+use Rattle.kernel_loader.proofs.Counting.{written_still, came_still}
 use Rattle.kernel_loader.proofs.Growing.{same_more}
 use Rattle.kernel_loader.proofs.Running.{whole_at_start}
 use Rattle.kernel_history.proofs.Standing.{stands_with, inside_with, kept_at, kept_idle}
@@ -88,3 +88,25 @@ returns-else-left-eq0-clause-counted g c =
     (stands_with c.args.tree.now c.args.entered.now.work c.args.entered.now.count true c.args.runner.now c.program_of.result.now c.program_of.ensures
     c.requires.stands).counted in
     c.back.ensures.counted ∙ ap (λ (n : ℕ). steps_of c.args.runner.now + steps_back n c.args.m) same
+
+pub returns-then-left-eq0-clause-came : goal.returns-then-left-eq0-clause-came
+returns-then-left-eq0-clause-came g c =
+    let same =
+    (stands_with c.args.tree.now c.args.entered.now.work c.args.entered.now.count true c.args.runner.now c.program_of.result.now c.program_of.ensures
+    c.requires.stands).counted in (
+      c.program_of.result.now,
+      c.program_of.ensures,
+      came_still c.program_of.result.now c.args.m _ _ c.args.runner.now c.back.new.self c.settle_back.new.runner c.back.ensures.came
+          (ap (λ (n : ℕ). steps_back n c.args.m) same) c.settle_back.ensures.cursor,
+    )
+
+pub returns-else-left-eq0-clause-came : goal.returns-else-left-eq0-clause-came
+returns-else-left-eq0-clause-came g c =
+    let same =
+    (stands_with c.args.tree.now c.args.entered.now.work c.args.entered.now.count true c.args.runner.now c.program_of.result.now c.program_of.ensures
+    c.requires.stands).counted in (
+      c.program_of.result.now,
+      c.program_of.ensures,
+      came_still c.program_of.result.now c.args.m _ _ c.args.runner.now c.back.new.self c.back.new.self c.back.ensures.came
+          (ap (λ (n : ℕ). steps_back n c.args.m) same) refl,
+    )

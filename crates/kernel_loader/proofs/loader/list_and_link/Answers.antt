@@ -46,7 +46,7 @@ returns-in-Ok-clause-ready g c =
     let same : map plain_procedure (procedures_view c.deref.result.now) ≡ (plain_cell cell).procedures =
     ap (λ l. map plain_procedure (procedures_view l)) c.deref.ensures.value ∙ ap (λ (t : tree.Cell). (plain_cell t).procedures) c.cell.ensures in
     let listed : AreListed es (plain_cell cell).procedures = subst (λ (ps : List Proc). AreListed es ps) same c.in_ok-listed.ensures.listed in
-    let program : Program = record { book = c.in-Ok.book; checked = c.args.checked.now; first = c.len-first.result } in
+    let program : Program = record { book = c.in-Ok.book; checked = c.args.checked.now; first = c.len-first.result; first_name = length c.args.runner.now.entries } in
     ready_made c.keep_and_link-kept.new.store.names es _ _ _ _ c.args.runner.now.procedures c.keep_and_link-kept.new.kept program c.in-Ok.ensures.block
     (names_here c.args.runner.now c.args.env.now c.args.own.now cell c.requires.known.0 c.requires.known.1 c.requires.own)
     c.in-Ok.ensures.numbered c.len-first.ensures c.in-Ok.ensures.bodies c.in-Ok.ensures.count
