@@ -35,7 +35,7 @@ pub struct Runner<L: Ledger> {
     pub counted: CountedStore<L>,
     pub cursor: Cursor,
     pub procedures: Procedures,
-    /// The names of the procedures of all cells that passed the check, each with its number.
+    /// The names of the procedures of all nodes, and of an open posted cell, each with its number.
     pub entries: Names,
 }
 
