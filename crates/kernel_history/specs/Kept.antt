@@ -31,7 +31,7 @@ use Rattle.kernel_machine.specs.declared.travel.Aim.TheVariants.{Undo, Redo, Got
 use Rattle.kernel_machine.specs.declared.heading.Heading.TheVariants.{GoesOn}
 use Rattle.kernel_history.specs.Fields.{nodes_of, past_of, work_of, job_of}
 use Rattle.kernel_machine.specs.Legal.{IsLegal, IsPossibleAt, IsInTimeAt, IsCountedAt}
-use Rattle.kernel_loader.specs.Runner.{world_of, CursorCameBy}
+use Rattle.kernel_loader.specs.Runner.{world_of}
 use Rattle.kernel_loader.specs.runner.Runner.{Runner}
 use Rattle.kernel_loader.specs.program.Program.{Program}
 use Rattle.kernel_history.specs.declared.tree.HistoryTree.{HistoryTree}
@@ -40,7 +40,7 @@ use Rattle.kernel_history.specs.declared.job.Work.TheVariants.{Cell as RunCell, 
 use Rattle.kernel_history.specs.declared.job.Entered.{Entered}
 use Rattle.kernel_history.specs.declared.job.Open.{Open}
 use Rattle.kernel_history.specs.declared.job.Open.TheVariants.{Idle, Border, Inside}
-use Rattle.kernel_history.specs.Bodies.{procedures_in, IsProgramOf, NodesAreReady, AreInOrder, IsBehindAt, KeepsNoOtherAt}
+use Rattle.kernel_history.specs.Bodies.{procedures_in, NodesAreReady, AreInOrder, IsBehindAt, KeepsNoOtherAt}
 use Rattle.kernel_history.specs.Index.{HasIndex}
 use Rattle.kernel_history.specs.Standing.{StandsAt}
 
@@ -161,8 +161,3 @@ pub record ComesToEnd {L : Type 0} (tree : HistoryTree) (runner : Runner L) (old
   pub work : new.work ≡ old.work
   pub within : new.count ≤ old.count + m
   pub come : HasCome tree runner old.work new.count
-
--- The cursor came to where it is by n steps of the work's code, of at most m, from where cursor and store were. What is taken back of the store at the
--- end of a cell, its names and its procedures, is no step.
-abbrev pub CameInside : {L : Type 0} → HistoryTree → Work → (m n : ℕ) → Runner L → Runner L → Type 0
-CameInside tree work m n old new = (program : Program) × IsProgramOf tree work program × CursorCameBy program m n old new

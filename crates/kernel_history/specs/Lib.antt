@@ -7,6 +7,7 @@ pub mod Bodies
 pub mod Index
 pub mod Standing
 pub mod Kept
+pub mod Came
 -- Of janus_store, given again.
 pub use Rattle.janus_store.specs.StoreState
 -- Of kernel_loader, given again.

@@ -15,7 +15,8 @@ ghost use Rattle.kernel_loader.specs.Runner.{Is, Between, KeepsCounts, writes_of
 ghost use Rattle.kernel_history.specs.Bodies.{IsProgramOf, NodesAreReady, KeepsNoOther};
 ghost use Rattle.kernel_history.specs.Standing.{shown_here};
 ghost use Rattle.kernel_history.specs.Kept.{Kept, left_by, HasCome, HasComeAt, ComesToEnd, HasPathFor, SettlesFrom, SettlesAt};
-ghost use Rattle.kernel_history.specs.Kept.{entries_left, CameInside};
+ghost use Rattle.kernel_history.specs.Kept.{entries_left};
+ghost use Rattle.kernel_history.specs.Came.{CameInside, CameBack, CameAt, ends_well};
 
 use crate::job::{Entered, Open, Work};
 use crate::tree::{EndedCell, HistoryTree, below};
@@ -102,7 +103,8 @@ fn go_back<L: Ledger>(
     ensures written { IsWritten (steps_back entered.old.count m) (writes_of runner.old) (writes_of runner.new) }
     ensures counted { steps_of runner.new ≡ steps_of runner.old + steps_back entered.old.count m }
     // The cursor too, where the cell is left by it.
-    ensures came { CameInside tree.now entered.old.work m (steps_back entered.old.count m) runner.old runner.new }
+    ensures came { CameInside tree.now entered.old.work m runner.old runner.new }
+    ensures back { ends_well result ≡ false }
 {
     runner.back(program_of(tree, &entered.work), m);
     let left = entered.count.saturating_sub(m);
@@ -130,6 +132,7 @@ fn turn_back<L: Ledger>(
     ensures kept { Kept tree.now runner.new (left_by result entered.new) }
     ensures written { IsWritten (steps_back entered.old.count m) (writes_of runner.old) (writes_of runner.new) }
     ensures counted { steps_of runner.new ≡ steps_of runner.old + steps_back entered.old.count m }
+    ensures back { ends_well result ≡ false }
 {
     runner.turn(program_of(tree, &entered.work));
     go_back(tree, runner, entered, why, m)
@@ -256,7 +259,8 @@ fn go_on<L: Ledger>(
     ensures end { IfNone result (ComesToEnd tree.now runner.new entered.old m entered.new) }
     ensures written { WritesOn (past_of tree.now) (work_of entered.old.work) entered.old.count m (writes_of runner.old) (writes_of runner.new) }
     ensures counted { StepsOn (past_of tree.now) (work_of entered.old.work) entered.old.count m (steps_of runner.old) (steps_of runner.new) }
-    ensures came { IfNone result (CameInside tree.now entered.old.work m (entered.new.count - entered.old.count) runner.old runner.new) }
+    ensures came { IfNone result (CameInside tree.now entered.old.work m runner.old runner.new) }
+    ensures not_ended { IfSome result (λ told. ends_well told ≡ false) }
 {
     match runner.run(program_of(tree, &entered.work), m) {
         Progress::Went => {
@@ -292,7 +296,9 @@ fn slice_inside<L: Ledger>(
     ensures unasked { IfNone result (asked ≡ false) }
     ensures written { WritesOnSlice (state_of tree.now (Open.Inside entered.old)) m asked (writes_of runner.old) (writes_of runner.new) }
     ensures counted { StepsOnSlice (state_of tree.now (Open.Inside entered.old)) m asked (steps_of runner.old) (steps_of runner.new) }
-    ensures came { IfNone result (CameInside tree.now entered.old.work m (entered.new.count - entered.old.count) runner.old runner.new) }
+    ensures came { IfNone result (CameInside tree.now entered.old.work m runner.old runner.new) }
+    ensures not_ended { IfSome result (λ told. ends_well told ≡ false) }
+    ensures came_back { CameBack tree.now entered.old.work entered.old.heading m runner.old runner.new }
 {
     match entered.heading {
         Heading::GoesBack(why) => Some(go_back(tree, runner, entered, why, m)),
@@ -317,6 +323,7 @@ pub fn slice_job<L: Ledger>(
     ensures kept { Kept tree.new runner.new job.new }
     ensures written { WritesOnSlice (state_of tree.old job.old) m asked (writes_of runner.old) (writes_of runner.new) }
     ensures counted { StepsOnSlice (state_of tree.old job.old) m asked (steps_of runner.old) (steps_of runner.new) }
+    ensures came { CameAt tree.old job.old m result runner.old runner.new }
 {
     let Open::Inside(entered) = job else {
         return Sliced::Nothing;

@@ -22,11 +22,14 @@ same_counts {L} old new e = record { writes = ap (λ (s : CountedStore L). s.sto
 pub written_still : {L : Type 0} (k old : ℕ) (mid new : Runner L) → KeepsCounts mid new → IsWritten k old (writes_of mid) → IsWritten k old (writes_of new)
 written_still k old mid new same w = subst (λ (n : ℕ). IsWritten k old n) (sym same.writes) w
 
--- where the cursor came by steps, and only then something else became of the store
-pub came_still : {L : Type 0} (program : Program) (m k n : ℕ) (old mid new : Runner L) → CameBy program m k old mid → k ≡ n → new.cursor ≡ mid.cursor →
+-- where the cursor came by steps, it did so as long as it stays, whatever becomes of the store
+pub cursor_still : {L : Type 0} (program : Program) (m n : ℕ) (old mid new : Runner L) → CursorCameBy program m n old mid → new.cursor ≡ mid.cursor →
     CursorCameBy program m n old new
-came_still program m k n old mid new came same cursor = (
-  mid.counted.store,
-  subst (λ (x : Cursor). TakesSafeSteps m n old.procedures program.book old.cursor old.counted.store x mid.counted.store) (sym cursor)
-      (subst (λ (i : ℕ). TakesSafeSteps m i old.procedures program.book old.cursor old.counted.store mid.cursor mid.counted.store) same came),
+cursor_still program m n old mid new came same = (
+  came.0,
+  subst (λ (x : Cursor). TakesSafeSteps m n old.procedures program.book old.cursor old.counted.store x came.0) (sym same) came.1,
 )
+
+pub came_still : {L : Type 0} (program : Program) (m n : ℕ) (old mid new : Runner L) → CameBy program m n old mid → new.cursor ≡ mid.cursor →
+    CursorCameBy program m n old new
+came_still program m n old mid new came same = cursor_still program m n old mid new (mid.counted.store, came) same

@@ -18,7 +18,7 @@ use Rattle.kernel_history.specs.declared.job.Entered.{Entered}
 use Rattle.kernel_history.specs.declared.job.Open.TheVariants.{Inside}
 use Rattle.kernel_history.specs.Fields.{past_of, work_of, state_of}
 use Rattle.kernel_machine.specs.Slices.{Backs}
-use Rattle.kernel_loader.specs.Runner.{world_of, writes_of, steps_of}
+use Rattle.kernel_loader.specs.Runner.{world_of, writes_of, steps_of, count_of}
 use Rattle.kernel_machine.specs.declared.progress.Progress.TheVariants.{Went, Stopped, Ended}
 use Rattle.kernel_loader.proofs.Growing.{same_more}
 use Rattle.kernel_loader.proofs.Counting.{came_still}
@@ -233,12 +233,10 @@ returns-in-Stopped-clause-counted g c =
     )
 
 pub returns-in-Ended-clause-came : goal.returns-in-Ended-clause-came
-returns-in-Ended-clause-came g c =
-    let kept = onward c.args.tree.now c.args.runner.now c.args.entered.now c.requires.kept c.requires.onward in
-    let is = counted c.args.tree.now c.args.entered.now.work c.args.entered.now.count c.args.runner.now c.program_of.result.now c.program_of.ensures
-    kept.stands in (
-      c.program_of.result.now,
-      c.program_of.ensures,
-      came_still c.program_of.result.now c.args.m _ _ c.args.runner.now c.run.new.self c.run.new.self c.in-Ended.ensures.came
-          (ap (λ (i : ℕ). c.in-Ended.n - i) is) refl,
-    )
+returns-in-Ended-clause-came g c = record {
+  program = c.program_of.result.now;
+  of_work = c.program_of.ensures;
+  steps = c.in-Ended.n - count_of c.args.runner.now;
+  came = came_still c.program_of.result.now c.args.m _ c.args.runner.now c.run.new.self c.run.new.self c.in-Ended.ensures.came refl;
+  counted = c.in-Ended.ensures.counted;
+}
