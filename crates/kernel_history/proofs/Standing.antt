@@ -57,6 +57,8 @@ use Rattle.kernel_loader.proofs.Growing.{same_more, ready_grows, defined_grow}
 use Rattle.kernel_loader.proofs.Unlisted.{taken_back, shown_same, shows_unlisted}
 use Rattle.janus_slots.proofs.Whole.{names_size}
 use Rattle.kernel_loader.proofs.Running.{stands_part}
+use Rattle.kernel_history.specs.TableNames.{AreOfNodes, ListsNoOtherFor}
+use Rattle.kernel_history.proofs.TableNames.{names_nodes, names_same, names_still, names_grown}
 use Rattle.kernel_history.proofs.BodiesAt.{bodies_same, bodies_of_cell, bodies_new, bodies_below, cell_behind, ready_same, ready_less, ready_more}
 use Rattle.kernel_history.proofs.Nodes.{count_of_nodes, cell_there, same_program, contents_more, cell_kept, cell_added}
 use Rattle.kernel_history.proofs.WorldNames.{exec_names, names_below, world_kept, world_added, listed_still, listed_own}
@@ -144,11 +146,12 @@ kept_inside tree work count c heading to runner at k more entries same p = recor
   behind = k.behind;
   no_other = work_no_other tree work runner.procedures at.procedures same k.no_other;
   older_names = work_older_names tree work runner at more entries same k.older_names;
+  no_name = names_still tree work runner.entries at.entries entries k.no_name;
 }
 
 pub kept_idle : {L : Type 0} (tree : HistoryTree) (job : Open) (runner at : Runner L) → Kept tree runner job → NodesAreReady tree at →
-    KeepsNoOther tree at.procedures → IsWhole at.counted.store → Shows at (shown_here tree) → Kept tree at Idle
-kept_idle tree job runner at k ready no_other whole shows = record {
+    KeepsNoOther tree at.procedures → AreOfNodes tree at.entries → IsWhole at.counted.store → Shows at (shown_here tree) → Kept tree at Idle
+kept_idle tree job runner at k ready no_other no_name whole shows = record {
   legal = k.legal;
   possible = tt;
   counted = tt;
@@ -160,6 +163,7 @@ kept_idle tree job runner at k ready no_other whole shows = record {
   behind = tt;
   no_other = no_other;
   older_names = tt;
+  no_name = no_name;
 }
 
 -- a store that shows the same shows the same world
@@ -180,11 +184,12 @@ shows_still runner at shown h same entries shows =
 
 -- no cell could be entered
 pub kept_refused : {L : Type 0} (tree : HistoryTree) (job : Open) (runner at : Runner L) → Kept tree runner job → KeepsNoOther tree runner.procedures →
-    Shows runner (shown_here tree) → Becomes runner.counted.store at.counted.store (shown_store runner.counted.store) → at.procedures ≡ runner.procedures →
+    AreOfNodes tree runner.entries → Shows runner (shown_here tree) → Becomes runner.counted.store at.counted.store (shown_store runner.counted.store) → at.procedures ≡ runner.procedures →
     at.entries ≡ runner.entries → Kept tree at Idle
-kept_refused tree job runner at k no_other shows h same entries =
+kept_refused tree job runner at k no_other no_name shows h same entries =
     kept_idle tree job runner at k (nodes_ready tree runner at h.names (same_more runner.entries at.entries entries) (ap kept_in same) k.ready)
-    (no_other_same tree runner.procedures at.procedures (ap kept_in same) no_other) h.whole (shows_still runner at (shown_here tree) h same entries shows)
+    (no_other_same tree runner.procedures at.procedures (ap kept_in same) no_other) (names_same tree runner.entries at.entries entries no_name) h.whole
+    (shows_still runner at (shown_here tree) h same entries shows)
 
 -- ---- what is kept of the nodes alone
 
@@ -266,9 +271,9 @@ pub kept_grown : {L : Type 0} (tree larger : HistoryTree) (program : ACell) (n :
     larger.position ≡ length (nodes_of tree) →
     IsLegal (past_of tree) → IsFormed program (here (past_of tree)) →
     CodeExec (Forward program) (here (past_of tree)) n v → Shows runner (over (bodies_at larger larger.position) v) → IsWhole runner.counted.store →
-    NodesAreReady larger runner → AreInOrder larger → KeepsNoOther larger runner.procedures →
+    NodesAreReady larger runner → AreInOrder larger → KeepsNoOther larger runner.procedures → AreOfNodes larger runner.entries →
     Kept larger runner Idle
-kept_grown tree larger program n runner v nodes favourites position legal formed ran shows whole ready order no_other =
+kept_grown tree larger program n runner v nodes favourites position legal formed ran shows whole ready order no_other no_name =
     let e = state_grown tree larger program n v nodes favourites position ran in
     let last : get_or (worlds_from [] (nodes_of tree) ++ v ∷ []) (length (nodes_of tree)) empty_world ≡ v =
     get_or_at (worlds_from [] (nodes_of tree)) v [] empty_world (length (nodes_of tree)) legal.worlds in
@@ -284,6 +289,7 @@ kept_grown tree larger program n runner v nodes favourites position legal formed
       behind = tt;
       no_other = no_other;
       older_names = tt;
+      no_name = no_name;
     }
 
 -- ---- a cell of a travel
@@ -304,8 +310,8 @@ pub kept_arrived : {L : Type 0} (left : ℕ) (moved-to : HistoryTree) (travel : 
     IsLegal (past_of moved-to) → Shows runner (shown_here moved-to) → IsWhole runner.counted.store →
     CanGo travel.aim (nodes_of moved-to) moved-to.cells.favourites moved-to.position travel.up travel.down → IsCounted travel →
     HasPath travel.aim moved-to travel.down → NodesAreReady moved-to runner → AreInOrder moved-to → KeepsNoOther moved-to runner.procedures →
-    Arrives left (past_of moved-to) travel told (state_of moved-to job) → Kept moved-to runner job
-kept_arrived zero tree travel told job runner size legal shown whole can small path ready order no_other a =
+    AreOfNodes moved-to runner.entries → Arrives left (past_of moved-to) travel told (state_of moved-to job) → Kept moved-to runner job
+kept_arrived zero tree travel told job runner size legal shown whole can small path ready order no_other no_name a =
     let e : job ≡ Idle = idle_job job (ap (λ (s : State). s.job) a.1) in
     rw e (record {
       legal = legal;
@@ -319,8 +325,9 @@ kept_arrived zero tree travel told job runner size legal shown whole can small p
       behind = tt;
       no_other = no_other;
       older_names = tt;
+      no_name = no_name;
     })
-kept_arrived (suc left) tree travel told job runner size legal shown whole can small path ready order no_other a =
+kept_arrived (suc left) tree travel told job runner size legal shown whole can small path ready order no_other no_name a =
     let at = border_job job _ (ap (λ (s : State). s.job) a.1) in
     let possible : IsPossible (nodes_of tree) tree.cells.favourites tree.position travel = record { some = omega arith; way_there = can } in
     rw at.1 (record {
@@ -335,6 +342,7 @@ kept_arrived (suc left) tree travel told job runner size legal shown whole can s
       behind = tt;
       no_other = no_other;
       older_names = tt;
+      no_name = no_name;
     })
 
 -- a path is kept for a way that is one node shorter
@@ -352,13 +360,13 @@ path_of (Goto n) tree other down e f h = rw (e, f) h
 pub kept_up : {L : Type 0} (tree : HistoryTree) (p : ℕ) (travel : Travel) (runner : Runner L) (told : Sliced) (job : Open) → next_way travel ≡ Up →
     IsLegal (past_of tree) →
     IsPossible (nodes_of tree) tree.cells.favourites tree.position travel → IsCounted travel → HasPath travel.aim tree travel.down → NodesAreReady tree runner →
-    AreInOrder tree → KeepsNoOther tree runner.procedures → IsWhole runner.counted.store →
+    AreInOrder tree → KeepsNoOther tree runner.procedures → AreOfNodes tree runner.entries → IsWhole runner.counted.store →
     p ≡ (node_at (past_of tree) tree.position).parent →
     Shows runner (over (bodies_at tree (node_at (past_of tree) tree.position).parent)
     (world_at (past_of tree) (node_at (past_of tree) tree.position).parent)) →
     Arrives (cells (stepped travel)) (past_of (record tree { position = p })) (stepped travel) told (state_of (record tree { position = p }) job) →
     Kept (record tree { position = p }) runner job
-kept_up tree p travel runner told job way legal possible small path ready order no_other whole to shows a =
+kept_up tree p travel runner told job way legal possible small path ready order no_other no_name whole to shows a =
     let can = up_possible (past_of tree) travel way possible in
     let some = possible.some in
     let first = small.0 in
@@ -371,18 +379,18 @@ kept_up tree p travel runner told job way legal possible small path ready order 
     (subst (λ (m : ℕ). Shows runner (over (bodies_at tree m) (world_at (past_of tree) m))) (sym to) shows))
     whole (rw to can.1) (omega arith, small.1)
     (path_of travel.aim tree above travel.down refl refl path) (placed_nodes tree above runner refl ready) (ordered_nodes tree above refl order)
-    (no_other_nodes tree above runner.procedures refl no_other)
+    (no_other_nodes tree above runner.procedures refl no_other) (names_nodes tree above runner.entries refl no_name)
     (subst (λ (t : Travel). Arrives (cells t) (past_of above) t told (state_of above job)) e a)
 
 pub kept_down : {L : Type 0} (tree moved-to : HistoryTree) (c : ℕ) (travel : Travel) (runner : Runner L) (told : Sliced) (job : Open) → next_way travel ≡ Down →
     IsLegal (past_of tree) →
     IsPossible (nodes_of tree) tree.cells.favourites tree.position travel → IsCounted travel → HasPath travel.aim tree travel.down → NodesAreReady tree runner →
-    AreInOrder tree → KeepsNoOther tree runner.procedures → IsWhole runner.counted.store →
+    AreInOrder tree → KeepsNoOther tree runner.procedures → AreOfNodes tree runner.entries → IsWhole runner.counted.store →
     c ≡ below (past_of tree) travel → moved-to.cells.nodes ≡ tree.cells.nodes → moved-to.cells.favourites ≡ set tree.cells.favourites tree.position c →
     moved-to.position ≡ c → moved-to.cells.way ≡ tree.cells.way →
     Shows runner (over (bodies_at tree (below (past_of tree) travel)) (world_at (past_of tree) (below (past_of tree) travel))) →
     Arrives (cells (stepped travel)) (past_of moved-to) (stepped travel) told (state_of moved-to job) → Kept moved-to runner job
-kept_down tree moved-to c travel runner told job way legal possible small path ready order no_other whole to nodes favourites position kept-path shows a =
+kept_down tree moved-to c travel runner told job way legal possible small path ready order no_other no_name whole to nodes favourites position kept-path shows a =
     let next = next_below (past_of tree) travel legal way possible in
     let can = down_possible (past_of tree) travel legal way possible in
     let some = possible.some in
@@ -406,7 +414,7 @@ kept_down tree moved-to c travel runner told job way legal possible small path r
     (subst (λ (u : ℕ). CanGo travel.aim (nodes_of tree) (set tree.cells.favourites tree.position (below (past_of tree) travel)) (below (past_of tree) travel) u
     (travel.down - 1)) (sym none) can))
     (small.0, omega arith) kept (placed_nodes tree moved-to runner nodes ready) (ordered_nodes tree moved-to nodes order)
-    (no_other_nodes tree moved-to runner.procedures nodes no_other)
+    (no_other_nodes tree moved-to runner.procedures nodes no_other) (names_nodes tree moved-to runner.entries nodes no_name)
     (subst (λ (t : Travel). Arrives (cells t) (past_of moved-to) t told (state_of moved-to job)) e a)
 
 -- the world at the end of an undone cell, and of a redone one
@@ -464,6 +472,9 @@ module _ {L : Type 0} (tree larger : HistoryTree) (program : Program) (n : ℕ) 
       let more = bodies_grown tree larger (record { parent = tree.position; content = record { program = program; steps = n } }) nodes in
       omega (arith, first, kept, more)
 
+  pub no_name_more : AreOfNodes larger runner.entries
+  no_name_more = names_grown tree larger (record { parent = tree.position; content = record { program = program; steps = n } }) runner.entries nodes k.no_name
+
   -- its own bodies are defined over those of the position
   pub shown_more : larger.position ≡ length (nodes_of tree) →
       Shows runner (over (bodies_at larger larger.position) (world_of (start_of (Forward (cell_of_program program)) (here (past_of tree))).procedures runner))
@@ -498,6 +509,7 @@ kept_entered tree runner at travel k more entries same stands =
       behind = tt;
       no_other = no_other_same tree runner.procedures at.procedures same k.no_other;
       older_names = tt;
+      no_name = names_same tree runner.entries at.entries entries k.no_name;
     })
     (exec_some (code_of (past_of tree) (state.Move travel)) (here (past_of tree)))
 
@@ -543,11 +555,11 @@ older_names_nodes tree made at program same nodes h =
     }
 
 pub kept_begun : {L : Type 0} (tree made : HistoryTree) (runner at : Runner L) (program : Program) → Kept tree runner Idle → NodesAreReady tree at →
-    KeepsOlderNames tree at program → IsBehindNodes tree (RunCell program) → past_of made ≡ past_of tree → made.cells.nodes ≡ tree.cells.nodes → made.position ≡ tree.position → HasRoom made →
+    KeepsOlderNames tree at program → ListsNoOtherFor tree (RunCell program) at.entries → IsBehindNodes tree (RunCell program) → past_of made ≡ past_of tree → made.cells.nodes ≡ tree.cells.nodes → made.position ≡ tree.position → HasRoom made →
     IsFormed (cell_of_program program) (here (past_of tree)) → program.first ≡ length (kept_in runner.procedures) →
     length (kept_in at.procedures) ≡ program.first + length (procedures_of program) →
     Stands at program (entry program (shown_here tree)) false → IsKept made at (Inside (record { work = RunCell program; count = 0; heading = GoesOn }))
-kept_begun tree made runner at program k ready older behind same nodes position room formed first last stands =
+kept_begun tree made runner at program k ready older names behind same nodes position room formed first last stands =
     let stack : bodies_at made made.position ≡ bodies_at tree tree.position = bodies_same tree made made.position nodes ∙ ap (bodies_at tree) position in
     kept_in_time made at (Inside (record { work = RunCell program; count = 0; heading = GoesOn }))
     (record {
@@ -567,6 +579,7 @@ kept_begun tree made runner at program k ready older behind same nodes position 
       behind = behind_nodes tree made program nodes behind;
       no_other = (first ∙ no_other_nodes tree made runner.procedures nodes k.no_other, last);
       older_names = older_names_nodes tree made at program same nodes older;
+      no_name = (names_nodes tree made (take program.first_name at.entries) nodes names.0, names.1);
     })
     (exec_some (code_of (past_of made) (state.Posted (cell_of_program program))) (here (past_of made)))
 
@@ -591,6 +604,7 @@ kept_with_room tree made runner k same nodes position =
       behind = tt;
       no_other = no_other_nodes tree made runner.procedures nodes k.no_other;
       older_names = tt;
+      no_name = names_nodes tree made runner.entries nodes k.no_name;
     }
 
 pub ok_fact : {A E : Type 0} (P : Type 0) (r : Result A E) → is_err r ≡ false → OnOk r P → P
@@ -674,8 +688,8 @@ pub no_other_new : (tree : HistoryTree) (t : Procedures) → tree.cells ≡ root
 no_other_new tree t alone none = rw (alone, none) refl
 
 pub kept_new : {L : Type 0} (tree : HistoryTree) (runner : Runner L) → past_of tree ≡ new_state.past → tree.position ≡ 0 →
-    Is runner (Between (over [] empty_world)) → KeepsNoOther tree runner.procedures → Kept tree runner Idle
-kept_new tree runner e position is no_other = record {
+    Is runner (Between (over [] empty_world)) → KeepsNoOther tree runner.procedures → AreOfNodes tree runner.entries → Kept tree runner Idle
+kept_new tree runner e position is no_other no_name = record {
   legal = subst (λ (s : Past). IsLegal s) (sym e) new_legal;
   possible = tt;
   counted = tt;
@@ -691,6 +705,7 @@ kept_new tree runner e position is no_other = record {
   behind = tt;
   no_other = no_other;
   older_names = tt;
+  no_name = no_name;
 }
 
 -- the program of an undo and of a redo, as it is read
@@ -1020,6 +1035,18 @@ module _ {L : Type 0} (tree : HistoryTree) (runner : Runner L) (work : Work) (wh
       can_run_still old new g cell.program (same_more old.counted.store.names new.counted.store.names names) (same_more old.entries new.entries entries)
       (ready_less new.counted.store.names new.entries g old.procedures new.procedures program.first cell.program (behind n cell is) kept) (ready n cell is)
 
+  -- the names of the posted cell leave the table
+  pub no_name_forgotten : (at : List Name) (program : Program) → work ≡ RunCell program → at ≡ take program.first_name runner.entries → AreOfNodes tree at
+  no_name_forgotten at program e less =
+      let own : ListsNoOtherFor tree (RunCell program) runner.entries = subst (λ (w : Work). ListsNoOtherFor tree w runner.entries) e k.no_name in
+      names_same tree (take program.first_name runner.entries) at less own.0
+
+  -- a move has none of its own
+  pub no_name_back : (travel : Travel) (at : List Name) → work ≡ Move travel → at ≡ runner.entries → AreOfNodes tree at
+  no_name_back travel at e same =
+      let own : AreOfNodes tree runner.entries = subst (λ (w : Work). ListsNoOtherFor tree w runner.entries) e k.no_name in
+      names_same tree runner.entries at same own
+
   -- when it is left, the table without its names is still enough
   pub older_names_left : (at : Runner L) (program : Program) → work ≡ RunCell program → GoOn runner.counted.store.names at.counted.store.names →
       at.entries ≡ runner.entries → kept_in at.procedures ≡ kept_in runner.procedures → KeepsOlderNames tree at program
@@ -1073,5 +1100,5 @@ kept_dropped tree made old at new job first first_name k un is named low store e
     (shows_unlisted old at (take first_name at.entries) (shown_here tree) un.entries less k.stands un.shows) low kept
     (defined (bodies_at tree tree.position) un.shows.defined.defined low) in
     let idle = kept_idle tree Idle old new k (nodes_ready tree old new names listed same k.ready)
-    (no_other_same tree old.procedures new.procedures same k.no_other) whole shows in
+    (no_other_same tree old.procedures new.procedures same k.no_other) (names_same tree old.entries new.entries (entries ∙ less) k.no_name) whole shows in
     subst (λ (j : Open). IsKept made new j) (sym un.idle) (idle_in_time made new (kept_with_room tree made new idle un.past un.nodes un.position))

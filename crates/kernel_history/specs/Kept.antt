@@ -4,11 +4,12 @@
 --                         `AreInOrder` (Bodies): the bodies of nodes are kept in the order of the nodes
 -- of tree and runner      `NodesAreReady` (Bodies): each node's code is its cell's block, with slots in place of names, and its bodies are kept
 -- of the open job         `IsPossibleAt`, `IsCountedAt` (`kernel_machine`, specs/Legal): it can go as far as it has to, by counts of 64 bits
--- of all three            `KeepsOlderNamesAt`: without the names that came with an open posted cell, the table is enough for what is there besides
 -- of tree and open job    `IsBehindAt` (Bodies): the bodies of a posted cell are kept behind those of all nodes
 --                         `HasRoomAt`: there is room for the node that a posted cell becomes
 --                         `HasPathAt`: the way of a goto is kept
 -- of all three            `KeepsNoOtherAt` (Bodies): as many bodies are kept as the nodes and an open posted cell have
+--                         `ListsNoOtherAt` (TableNames): the table of names has those of their procedures, and no others
+--                         `KeepsOlderNamesAt`: without the names that came with an open posted cell, the table is enough for what is there besides
 --                         `StandsAt` (Standing): the runner shows the world of the position, or has taken the job's steps from there
 --
 -- All of this is `Kept`, which holds in the middle of a slice too. Between two calls `IsKept` holds, which has beside this:
@@ -41,6 +42,7 @@ use Rattle.kernel_history.specs.declared.job.Entered.{Entered}
 use Rattle.kernel_history.specs.declared.job.Open.{Open}
 use Rattle.kernel_history.specs.declared.job.Open.TheVariants.{Idle, Border, Inside}
 use Rattle.kernel_history.specs.Bodies.{procedures_in, NodesAreReady, AreInOrder, IsBehindAt, KeepsNoOtherAt}
+use Rattle.kernel_history.specs.TableNames.{ListsNoOtherAt}
 use Rattle.kernel_history.specs.Index.{HasIndex}
 use Rattle.kernel_history.specs.Standing.{StandsAt}
 
@@ -111,6 +113,7 @@ pub record Kept {L : Type 0} (tree : HistoryTree) (runner : Runner L) (job : Ope
   pub behind : IsBehindAt tree job
   pub no_other : KeepsNoOtherAt tree job runner.procedures
   pub older_names : KeepsOlderNamesAt tree runner job
+  pub no_name : ListsNoOtherAt tree job runner.entries
 
 -- what a history keeps: beside this, its open job has steps to take, and the index is that of the tree
 pub record IsKept {L : Type 0} (tree : HistoryTree) (runner : Runner L) (job : Open) : Type 0 where

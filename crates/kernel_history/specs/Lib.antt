@@ -5,6 +5,7 @@ pub mod CountedState
 pub mod NodeTrees
 pub mod Bodies
 pub mod Index
+pub mod TableNames
 pub mod Standing
 pub mod Kept
 pub mod Came

@@ -23,6 +23,7 @@ ghost use Rattle.kernel_machine.specs.Extent.{IsExtent};
 ghost use Rattle.janus_syntax.specs.Tree.{cell_view};
 ghost use Rattle.kernel_history.specs.NodeTrees.{IsTreeAt, HasNoTree};
 ghost use Rattle.kernel_history.specs.Bodies.{NodesAreReady, AreInOrder};
+ghost use Rattle.kernel_history.specs.TableNames.{AreItsOwn};
 ghost use Rattle.kernel_history.specs.Standing.{shown_here, StandsAt};
 ghost use Rattle.kernel_history.specs.Kept.{HasPath, Kept, IsKept};
 
@@ -152,6 +153,7 @@ fn prepare<L: Ledger>(
     // Its bodies are behind those that were kept, with none behind them, and what is refused leaves those alone.
     ensures behind { IfOk result (λ program. program.first ≡ length (kept_in runner.old.procedures)) }
     ensures first_name { IfOk result (λ program. program.first_name ≡ length runner.old.entries) }
+    ensures own_names { IfOk result (λ program. AreItsOwn program runner.new.entries) }
     ensures no_names { OnErr result (runner.new.entries ≡ runner.old.entries) }
     ensures no_slots { OnErr result (runner.new.counted.store.names ≡ runner.old.counted.store.names) }
     ensures last { IfOk result (λ program. length (kept_in runner.new.procedures) ≡ program.first + length (procedures_of program)) }

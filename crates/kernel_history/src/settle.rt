@@ -13,6 +13,7 @@ ghost use Rattle.janus_names.specs.Numbers.{GoOn};
 ghost use Rattle.janus_store.specs.StoreState.{IsWhole};
 ghost use Rattle.kernel_loader.specs.Runner.{Is, Between, KeepsCounts, writes_of, steps_of};
 ghost use Rattle.kernel_history.specs.Bodies.{IsProgramOf, NodesAreReady, KeepsNoOther};
+ghost use Rattle.kernel_history.specs.TableNames.{AreOfNodes};
 ghost use Rattle.kernel_history.specs.Standing.{shown_here};
 ghost use Rattle.kernel_history.specs.Kept.{Kept, left_by, HasCome, HasComeAt, ComesToEnd, HasPathFor, SettlesFrom, SettlesAt};
 ghost use Rattle.kernel_history.specs.Kept.{entries_left};
@@ -72,6 +73,7 @@ fn settle_back<L: Ledger>(tree: &HistoryTree, runner: &mut Runner<L>, work: &Wor
     ensures is { Is runner.new (Between (shown_here tree.now)) }
     ensures ready { NodesAreReady tree.now runner.new }
     ensures no_other { KeepsNoOther tree.now runner.new.procedures }
+    ensures no_name { AreOfNodes tree.now runner.new.entries }
     ensures names { GoOn runner.old.counted.store.names runner.new.counted.store.names }
     ensures entries { runner.new.entries ≡ entries_left work.now runner.old.entries }
     ensures counts { KeepsCounts runner.old runner.new }

@@ -50,6 +50,7 @@ impl<L: Ledger> Runner<L> {
         ensures no_steps { IfOk result (λ runner. steps_of runner ≡ 0) }
         ensures is { IfOk result (λ runner. Is runner (Between (over [] empty_world))) }
         ensures none { IfOk result (λ runner. kept_in runner.procedures ≡ []) }
+        ensures no_names { IfOk result (λ runner. runner.entries ≡ []) }
     {
         let cursor = Cursor::new(alloc)?;
         Ok(Runner {

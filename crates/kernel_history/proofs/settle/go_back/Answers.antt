@@ -50,7 +50,7 @@ settle_back-requires-clause-whole g c =
 pub returns-then-left-eq0-clause-kept : goal.returns-then-left-eq0-clause-kept
 returns-then-left-eq0-clause-kept g c =
     kept_idle c.args.tree.now _ c.args.runner.now c.settle_back.new.runner c.requires c.settle_back.ensures.ready c.settle_back.ensures.no_other
-    c.settle_back.ensures.is.1 c.settle_back.ensures.is.0
+    c.settle_back.ensures.no_name c.settle_back.ensures.is.1 c.settle_back.ensures.is.0
 
 pub returns-else-left-eq0-clause-kept : goal.returns-else-left-eq0-clause-kept
 returns-else-left-eq0-clause-kept g c =

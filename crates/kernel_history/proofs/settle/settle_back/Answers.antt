@@ -8,7 +8,7 @@ use Rattle.kernel_history.specs.Bodies.{bodies_at}
 use Rattle.kernel_history.specs.Standing.{shown_here}
 use Rattle.kernel_loader.proofs.Growing.{no_more, same_more}
 use Rattle.kernel_history.proofs.Standing.{work_possible, below_there, cell_of_down, can_leave_cell, can_leave_down, shows_up, below_posted, nodes_forgotten}
-use Rattle.kernel_history.proofs.Standing.{no_other_forgotten, no_other_back, nodes_ready, shows_forgotten, older_names_left}
+use Rattle.kernel_history.proofs.Standing.{no_other_forgotten, no_other_back, nodes_ready, shows_forgotten, older_names_left, no_name_forgotten, no_name_back}
 use Rattle.kernel_history.specs.Kept.{unlisted}
 use Rattle.kernel_history.proofs.settle.settle_back.Goals as goal
 
@@ -122,3 +122,20 @@ returns-in-Cell-clause-entries g c =
 pub returns-in-Cell-clause-names : goal.returns-in-Cell-clause-names
 returns-in-Cell-clause-names g c =
     subst (λ (h : StoreState). GoOn c.args.runner.now.counted.store.names h.names) (sym c.forget.ensures.store) c.leave.ensures.names
+
+pub returns-in-Cell-clause-no_name : goal.returns-in-Cell-clause-no_name
+returns-in-Cell-clause-no_name g c =
+    let k = c.requires.kept in
+    no_name_forgotten c.args.tree.now c.args.runner.now c.args.work.now k.0 k.1 c.forget.new.self.entries c.in-Cell.program c.in-Cell.is
+    (c.forget.ensures.entries ∙ ap (λ (l : List Name). take c.in-Cell.program.first_name l) c.leave.ensures.entries)
+
+pub returns-in-Down-clause-no_name : goal.returns-in-Down-clause-no_name
+returns-in-Down-clause-no_name g c =
+    let k = c.requires.kept in
+    no_name_back c.args.tree.now c.args.runner.now c.args.work.now k.0 k.1 c.in-Move.travel c.leave-in-Down.new.self.entries c.in-Move.is
+    c.leave-in-Down.ensures.entries
+
+pub returns-in-Up-clause-no_name : goal.returns-in-Up-clause-no_name
+returns-in-Up-clause-no_name g c =
+    let k = c.requires.kept in
+    no_name_back c.args.tree.now c.args.runner.now c.args.work.now k.0 k.1 c.in-Move.travel c.args.runner.now.entries c.in-Move.is refl

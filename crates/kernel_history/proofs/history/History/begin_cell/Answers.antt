@@ -19,6 +19,7 @@ use Rattle.kernel_machine.proofs.Texts.{accepted_formed}
 use Rattle.kernel_loader.proofs.Growing.{more_yet, same_more}
 use Rattle.kernel_history.proofs.Standing.{ok_fact, err_fact, kept_begun, kept_idle, idle_in_time, here_sound, idle_job, nodes_more, nodes_ready, no_other_same}
 use Rattle.kernel_history.proofs.Standing.{posted_behind, behind_stack, shows_still, IsUnentered, kept_dropped, older_names_begun}
+use Rattle.kernel_history.proofs.TableNames.{names_same, names_begun}
 use Rattle.kernel_history.proofs.history.History.begin_cell.Goals as goal
 use Rattle.kernel_history.proofs.history.History.begin_cell.Goals.{then-is_err-via-then-is_err, then-is_err-via-else-is_err+then-is_err-2}
 use Rattle.kernel_loader.specs.Procedures.{kept_in}
@@ -96,7 +97,9 @@ invariant_of-self-2 g c =
     (ap (λ (bs : List LinkedProcedure). take (length (kept_in old.procedures)) bs) c.enter.ensures.kept ∙ c.prepare.ensures.older)
     c.in-Ok.ensures.first_name in
     kept_begun tree (record { cells = c.room.new.self; position = tree.position }) old c.enter.new.self c.in-Ok.program kept
-    (nodes_ready tree met c.enter.new.self c.enter.ensures.names onward c.enter.ensures.kept at_text) older behind same nodes refl room formed c.in-Ok.ensures.behind
+    (nodes_ready tree met c.enter.new.self c.enter.ensures.names onward c.enter.ensures.kept at_text) older
+    (names_begun tree old.entries met.entries c.enter.new.self.entries c.in-Ok.program c.in-Ok.ensures.first_name c.prepare.ensures.entries
+    c.enter.ensures.entries c.in-Ok.ensures.own_names kept.no_name) behind same nodes refl room formed c.in-Ok.ensures.behind
     (ap (λ (bs : List LinkedProcedure). length bs) c.enter.ensures.kept ∙ c.in-Ok.ensures.last) (stands shown can)
 
 -- a refused text: there may be more slots, and more names of procedures
@@ -113,7 +116,8 @@ invariant_of-self g c =
     subst (λ (j : Open). IsKept tree met j) (sym idle)
     (idle_in_time tree met
     (kept_idle tree Idle old met kept (nodes_more tree old met c.prepare.ensures.kept.names c.prepare.ensures.entries c.prepare.ensures.older kept.ready)
-    (no_other_same tree old.procedures met.procedures c.in-Err.ensures.none kept.no_other) is.1 is.0))
+    (no_other_same tree old.procedures met.procedures c.in-Err.ensures.none kept.no_other)
+    (names_same tree old.entries met.entries c.in-Err.ensures.no_names kept.no_name) is.1 is.0))
 
 -- no memory for its node or its names: its bodies are dropped again
 pub invariant_of-self-then-is_err : goal.invariant_of-self-then-is_err
