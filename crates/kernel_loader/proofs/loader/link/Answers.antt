@@ -1,8 +1,6 @@
-use Rattle.std.proofs.Common.{◌≡◌, List, take}
-use Rattle.janus_meaning.specs.Syntax.{Name}
+use Rattle.std.proofs.Common.{◌∙◌}
 use Rattle.kernel_loader.proofs.Unlisted.{taken_back, shows_unlisted}
 use Rattle.kernel_runner.proofs.Growing.{same_more}
-use Rattle.kernel_loader.proofs.loader.link.Given as given
 use Rattle.kernel_loader.proofs.loader.link.Goals as goal
 
 pub returns-in-Err-clause-no_names : goal.returns-in-Err-clause-no_names
