@@ -88,7 +88,7 @@ impl<C: Drop> Tree<C> {
     ///
     /// # Errors
     ///
-    /// `HistoryFull` exactly where the tree is full, `Memory` only where a growth was refused. Either leaves the nodes, the favourites and the way.
+    /// `HistoryFull` exactly where the tree is full, `Memory` only where there was no room before. Either leaves the nodes, the favourites and the way.
     pub fn room(&mut self) -> Result<(), TreeFault>
         ensures ok { OnOk result (0 < self.new.room) }
         ensures same { self.new ≡ record self.old { room = self.new.room } }

@@ -291,11 +291,12 @@ impl<L: Ledger> Store<L> {
         self.stacks.len()
     }
 
-    /// Makes room for the numbers below `count`, so that each of them has a name. An error for want of memory leaves what is declared.
+    /// Makes room for the numbers below `count`, so that each of them has a name. An error for want of memory leaves the store.
     pub fn reach(&mut self, count: usize) -> Result<(), AllocError>
         ensures reached { OnOk result (length self.new.names ≡ max count (length self.old.names)) }
         ensures goes_on { GoOn self.old.names self.new.names }
         ensures same { self.new ≡ record self.old { names = self.new.names } }
+        ensures err { OnErr result (self.new.names ≡ self.old.names) }
     {
         reach_in(&mut self.newest, count)
     }
@@ -768,6 +769,7 @@ fn sight_start(calls: &[Call]) -> usize
 fn reach_in(newest: &mut Vec<usize>, count: usize) -> Result<(), AllocError>
     ensures more { (more : ℕ) × (newest.new.items ≡ newest.old.items ++ replicate more 0) }
     ensures reached { OnOk result (vec_len newest.new ≡ max count (vec_len newest.old)) }
+    ensures err { OnErr result (newest.new.items ≡ newest.old.items) }
 {
     if count <= newest.len() {
         return Ok(());

@@ -6,6 +6,8 @@ pub mod Standing
 pub mod InTime
 pub mod Depths
 pub mod Rows
+mod Done
+mod TableNames
 pub mod Crosses
 -- Of janus_store, given again.
 pub use Rattle.janus_store.proofs.Crosses as StoreCrosses

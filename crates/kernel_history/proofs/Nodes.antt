@@ -180,6 +180,34 @@ cell_added tree larger node n cell e at high =
       get_new (contents_of tree.cells) node.content cell (sym (ap (λ (i : ℕ). slice_get (contents_of tree.cells ++ node.content ∷ []) i) last) ∙ read),
     )
 
+get_front : {A : Type 0} (xs : List A) (y a : A) (i : ℕ) → slice_get xs i ≡ Some a → slice_get (xs ++ y ∷ []) i ≡ Some a
+get_front [] y a i h = absurd (cc)
+get_front (x ∷ xs) y a zero h = h
+get_front (x ∷ xs) y a (suc i) h = get_front xs y a i h
+
+get_last : {A : Type 0} (xs : List A) (y : A) → slice_get (xs ++ y ∷ []) (length xs) ≡ Some y
+get_last [] y = refl
+get_last (x ∷ xs) y = get_last xs y
+
+-- what they held they hold, and the new one too
+pub cell_grown : (tree larger : HistoryTree) (node : Node EndedCell) (n : ℕ) (cell : EndedCell) → larger.cells.nodes ≡ tree.cells.nodes ++ node ∷ [] →
+    IsCellAt tree n cell → IsCellAt larger n cell
+cell_grown tree larger node n cell e at = (
+  at.0,
+  ap (λ (xs : List EndedCell). slice_get xs (n - 1)) (contents_more tree larger node e)
+      ∙ get_front (contents_of tree.cells) node.content cell (n - 1) at.1,
+)
+
+pub cell_new : (tree larger : HistoryTree) (node : Node EndedCell) → larger.cells.nodes ≡ tree.cells.nodes ++ node ∷ [] →
+    IsCellAt larger (length tree.cells.nodes + 1) node.content
+cell_new tree larger node e =
+    let count : length (contents_of tree.cells) ≡ length tree.cells.nodes = length-map tree.cells.nodes (λ (node : Node EndedCell). node.content) in
+    let last : length tree.cells.nodes + 1 - 1 ≡ length (contents_of tree.cells) = omega arith in (
+      omega arith,
+      ap (λ (xs : List EndedCell). slice_get xs (length tree.cells.nodes + 1 - 1)) (contents_more tree larger node e)
+          ∙ ap (λ (i : ℕ). slice_get (contents_of tree.cells ++ node.content ∷ []) i) last ∙ get_last (contents_of tree.cells) node.content,
+    )
+
 -- its parent is the one that it was added with
 parent_added : (nodes : List (Node EndedCell)) (node : Node EndedCell) → parent_in (parents_of (nodes ++ node ∷ [])) (length nodes + 1) ≡ node.parent
 parent_added nodes node =

@@ -39,7 +39,7 @@ use Rattle.kernel_loader.specs.Runner.{IsInside, CanEnter, CanReturn, CanLeave}
 use Rattle.kernel_history.specs.Bodies.{IsCellAt, IsBefore, IsBehindNodes, CanRun, NodesAreReady, AreInOrder, bodies_at, bodies_in, IsProgramOf}
 use Rattle.kernel_history.specs.Bodies.{bodies_of_nodes, KeepsNoOther, KeepsNoOtherFor}
 use Rattle.kernel_history.specs.Standing.{is_back, shown_here, place_in, StandsIn, StandsAt}
-use Rattle.kernel_history.specs.Kept.{Kept, IsKept, HasRoom, HasPath, HasPathFor}
+use Rattle.kernel_history.specs.Kept.{Kept, IsKept, HasRoom, HasPath, HasPathFor, KeepsOlderNames, KeepsOlderNamesFor, unlisted}
 use Rattle.kernel_loader.specs.runner.Runner.{Runner}
 use Rattle.kernel_loader.specs.program.Program.{Program}
 use Rattle.kernel_history.specs.declared.tree.EndedCell.{EndedCell}
@@ -54,8 +54,11 @@ use Rattle.kernel_history.specs.declared.job.Open.{Open}
 use Rattle.kernel_history.specs.declared.job.Open.TheVariants.{Idle, Border, Inside}
 use Rattle.kernel_machine.proofs.LanguageLaws.{part_none_forward, part_none_backward, exec_end, exec_some}
 use Rattle.kernel_loader.proofs.Growing.{same_more, ready_grows, defined_grow}
+use Rattle.kernel_loader.proofs.Unlisted.{taken_back, shown_same, shows_unlisted}
 use Rattle.janus_slots.proofs.Whole.{names_size}
 use Rattle.kernel_loader.proofs.Running.{stands_part}
+use Rattle.kernel_history.specs.TableNames.{AreOfNodes, ListsNoOtherFor}
+use Rattle.kernel_history.proofs.TableNames.{names_nodes, names_same, names_still, names_grown}
 use Rattle.kernel_history.proofs.BodiesAt.{bodies_same, bodies_of_cell, bodies_new, bodies_below, cell_behind, ready_same, ready_less, ready_more}
 use Rattle.kernel_history.proofs.Nodes.{count_of_nodes, cell_there, same_program, contents_more, cell_kept, cell_added}
 use Rattle.kernel_history.proofs.WorldNames.{exec_names, names_below, world_kept, world_added, listed_still, listed_own}
@@ -114,6 +117,19 @@ work_no_other : (tree : HistoryTree) (work : Work) (old new : Procedures) → ke
 work_no_other tree (RunCell program) old new same h = (h.0, ap (λ (bs : List LinkedProcedure). length bs) same ∙ h.1)
 work_no_other tree (Move travel) old new same h = no_other_same tree old new same h
 
+work_older_names : {L : Type 0} (tree : HistoryTree) (work : Work) (runner at : Runner L) → GoOn runner.counted.store.names at.counted.store.names →
+    at.entries ≡ runner.entries → kept_in at.procedures ≡ kept_in runner.procedures → KeepsOlderNamesFor tree runner work → KeepsOlderNamesFor tree at work
+work_older_names tree (RunCell program) runner at more entries same h =
+    let ps = (here (past_of tree)).procedures in
+    let less : take program.first_name at.entries ≡ take program.first_name runner.entries = ap (λ (l : List Name). take program.first_name l) entries in
+    record {
+      ready = nodes_ready tree (unlisted program runner) (unlisted program at) more
+          (same_more (take program.first_name runner.entries) (take program.first_name at.entries) less) same h.ready;
+      listed = subst (λ (l : List Name). AreListed l ps) (sym less) h.listed;
+      same = ap (λ (l : List Name). slots.procedures_in l ps) entries ∙ h.same ∙ ap (λ (l : List Name). slots.procedures_in l ps) (sym less);
+    }
+work_older_names tree (Move travel) runner at more entries same h = tt
+
 pub kept_inside : {L : Type 0} (tree : HistoryTree) (work : Work) (count c : ℕ) (heading to : Heading) (runner at : Runner L) →
     Kept tree runner (Inside (record { work = work; count = count; heading = heading })) → GoOn runner.counted.store.names at.counted.store.names →
     at.entries ≡ runner.entries → kept_in at.procedures ≡ kept_in runner.procedures → StandsIn tree work c (is_back to) at →
@@ -129,11 +145,13 @@ kept_inside tree work count c heading to runner at k more entries same p = recor
   order = k.order;
   behind = k.behind;
   no_other = work_no_other tree work runner.procedures at.procedures same k.no_other;
+  older_names = work_older_names tree work runner at more entries same k.older_names;
+  no_name = names_still tree work runner.entries at.entries entries k.no_name;
 }
 
 pub kept_idle : {L : Type 0} (tree : HistoryTree) (job : Open) (runner at : Runner L) → Kept tree runner job → NodesAreReady tree at →
-    KeepsNoOther tree at.procedures → IsWhole at.counted.store → Shows at (shown_here tree) → Kept tree at Idle
-kept_idle tree job runner at k ready no_other whole shows = record {
+    KeepsNoOther tree at.procedures → AreOfNodes tree at.entries → IsWhole at.counted.store → Shows at (shown_here tree) → Kept tree at Idle
+kept_idle tree job runner at k ready no_other no_name whole shows = record {
   legal = k.legal;
   possible = tt;
   counted = tt;
@@ -144,6 +162,8 @@ kept_idle tree job runner at k ready no_other whole shows = record {
   order = k.order;
   behind = tt;
   no_other = no_other;
+  older_names = tt;
+  no_name = no_name;
 }
 
 -- a store that shows the same shows the same world
@@ -164,11 +184,12 @@ shows_still runner at shown h same entries shows =
 
 -- no cell could be entered
 pub kept_refused : {L : Type 0} (tree : HistoryTree) (job : Open) (runner at : Runner L) → Kept tree runner job → KeepsNoOther tree runner.procedures →
-    Shows runner (shown_here tree) → Becomes runner.counted.store at.counted.store (shown_store runner.counted.store) → at.procedures ≡ runner.procedures →
+    AreOfNodes tree runner.entries → Shows runner (shown_here tree) → Becomes runner.counted.store at.counted.store (shown_store runner.counted.store) → at.procedures ≡ runner.procedures →
     at.entries ≡ runner.entries → Kept tree at Idle
-kept_refused tree job runner at k no_other shows h same entries =
+kept_refused tree job runner at k no_other no_name shows h same entries =
     kept_idle tree job runner at k (nodes_ready tree runner at h.names (same_more runner.entries at.entries entries) (ap kept_in same) k.ready)
-    (no_other_same tree runner.procedures at.procedures (ap kept_in same) no_other) h.whole (shows_still runner at (shown_here tree) h same entries shows)
+    (no_other_same tree runner.procedures at.procedures (ap kept_in same) no_other) (names_same tree runner.entries at.entries entries no_name) h.whole
+    (shows_still runner at (shown_here tree) h same entries shows)
 
 -- ---- what is kept of the nodes alone
 
@@ -250,9 +271,9 @@ pub kept_grown : {L : Type 0} (tree larger : HistoryTree) (program : ACell) (n :
     larger.position ≡ length (nodes_of tree) →
     IsLegal (past_of tree) → IsFormed program (here (past_of tree)) →
     CodeExec (Forward program) (here (past_of tree)) n v → Shows runner (over (bodies_at larger larger.position) v) → IsWhole runner.counted.store →
-    NodesAreReady larger runner → AreInOrder larger → KeepsNoOther larger runner.procedures →
+    NodesAreReady larger runner → AreInOrder larger → KeepsNoOther larger runner.procedures → AreOfNodes larger runner.entries →
     Kept larger runner Idle
-kept_grown tree larger program n runner v nodes favourites position legal formed ran shows whole ready order no_other =
+kept_grown tree larger program n runner v nodes favourites position legal formed ran shows whole ready order no_other no_name =
     let e = state_grown tree larger program n v nodes favourites position ran in
     let last : get_or (worlds_from [] (nodes_of tree) ++ v ∷ []) (length (nodes_of tree)) empty_world ≡ v =
     get_or_at (worlds_from [] (nodes_of tree)) v [] empty_world (length (nodes_of tree)) legal.worlds in
@@ -267,6 +288,8 @@ kept_grown tree larger program n runner v nodes favourites position legal formed
       order = order;
       behind = tt;
       no_other = no_other;
+      older_names = tt;
+      no_name = no_name;
     }
 
 -- ---- a cell of a travel
@@ -287,8 +310,8 @@ pub kept_arrived : {L : Type 0} (left : ℕ) (moved-to : HistoryTree) (travel : 
     IsLegal (past_of moved-to) → Shows runner (shown_here moved-to) → IsWhole runner.counted.store →
     CanGo travel.aim (nodes_of moved-to) moved-to.cells.favourites moved-to.position travel.up travel.down → IsCounted travel →
     HasPath travel.aim moved-to travel.down → NodesAreReady moved-to runner → AreInOrder moved-to → KeepsNoOther moved-to runner.procedures →
-    Arrives left (past_of moved-to) travel told (state_of moved-to job) → Kept moved-to runner job
-kept_arrived zero tree travel told job runner size legal shown whole can small path ready order no_other a =
+    AreOfNodes moved-to runner.entries → Arrives left (past_of moved-to) travel told (state_of moved-to job) → Kept moved-to runner job
+kept_arrived zero tree travel told job runner size legal shown whole can small path ready order no_other no_name a =
     let e : job ≡ Idle = idle_job job (ap (λ (s : State). s.job) a.1) in
     rw e (record {
       legal = legal;
@@ -301,8 +324,10 @@ kept_arrived zero tree travel told job runner size legal shown whole can small p
       order = order;
       behind = tt;
       no_other = no_other;
+      older_names = tt;
+      no_name = no_name;
     })
-kept_arrived (suc left) tree travel told job runner size legal shown whole can small path ready order no_other a =
+kept_arrived (suc left) tree travel told job runner size legal shown whole can small path ready order no_other no_name a =
     let at = border_job job _ (ap (λ (s : State). s.job) a.1) in
     let possible : IsPossible (nodes_of tree) tree.cells.favourites tree.position travel = record { some = omega arith; way_there = can } in
     rw at.1 (record {
@@ -316,6 +341,8 @@ kept_arrived (suc left) tree travel told job runner size legal shown whole can s
       order = order;
       behind = tt;
       no_other = no_other;
+      older_names = tt;
+      no_name = no_name;
     })
 
 -- a path is kept for a way that is one node shorter
@@ -333,13 +360,13 @@ path_of (Goto n) tree other down e f h = rw (e, f) h
 pub kept_up : {L : Type 0} (tree : HistoryTree) (p : ℕ) (travel : Travel) (runner : Runner L) (told : Sliced) (job : Open) → next_way travel ≡ Up →
     IsLegal (past_of tree) →
     IsPossible (nodes_of tree) tree.cells.favourites tree.position travel → IsCounted travel → HasPath travel.aim tree travel.down → NodesAreReady tree runner →
-    AreInOrder tree → KeepsNoOther tree runner.procedures → IsWhole runner.counted.store →
+    AreInOrder tree → KeepsNoOther tree runner.procedures → AreOfNodes tree runner.entries → IsWhole runner.counted.store →
     p ≡ (node_at (past_of tree) tree.position).parent →
     Shows runner (over (bodies_at tree (node_at (past_of tree) tree.position).parent)
     (world_at (past_of tree) (node_at (past_of tree) tree.position).parent)) →
     Arrives (cells (stepped travel)) (past_of (record tree { position = p })) (stepped travel) told (state_of (record tree { position = p }) job) →
     Kept (record tree { position = p }) runner job
-kept_up tree p travel runner told job way legal possible small path ready order no_other whole to shows a =
+kept_up tree p travel runner told job way legal possible small path ready order no_other no_name whole to shows a =
     let can = up_possible (past_of tree) travel way possible in
     let some = possible.some in
     let first = small.0 in
@@ -352,18 +379,18 @@ kept_up tree p travel runner told job way legal possible small path ready order 
     (subst (λ (m : ℕ). Shows runner (over (bodies_at tree m) (world_at (past_of tree) m))) (sym to) shows))
     whole (rw to can.1) (omega arith, small.1)
     (path_of travel.aim tree above travel.down refl refl path) (placed_nodes tree above runner refl ready) (ordered_nodes tree above refl order)
-    (no_other_nodes tree above runner.procedures refl no_other)
+    (no_other_nodes tree above runner.procedures refl no_other) (names_nodes tree above runner.entries refl no_name)
     (subst (λ (t : Travel). Arrives (cells t) (past_of above) t told (state_of above job)) e a)
 
 pub kept_down : {L : Type 0} (tree moved-to : HistoryTree) (c : ℕ) (travel : Travel) (runner : Runner L) (told : Sliced) (job : Open) → next_way travel ≡ Down →
     IsLegal (past_of tree) →
     IsPossible (nodes_of tree) tree.cells.favourites tree.position travel → IsCounted travel → HasPath travel.aim tree travel.down → NodesAreReady tree runner →
-    AreInOrder tree → KeepsNoOther tree runner.procedures → IsWhole runner.counted.store →
+    AreInOrder tree → KeepsNoOther tree runner.procedures → AreOfNodes tree runner.entries → IsWhole runner.counted.store →
     c ≡ below (past_of tree) travel → moved-to.cells.nodes ≡ tree.cells.nodes → moved-to.cells.favourites ≡ set tree.cells.favourites tree.position c →
     moved-to.position ≡ c → moved-to.cells.way ≡ tree.cells.way →
     Shows runner (over (bodies_at tree (below (past_of tree) travel)) (world_at (past_of tree) (below (past_of tree) travel))) →
     Arrives (cells (stepped travel)) (past_of moved-to) (stepped travel) told (state_of moved-to job) → Kept moved-to runner job
-kept_down tree moved-to c travel runner told job way legal possible small path ready order no_other whole to nodes favourites position kept-path shows a =
+kept_down tree moved-to c travel runner told job way legal possible small path ready order no_other no_name whole to nodes favourites position kept-path shows a =
     let next = next_below (past_of tree) travel legal way possible in
     let can = down_possible (past_of tree) travel legal way possible in
     let some = possible.some in
@@ -387,7 +414,7 @@ kept_down tree moved-to c travel runner told job way legal possible small path r
     (subst (λ (u : ℕ). CanGo travel.aim (nodes_of tree) (set tree.cells.favourites tree.position (below (past_of tree) travel)) (below (past_of tree) travel) u
     (travel.down - 1)) (sym none) can))
     (small.0, omega arith) kept (placed_nodes tree moved-to runner nodes ready) (ordered_nodes tree moved-to nodes order)
-    (no_other_nodes tree moved-to runner.procedures nodes no_other)
+    (no_other_nodes tree moved-to runner.procedures nodes no_other) (names_nodes tree moved-to runner.entries nodes no_name)
     (subst (λ (t : Travel). Arrives (cells t) (past_of moved-to) t told (state_of moved-to job)) e a)
 
 -- the world at the end of an undone cell, and of a redone one
@@ -445,6 +472,9 @@ module _ {L : Type 0} (tree larger : HistoryTree) (program : Program) (n : ℕ) 
       let more = bodies_grown tree larger (record { parent = tree.position; content = record { program = program; steps = n } }) nodes in
       omega (arith, first, kept, more)
 
+  pub no_name_more : AreOfNodes larger runner.entries
+  no_name_more = names_grown tree larger (record { parent = tree.position; content = record { program = program; steps = n } }) runner.entries nodes k.no_name
+
   -- its own bodies are defined over those of the position
   pub shown_more : larger.position ≡ length (nodes_of tree) →
       Shows runner (over (bodies_at larger larger.position) (world_of (start_of (Forward (cell_of_program program)) (here (past_of tree))).procedures runner))
@@ -478,6 +508,8 @@ kept_entered tree runner at travel k more entries same stands =
       order = k.order;
       behind = tt;
       no_other = no_other_same tree runner.procedures at.procedures same k.no_other;
+      older_names = tt;
+      no_name = names_same tree runner.entries at.entries entries k.no_name;
     })
     (exec_some (code_of (past_of tree) (state.Move travel)) (here (past_of tree)))
 
@@ -490,12 +522,44 @@ behind_nodes : (tree other : HistoryTree) (program : Program) → other.cells.no
 behind_nodes tree other program e h =
     subst (λ (nodes : List (Node EndedCell)). IsBehindNodes (record other { cells = record other.cells { nodes = nodes } }) (RunCell program)) (sym e) h
 
+pub nodes_more : {L : Type 0} (tree : HistoryTree) (runner at : Runner L) → GoOn runner.counted.store.names at.counted.store.names →
+    GoOn runner.entries at.entries →
+    take (length (kept_in runner.procedures)) (kept_in at.procedures) ≡ kept_in runner.procedures → NodesAreReady tree runner → NodesAreReady tree at
+nodes_more tree runner at more listed older h = λ n cell is.
+    (let g : List Name = names_in (world_at (past_of tree) n).store in
+    can_run_still runner at g cell.program more listed (ready_more at.counted.store.names at.entries g runner.procedures at.procedures cell.program older)
+    (h n cell is))
+
+-- a posted cell is loaded: without its names the table is what it was
+pub older_names_begun : {L : Type 0} (tree : HistoryTree) (old at : Runner L) (program : Program) → NodesAreReady tree old →
+    Is old (Between (shown_here tree)) → GoOn old.counted.store.names at.counted.store.names → GoOn old.entries at.entries →
+    take (length (kept_in old.procedures)) (kept_in at.procedures) ≡ kept_in old.procedures → program.first_name ≡ length old.entries →
+    KeepsOlderNames tree at program
+older_names_begun tree old at program ready is more onward older first =
+    let ps = (here (past_of tree)).procedures in
+    let less : take program.first_name at.entries ≡ old.entries = taken_back old.entries at.entries program.first_name first onward in
+    record {
+      ready = nodes_more tree old (unlisted program at) more (same_more old.entries (take program.first_name at.entries) less) older ready;
+      listed = subst (λ (l : List Name). AreListed l ps) (sym less) is.0.listed;
+      same = shown_same old at.entries (shown_here tree) onward is ∙ ap (λ (l : List Name). slots.procedures_in l ps) (sym less);
+    }
+
+older_names_nodes : {L : Type 0} (tree made : HistoryTree) (at : Runner L) (program : Program) → past_of made ≡ past_of tree →
+    made.cells.nodes ≡ tree.cells.nodes → KeepsOlderNames tree at program → KeepsOlderNames made at program
+older_names_nodes tree made at program same nodes h =
+    let less : List Name = take program.first_name at.entries in
+    record {
+      ready = placed_nodes tree made (unlisted program at) nodes h.ready;
+      listed = subst (λ (s : Past). AreListed less (here s).procedures) (sym same) h.listed;
+      same = subst (λ (s : Past). slots.procedures_in at.entries (here s).procedures ≡ slots.procedures_in less (here s).procedures) (sym same) h.same;
+    }
+
 pub kept_begun : {L : Type 0} (tree made : HistoryTree) (runner at : Runner L) (program : Program) → Kept tree runner Idle → NodesAreReady tree at →
-    IsBehindNodes tree (RunCell program) → past_of made ≡ past_of tree → made.cells.nodes ≡ tree.cells.nodes → made.position ≡ tree.position → HasRoom made →
+    KeepsOlderNames tree at program → ListsNoOtherFor tree (RunCell program) at.entries → IsBehindNodes tree (RunCell program) → past_of made ≡ past_of tree → made.cells.nodes ≡ tree.cells.nodes → made.position ≡ tree.position → HasRoom made →
     IsFormed (cell_of_program program) (here (past_of tree)) → program.first ≡ length (kept_in runner.procedures) →
     length (kept_in at.procedures) ≡ program.first + length (procedures_of program) →
     Stands at program (entry program (shown_here tree)) false → IsKept made at (Inside (record { work = RunCell program; count = 0; heading = GoesOn }))
-kept_begun tree made runner at program k ready behind same nodes position room formed first last stands =
+kept_begun tree made runner at program k ready older names behind same nodes position room formed first last stands =
     let stack : bodies_at made made.position ≡ bodies_at tree tree.position = bodies_same tree made made.position nodes ∙ ap (bodies_at tree) position in
     kept_in_time made at (Inside (record { work = RunCell program; count = 0; heading = GoesOn }))
     (record {
@@ -514,6 +578,8 @@ kept_begun tree made runner at program k ready behind same nodes position room f
       order = ordered_nodes tree made nodes k.order;
       behind = behind_nodes tree made program nodes behind;
       no_other = (first ∙ no_other_nodes tree made runner.procedures nodes k.no_other, last);
+      older_names = older_names_nodes tree made at program same nodes older;
+      no_name = (names_nodes tree made (take program.first_name at.entries) nodes names.0, names.1);
     })
     (exec_some (code_of (past_of made) (state.Posted (cell_of_program program))) (here (past_of made)))
 
@@ -537,6 +603,8 @@ kept_with_room tree made runner k same nodes position =
       order = ordered_nodes tree made nodes k.order;
       behind = tt;
       no_other = no_other_nodes tree made runner.procedures nodes k.no_other;
+      older_names = tt;
+      no_name = names_nodes tree made runner.entries nodes k.no_name;
     }
 
 pub ok_fact : {A E : Type 0} (P : Type 0) (r : Result A E) → is_err r ≡ false → OnOk r P → P
@@ -620,8 +688,8 @@ pub no_other_new : (tree : HistoryTree) (t : Procedures) → tree.cells ≡ root
 no_other_new tree t alone none = rw (alone, none) refl
 
 pub kept_new : {L : Type 0} (tree : HistoryTree) (runner : Runner L) → past_of tree ≡ new_state.past → tree.position ≡ 0 →
-    Is runner (Between (over [] empty_world)) → KeepsNoOther tree runner.procedures → Kept tree runner Idle
-kept_new tree runner e position is no_other = record {
+    Is runner (Between (over [] empty_world)) → KeepsNoOther tree runner.procedures → AreOfNodes tree runner.entries → Kept tree runner Idle
+kept_new tree runner e position is no_other no_name = record {
   legal = subst (λ (s : Past). IsLegal s) (sym e) new_legal;
   possible = tt;
   counted = tt;
@@ -636,6 +704,8 @@ kept_new tree runner e position is no_other = record {
   order = ordered_none tree e;
   behind = tt;
   no_other = no_other;
+  older_names = tt;
+  no_name = no_name;
 }
 
 -- the program of an undo and of a redo, as it is read
@@ -887,14 +957,6 @@ pub posted_behind : {L : Type 0} (tree : HistoryTree) (runner : Runner L) (progr
     program.first ≡ length (kept_in runner.procedures) → IsBehindNodes tree (RunCell program)
 posted_behind tree runner program ready first = λ n cell is. let within = (ready n cell is).ready.within in omega (arith, within, first)
 
-pub nodes_more : {L : Type 0} (tree : HistoryTree) (runner at : Runner L) → GoOn runner.counted.store.names at.counted.store.names →
-    GoOn runner.entries at.entries →
-    take (length (kept_in runner.procedures)) (kept_in at.procedures) ≡ kept_in runner.procedures → NodesAreReady tree runner → NodesAreReady tree at
-nodes_more tree runner at more listed older h = λ n cell is.
-    (let g : List Name = names_in (world_at (past_of tree) n).store in
-    can_run_still runner at g cell.program more listed (ready_more at.counted.store.names at.entries g runner.procedures at.procedures cell.program older)
-    (h n cell is))
-
 pub behind_stack : (tree : HistoryTree) (program : Program) → IsLegal (past_of tree) → AreInOrder tree → IsBehindNodes tree (RunCell program) →
     AreBelow program.first (bodies_at tree tree.position)
 behind_stack tree program legal order behind = bodies_below tree legal order program.first tree.position (λ m cell low there. behind m cell there)
@@ -973,6 +1035,24 @@ module _ {L : Type 0} (tree : HistoryTree) (runner : Runner L) (work : Work) (wh
       can_run_still old new g cell.program (same_more old.counted.store.names new.counted.store.names names) (same_more old.entries new.entries entries)
       (ready_less new.counted.store.names new.entries g old.procedures new.procedures program.first cell.program (behind n cell is) kept) (ready n cell is)
 
+  -- the names of the posted cell leave the table
+  pub no_name_forgotten : (at : List Name) (program : Program) → work ≡ RunCell program → at ≡ take program.first_name runner.entries → AreOfNodes tree at
+  no_name_forgotten at program e less =
+      let own : ListsNoOtherFor tree (RunCell program) runner.entries = subst (λ (w : Work). ListsNoOtherFor tree w runner.entries) e k.no_name in
+      names_same tree (take program.first_name runner.entries) at less own.0
+
+  -- a move has none of its own
+  pub no_name_back : (travel : Travel) (at : List Name) → work ≡ Move travel → at ≡ runner.entries → AreOfNodes tree at
+  no_name_back travel at e same =
+      let own : AreOfNodes tree runner.entries = subst (λ (w : Work). ListsNoOtherFor tree w runner.entries) e k.no_name in
+      names_same tree runner.entries at same own
+
+  -- when it is left, the table without its names is still enough
+  pub older_names_left : (at : Runner L) (program : Program) → work ≡ RunCell program → GoOn runner.counted.store.names at.counted.store.names →
+      at.entries ≡ runner.entries → kept_in at.procedures ≡ kept_in runner.procedures → KeepsOlderNames tree at program
+  older_names_left at program e more entries same =
+      work_older_names tree (RunCell program) runner at more entries same (subst (λ (w : Work). KeepsOlderNamesFor tree runner w) e k.older_names)
+
 -- what is shown stays where bodies that are not defined are dropped
 pub shows_forgotten : {L : Type 0} (old new : Runner L) (from : ℕ) (shown : ShownWorld) → new.counted.store ≡ old.counted.store → new.entries ≡ old.entries →
     Shows old shown →
@@ -1004,18 +1084,21 @@ pub record IsUnentered {L : Type 0} (tree : HistoryTree) (old : Runner L) (made 
   pub older : take (length (kept_in old.procedures)) (kept_in at.procedures) ≡ kept_in old.procedures
   pub idle : job ≡ Idle
 
--- its bodies are dropped
-pub kept_dropped : {L : Type 0} (tree made : HistoryTree) (old at new : Runner L) (job : Open) (first : ℕ) → Kept tree old Idle →
-    IsUnentered tree old made at job → first ≡ length (kept_in old.procedures) → AreBelow first (bodies_at tree tree.position) →
-    new.counted.store ≡ at.counted.store → new.entries ≡ at.entries → kept_in new.procedures ≡ take first (kept_in at.procedures) →
+-- its bodies and its names are dropped
+pub kept_dropped : {L : Type 0} (tree made : HistoryTree) (old at new : Runner L) (job : Open) (first first_name : ℕ) → Kept tree old Idle →
+    IsUnentered tree old made at job → first ≡ length (kept_in old.procedures) → first_name ≡ length old.entries →
+    AreBelow first (bodies_at tree tree.position) →
+    new.counted.store ≡ at.counted.store → new.entries ≡ take first_name at.entries → kept_in new.procedures ≡ take first (kept_in at.procedures) →
     ((stack : List ℕ) → AreDefined at.procedures stack → AreBelow first stack → AreDefined new.procedures stack) → IsKept made new job
-kept_dropped tree made old at new job first k un is low store entries kept defined =
+kept_dropped tree made old at new job first first_name k un is named low store entries kept defined =
     let same : kept_in new.procedures ≡ kept_in old.procedures = kept ∙ ap (λ (n : ℕ). take n (kept_in at.procedures)) is ∙ un.older in
     let names : GoOn old.counted.store.names new.counted.store.names = subst (λ (h : StoreState). GoOn old.counted.store.names h.names) (sym store) un.names in
-    let listed : GoOn old.entries new.entries = subst (λ (es : List Name). GoOn old.entries es) (sym entries) un.entries in
+    let less : take first_name at.entries ≡ old.entries = taken_back old.entries at.entries first_name named un.entries in
+    let listed : GoOn old.entries new.entries = same_more old.entries new.entries (entries ∙ less) in
     let whole : IsWhole new.counted.store = subst (λ (h : StoreState). IsWhole h) (sym store) un.whole in
-    let shows = shows_forgotten at new first (shown_here tree) store entries un.shows low kept
+    let shows = shows_forgotten (record at { entries = take first_name at.entries }) new first (shown_here tree) store entries
+    (shows_unlisted old at (take first_name at.entries) (shown_here tree) un.entries less k.stands un.shows) low kept
     (defined (bodies_at tree tree.position) un.shows.defined.defined low) in
     let idle = kept_idle tree Idle old new k (nodes_ready tree old new names listed same k.ready)
-    (no_other_same tree old.procedures new.procedures same k.no_other) whole shows in
+    (no_other_same tree old.procedures new.procedures same k.no_other) (names_same tree old.entries new.entries (entries ∙ less) k.no_name) whole shows in
     subst (λ (j : Open). IsKept made new j) (sym un.idle) (idle_in_time made new (kept_with_room tree made new idle un.past un.nodes un.position))

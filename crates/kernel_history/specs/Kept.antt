@@ -8,6 +8,8 @@
 --                         `HasRoomAt`: there is room for the node that a posted cell becomes
 --                         `HasPathAt`: the way of a goto is kept
 -- of all three            `KeepsNoOtherAt` (Bodies): as many bodies are kept as the nodes and an open posted cell have
+--                         `ListsNoOtherAt` (TableNames): the table of names has those of their procedures, and no others
+--                         `KeepsOlderNamesAt`: without the names that came with an open posted cell, the table is enough for what is there besides
 --                         `StandsAt` (Standing): the runner shows the world of the position, or has taken the job's steps from there
 --
 -- All of this is `Kept`, which holds in the middle of a slice too. Between two calls `IsKept` holds, which has beside this:
@@ -15,13 +17,16 @@
 -- of tree and open job    `IsInTimeAt` (`kernel_machine`, specs/Legal): it has steps to take
 -- of all three            `HasIndex` (Index): each entry of the index is the body that the entered cell defines, where it was posted or a move goes
 --                         down to it, else the one of the nearest node that defines its name from the position up to the root, or none
-use Rattle.std.specs.Prelude.{◌≡◌, ℕ, ◌+◌, ◌<◌, ◌≤◌, length, slice_index}
+use Rattle.std.specs.Prelude.{◌≡◌, ℕ, ◌+◌, ◌<◌, ◌≤◌, List, length, slice_index, take}
 use Rattle.janus_store.specs.StoreState.{IsWhole}
+use Rattle.janus_meaning.specs.Syntax.{Name}
 use Rattle.janus_meaning.specs.World.{World}
+use Rattle.janus_slots.specs.Slots as slots
+use Rattle.janus_slots.specs.Law.{AreListed}
 use Rattle.kernel_machine.specs.Slices.{HasEnded, Settles}
 use Rattle.kernel_machine.specs.declared.outcome.Sliced.{Sliced}
 use Rattle.kernel_machine.specs.declared.outcome.Sliced.TheVariants as sliced
-use Rattle.kernel_machine.specs.State.{State, ancestor}
+use Rattle.kernel_machine.specs.State.{State, ancestor, here}
 use Rattle.kernel_machine.specs.declared.travel.Aim.{Aim}
 use Rattle.kernel_machine.specs.declared.travel.Aim.TheVariants.{Undo, Redo, Goto}
 use Rattle.kernel_machine.specs.declared.heading.Heading.TheVariants.{GoesOn}
@@ -29,6 +34,7 @@ use Rattle.kernel_history.specs.Fields.{nodes_of, past_of, work_of, job_of}
 use Rattle.kernel_machine.specs.Legal.{IsLegal, IsPossibleAt, IsInTimeAt, IsCountedAt}
 use Rattle.kernel_loader.specs.Runner.{world_of}
 use Rattle.kernel_loader.specs.runner.Runner.{Runner}
+use Rattle.kernel_loader.specs.program.Program.{Program}
 use Rattle.kernel_history.specs.declared.tree.HistoryTree.{HistoryTree}
 use Rattle.kernel_history.specs.declared.job.Work.{Work}
 use Rattle.kernel_history.specs.declared.job.Work.TheVariants.{Cell as RunCell, Move}
@@ -36,6 +42,7 @@ use Rattle.kernel_history.specs.declared.job.Entered.{Entered}
 use Rattle.kernel_history.specs.declared.job.Open.{Open}
 use Rattle.kernel_history.specs.declared.job.Open.TheVariants.{Idle, Border, Inside}
 use Rattle.kernel_history.specs.Bodies.{procedures_in, NodesAreReady, AreInOrder, IsBehindAt, KeepsNoOtherAt}
+use Rattle.kernel_history.specs.TableNames.{ListsNoOtherAt}
 use Rattle.kernel_history.specs.Index.{HasIndex}
 use Rattle.kernel_history.specs.Standing.{StandsAt}
 
@@ -68,6 +75,31 @@ HasPathAt tree Idle = Unit {0}
 HasPathAt tree (Border travel) = HasPath travel.aim tree travel.down
 HasPathAt tree (Inside e) = HasPathFor tree e.work
 
+-- the runner without the names that came into its table for a program
+abbrev pub unlisted : {L : Type 0} → Program → Runner L → Runner L
+unlisted program runner = record runner { entries = take program.first_name runner.entries }
+
+-- without these the table is enough for the programs of all nodes, and for the procedures of the position, which mean the same by it
+pub record KeepsOlderNames {L : Type 0} (tree : HistoryTree) (runner : Runner L) (program : Program) : Type 0 where
+  pub ready : NodesAreReady tree (unlisted program runner)
+  pub listed : AreListed (take program.first_name runner.entries) (here (past_of tree)).procedures
+  pub same : slots.procedures_in runner.entries (here (past_of tree)).procedures
+      ≡ slots.procedures_in (take program.first_name runner.entries) (here (past_of tree)).procedures
+
+abbrev pub KeepsOlderNamesFor : {L : Type 0} → HistoryTree → Runner L → Work → Type 0
+KeepsOlderNamesFor tree runner (RunCell program) = KeepsOlderNames tree runner program
+KeepsOlderNamesFor tree runner (Move travel) = Unit {0}
+
+abbrev pub KeepsOlderNamesAt : {L : Type 0} → HistoryTree → Runner L → Open → Type 0
+KeepsOlderNamesAt tree runner Idle = Unit {0}
+KeepsOlderNamesAt tree runner (Border travel) = Unit {0}
+KeepsOlderNamesAt tree runner (Inside e) = KeepsOlderNamesFor tree runner e.work
+
+-- the table that the work leaves where it is not done: a posted cell's names are out of it again
+abbrev pub entries_left : Work → List Name → List Name
+entries_left (RunCell program) entries = take program.first_name entries
+entries_left (Move travel) entries = entries
+
 -- also in the middle of a slice
 pub record Kept {L : Type 0} (tree : HistoryTree) (runner : Runner L) (job : Open) : Type 0 where
   pub legal : IsLegal (past_of tree)
@@ -80,6 +112,8 @@ pub record Kept {L : Type 0} (tree : HistoryTree) (runner : Runner L) (job : Ope
   pub order : AreInOrder tree
   pub behind : IsBehindAt tree job
   pub no_other : KeepsNoOtherAt tree job runner.procedures
+  pub older_names : KeepsOlderNamesAt tree runner job
+  pub no_name : ListsNoOtherAt tree job runner.entries
 
 -- what a history keeps: beside this, its open job has steps to take, and the index is that of the tree
 pub record IsKept {L : Type 0} (tree : HistoryTree) (runner : Runner L) (job : Open) : Type 0 where

@@ -5,8 +5,10 @@ pub mod CountedState
 pub mod NodeTrees
 pub mod Bodies
 pub mod Index
+pub mod TableNames
 pub mod Standing
 pub mod Kept
+pub mod Came
 -- Of janus_store, given again.
 pub use Rattle.janus_store.specs.StoreState
 -- Of kernel_loader, given again.

@@ -1,4 +1,4 @@
--- The tree of a node's cell, with the places of its names and numbers.
+-- A tree of a node's cell. Of the places of its names and numbers, and of the names behind `delocal`, nothing is said.
 use Rattle.std.specs.Prelude.{◌≡◌, ◌⊎◌, ℕ, ◌<◌, ◌≤◌, length}
 use Rattle.janus_syntax.specs.Tree.{Cell}
 use Rattle.janus_syntax.specs.View.{plain_cell}

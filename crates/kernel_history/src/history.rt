@@ -23,6 +23,7 @@ ghost use Rattle.kernel_machine.specs.Extent.{IsExtent};
 ghost use Rattle.janus_syntax.specs.Tree.{cell_view};
 ghost use Rattle.kernel_history.specs.NodeTrees.{IsTreeAt, HasNoTree};
 ghost use Rattle.kernel_history.specs.Bodies.{NodesAreReady, AreInOrder};
+ghost use Rattle.kernel_history.specs.TableNames.{AreItsOwn};
 ghost use Rattle.kernel_history.specs.Standing.{shown_here, StandsAt};
 ghost use Rattle.kernel_history.specs.Kept.{HasPath, Kept, IsKept};
 
@@ -151,6 +152,10 @@ fn prepare<L: Ledger>(
     ensures named { IfOk result (λ program. AreListed runner.new.entries (procedures_of program)) }
     // Its bodies are behind those that were kept, with none behind them, and what is refused leaves those alone.
     ensures behind { IfOk result (λ program. program.first ≡ length (kept_in runner.old.procedures)) }
+    ensures first_name { IfOk result (λ program. program.first_name ≡ length runner.old.entries) }
+    ensures own_names { IfOk result (λ program. AreItsOwn program runner.new.entries) }
+    ensures no_names { OnErr result (runner.new.entries ≡ runner.old.entries) }
+    ensures no_slots { OnErr result (runner.new.counted.store.names ≡ runner.old.counted.store.names) }
     ensures last { IfOk result (λ program. length (kept_in runner.new.procedures) ≡ program.first + length (procedures_of program)) }
     ensures older { KeepsOlder runner.old.procedures runner.new.procedures }
     ensures none { OnErr result (kept_in runner.new.procedures ≡ kept_in runner.old.procedures) }
@@ -208,7 +213,8 @@ impl<L: Ledger> History<L> {
         self.tree.position
     }
 
-    /// The cell of a node, as it was read from its text and checked; none of the root, or where there is no such node.
+    /// A tree that is read as the cell of a node; none of the root, or where there is no such node. Which places its names and numbers have, and which
+    /// names stand behind `delocal`, is not said.
     pub fn cell(&self, node: usize) -> Option<&Cell>
         ensures some { IfSome result (λ cell. IsTreeAt self.now.state.past node (cell_view cell.now)) }
         ensures none { IfNone result (HasNoTree self.now.state.past node) }
@@ -241,7 +247,7 @@ impl<L: Ledger> History<L> {
             Err(refusal) => return Begun::Ended(Outcome::Refused(refusal)),
         };
         if self.tree.cells.room().is_err() || self.runner.enter(&program).is_err() {
-            self.runner.procedures.forget(program.first);
+            self.runner.forget(&program);
             return Begun::Ended(Outcome::Refused(Refusal::Memory));
         }
         self.job = Open::Inside(Entered {

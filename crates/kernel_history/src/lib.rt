@@ -5,7 +5,7 @@
 //!
 //! What the layer above may rely on: contracts see a state of the machine of `kernel_machine`, with the worlds of all nodes, none of which is
 //! kept. `begin_cell`, `begin_undo`, `begin_redo`, `begin_goto` and `enter` are the machine's begins, `slice` is its slice, and takes no memory.
-//! `world` lends the world that is shown, `cell` the tree of a node's cell.
+//! `world` lends the world that is shown, `cell` a tree of a node's cell.
 //!
 //! The code, in reading order; `cell_tree` keeps the nodes, `kernel_loader` loads a cell's text, and `kernel_runner` runs it:
 //!
@@ -16,11 +16,12 @@
 //! The definitions, in specs/, in reading order:
 //!
 //! - `Fields`: the types of the code read as the machine's. `CountedState`: what contracts see of a history, with what is counted.
-//!   `NodeTrees`: the tree of a node's cell.
+//!   `NodeTrees`: a tree of a node's cell.
 //! - `Bodies`: which program a node has and a job runs, which bodies are defined where, and how many are kept.
 //! - `Index`: what the index of bodies tells of the tree.
 //! - `Standing`: where the runner stands.
-//! - `Kept`: what a history keeps of its fields, with a map of it, what a slice leaves, and where a cell has come to its end.
+//! - `Kept`: what a history keeps of its fields, with a map of it, what a slice leaves, and where a cell has come to its end. `Came`: that the cursor of a slice that
+//!   ends a cell came there by steps.
 //!
 //! It gives again what `kernel_core` cites of the layers below: the store, the procedures that are lent, and the names in sight.
 #![tactic(auto)]

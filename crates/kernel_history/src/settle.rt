@@ -13,8 +13,11 @@ ghost use Rattle.janus_names.specs.Numbers.{GoOn};
 ghost use Rattle.janus_store.specs.StoreState.{IsWhole};
 ghost use Rattle.kernel_loader.specs.Runner.{Is, Between, KeepsCounts, writes_of, steps_of};
 ghost use Rattle.kernel_history.specs.Bodies.{IsProgramOf, NodesAreReady, KeepsNoOther};
+ghost use Rattle.kernel_history.specs.TableNames.{AreOfNodes};
 ghost use Rattle.kernel_history.specs.Standing.{shown_here};
 ghost use Rattle.kernel_history.specs.Kept.{Kept, left_by, HasCome, HasComeAt, ComesToEnd, HasPathFor, SettlesFrom, SettlesAt};
+ghost use Rattle.kernel_history.specs.Kept.{entries_left};
+ghost use Rattle.kernel_history.specs.Came.{CameInside, CameBack, CameAt, ends_well};
 
 use crate::job::{Entered, Open, Work};
 use crate::tree::{EndedCell, HistoryTree, below};
@@ -63,21 +66,23 @@ fn turned(work: &Work, why: Why) -> Outcome
 }
 
 /// Back at the count 0: the names that were declared at the begin and the procedures that were defined are taken back, and those of a
-/// posted cell are forgotten.
+/// posted cell are forgotten: of what was loaded for it no body is kept, and no name stands in the table.
 fn settle_back<L: Ledger>(tree: &HistoryTree, runner: &mut Runner<L>, work: &Work)
     requires kept { (why : Why) × Kept tree.now runner.old (Open.Inside (record { work = work.now; count = 0; heading = Heading.GoesBack why })) }
     requires whole { IsWhole runner.old.counted.store }
     ensures is { Is runner.new (Between (shown_here tree.now)) }
     ensures ready { NodesAreReady tree.now runner.new }
     ensures no_other { KeepsNoOther tree.now runner.new.procedures }
+    ensures no_name { AreOfNodes tree.now runner.new.entries }
     ensures names { GoOn runner.old.counted.store.names runner.new.counted.store.names }
-    ensures entries { runner.new.entries ≡ runner.old.entries }
+    ensures entries { runner.new.entries ≡ entries_left work.now runner.old.entries }
     ensures counts { KeepsCounts runner.old runner.new }
+    ensures cursor { runner.new.cursor ≡ runner.old.cursor }
 {
     match work {
         Work::Cell(program) => {
             runner.leave(program);
-            runner.procedures.forget(program.first);
+            runner.forget(program);
         }
         Work::Move(travel) => match travel.way() {
             Way::Up => {}
@@ -99,6 +104,9 @@ fn go_back<L: Ledger>(
     ensures kept { Kept tree.now runner.new (left_by result entered.new) }
     ensures written { IsWritten (steps_back entered.old.count m) (writes_of runner.old) (writes_of runner.new) }
     ensures counted { steps_of runner.new ≡ steps_of runner.old + steps_back entered.old.count m }
+    // The cursor too, where the cell is left by it.
+    ensures came { CameInside tree.now entered.old.work m runner.old runner.new }
+    ensures back { ends_well result ≡ false }
 {
     runner.back(program_of(tree, &entered.work), m);
     let left = entered.count.saturating_sub(m);
@@ -126,6 +134,7 @@ fn turn_back<L: Ledger>(
     ensures kept { Kept tree.now runner.new (left_by result entered.new) }
     ensures written { IsWritten (steps_back entered.old.count m) (writes_of runner.old) (writes_of runner.new) }
     ensures counted { steps_of runner.new ≡ steps_of runner.old + steps_back entered.old.count m }
+    ensures back { ends_well result ≡ false }
 {
     runner.turn(program_of(tree, &entered.work));
     go_back(tree, runner, entered, why, m)
@@ -173,6 +182,7 @@ fn settle_up<L: Ledger>(
     ensures step { SettlesFrom tree.old runner.old (Work.Move travel) n result.1 (state_of tree.new result.0) }
     ensures kept { Kept tree.new runner.new result.0 }
     ensures counts { KeepsCounts runner.old runner.new }
+    ensures cursor { runner.new.cursor ≡ runner.old.cursor }
 {
     runner.leave(&tree.cells.content(tree.position).program);
     tree.position = tree.cells.parent(tree.position);
@@ -208,6 +218,7 @@ fn settle<L: Ledger>(
     ensures step { SettlesFrom tree.old runner.old work n result.1 (state_of tree.new result.0) }
     ensures kept { Kept tree.new runner.new result.0 }
     ensures counts { KeepsCounts runner.old runner.new }
+    ensures cursor { runner.new.cursor ≡ runner.old.cursor }
 {
     match work {
         Work::Cell(program) => settle_cell(tree, runner, program, n),
@@ -224,6 +235,7 @@ fn settle_job<L: Ledger>(tree: &mut HistoryTree, runner: &mut Runner<L>, job: &m
     ensures step { SettlesAt tree.old runner.old job.old result (state_of tree.new job.new) }
     ensures kept { Kept tree.new runner.new job.new }
     ensures counts { KeepsCounts runner.old runner.new }
+    ensures cursor { runner.new.cursor ≡ runner.old.cursor }
 {
     let Open::Inside(entered) = mem::replace(job, Open::Idle) else {
         unreachable!()
@@ -249,6 +261,8 @@ fn go_on<L: Ledger>(
     ensures end { IfNone result (ComesToEnd tree.now runner.new entered.old m entered.new) }
     ensures written { WritesOn (past_of tree.now) (work_of entered.old.work) entered.old.count m (writes_of runner.old) (writes_of runner.new) }
     ensures counted { StepsOn (past_of tree.now) (work_of entered.old.work) entered.old.count m (steps_of runner.old) (steps_of runner.new) }
+    ensures came { IfNone result (CameInside tree.now entered.old.work m runner.old runner.new) }
+    ensures not_ended { IfSome result (λ told. ends_well told ≡ false) }
 {
     match runner.run(program_of(tree, &entered.work), m) {
         Progress::Went => {
@@ -284,6 +298,9 @@ fn slice_inside<L: Ledger>(
     ensures unasked { IfNone result (asked ≡ false) }
     ensures written { WritesOnSlice (state_of tree.now (Open.Inside entered.old)) m asked (writes_of runner.old) (writes_of runner.new) }
     ensures counted { StepsOnSlice (state_of tree.now (Open.Inside entered.old)) m asked (steps_of runner.old) (steps_of runner.new) }
+    ensures came { IfNone result (CameInside tree.now entered.old.work m runner.old runner.new) }
+    ensures not_ended { IfSome result (λ told. ends_well told ≡ false) }
+    ensures came_back { CameBack tree.now entered.old.work entered.old.heading m runner.old runner.new }
 {
     match entered.heading {
         Heading::GoesBack(why) => Some(go_back(tree, runner, entered, why, m)),
@@ -308,6 +325,7 @@ pub fn slice_job<L: Ledger>(
     ensures kept { Kept tree.new runner.new job.new }
     ensures written { WritesOnSlice (state_of tree.old job.old) m asked (writes_of runner.old) (writes_of runner.new) }
     ensures counted { StepsOnSlice (state_of tree.old job.old) m asked (steps_of runner.old) (steps_of runner.new) }
+    ensures came { CameAt tree.old job.old m result runner.old runner.new }
 {
     let Open::Inside(entered) = job else {
         return Sliced::Nothing;

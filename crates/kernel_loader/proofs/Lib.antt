@@ -5,6 +5,7 @@ pub mod Listed
 pub mod CodeCalls
 pub mod Sighted
 pub mod Named
+pub mod Unlisted
 pub mod Entries
 -- Of janus_machine, given again.
 pub use Rattle.kernel_runner.proofs.Bodies

@@ -1,12 +1,10 @@
 -- What a cell is loaded over, what stays meanwhile, and which names of procedures are new.
-use Rattle.std.specs.Prelude.{◌≡◌, ◌≤◌, ◌⊎◌, ℕ, List, map, length, Contains}
+use Rattle.std.specs.Prelude.{◌≡◌, ◌≤◌, ℕ, List, map, length, Contains}
 use Rattle.janus_meaning.specs.Syntax.{Name, Proc}
 use Rattle.janus_meaning.specs.FormedWorld.{HaveValues}
-use Rattle.janus_meaning.specs.World as world
 use Rattle.janus_meaning.specs.World.{World}
 use Rattle.janus_names.specs.Numbers.{IsNumbered}
 use Rattle.janus_check.specs.Names.{Known}
-use Rattle.kernel_machine.specs.Text.{Accepts}
 use Rattle.kernel_runner.specs.Runner.{ShownWorld, Is, Between}
 use Rattle.kernel_runner.specs.declared.runner.Runner.{Runner}
 use Rattle.kernel_loader.specs.Known.{IsKnownOf}
@@ -24,7 +22,3 @@ KeepsShown old new = (shown : ShownWorld) → Is old (Between shown) → Is new 
 -- behind the old names stand names of these procedures, and no others
 abbrev pub AddNamesOf : List Name → List Name → List Proc → Type 0
 AddNamesOf old new ps = (k : ℕ) (x : Name) → length old ≤ k → IsNumbered new k x → Contains (map (λ (p : Proc). p.name) ps) x
-
--- of the procedures of the cell that the text is, if a name was added
-abbrev pub AddNamesOfText : World → List ℕ → List Name → List Name → Type 0
-AddNamesOfText w text old new = (new ≡ old) ⊎ ((cell : world.Cell) × Accepts w text cell × AddNamesOf old new cell.procedures)

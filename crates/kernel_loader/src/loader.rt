@@ -24,7 +24,7 @@ ghost use Rattle.kernel_runner.specs.Program.{cell_of_program, procedures_of, Is
 ghost use Rattle.kernel_runner.specs.Runner.{ShownWorld, over, Is, Between, world_of, steps_of};
 ghost use Rattle.kernel_loader.specs.Defined.{in_a_row};
 ghost use Rattle.kernel_loader.specs.Keeping.{StandsFor, KeepsOlder, KeepsDefined, width_of_cell};
-ghost use Rattle.kernel_loader.specs.Loading.{ShowsKnown, KeepsShown, AddNamesOf, AddNamesOfText};
+ghost use Rattle.kernel_loader.specs.Loading.{ShowsKnown, KeepsShown, AddNamesOf};
 
 use crate::checking::cell_of_text;
 use crate::frame::{frame_names, has_loop};
@@ -42,7 +42,7 @@ use std::sync::ledger::Ledger;
 
 /// Loads a cell's text over the names that the runner's store declares and these procedures, the newest first: its program, or why the
 /// text is refused. A fault of the text is told before one of the check. The store gets the slots that the program needs, the names of its
-/// procedures come into the table behind the others, and their bodies are kept behind the others; all else stays.
+/// procedures come into the table behind the others, and their bodies are kept behind the others; all else stays, and all where the text is refused.
 pub fn load<L: Ledger>(
     alloc: Global,
     text: &str,
@@ -56,8 +56,12 @@ pub fn load<L: Ledger>(
     ensures ready { IfOk result (λ program. IsReady runner.new.counted.store.names runner.new.entries
         (names_in (entered (cell_of_program program) (world_of (in_a_row procedures.now) runner.old)).store) runner.new.procedures program) }
     ensures named { IfOk result (λ program. AreListed runner.new.entries (procedures_of program)) }
+    // Its names are behind those that stood in the table, and are of its procedures.
+    ensures first_name { IfOk result (λ program. program.first_name ≡ length runner.old.entries) }
     ensures only { IfOk result (λ program. AddNamesOf runner.old.entries runner.new.entries (procedures_of program)) }
-    ensures only_of_text { OnErr result (AddNamesOfText (world_of (in_a_row procedures.now) runner.old) text.now runner.old.entries runner.new.entries) }
+    // What is refused leaves no names in the table, and no slots.
+    ensures no_names { OnErr result (runner.new.entries ≡ runner.old.entries) }
+    ensures no_slots { OnErr result (runner.new.counted.store.names ≡ runner.old.counted.store.names) }
     // Its bodies are behind those that were kept, with none behind them, and what is refused leaves those alone.
     ensures behind { IfOk result (λ program. program.first ≡ length (kept_in runner.old.procedures)) }
     ensures last { IfOk result (λ program. length (kept_in runner.new.procedures) ≡ program.first + length (procedures_of program)) }
@@ -76,11 +80,13 @@ pub fn load<L: Ledger>(
         return Err(Refusal::Memory);
     };
     let (checked, own) = cell_of_text(alloc, text, &env)?;
+    let first_name = runner.entries.len();
     match link(alloc, &env, &own, &checked, runner) {
         Ok((book, first)) => Ok(Program {
             book,
             checked,
             first,
+            first_name,
         }),
         Err(_) => Err(Refusal::Memory),
     }
@@ -88,7 +94,7 @@ pub fn load<L: Ledger>(
 
 /// Links a cell that was checked over what is known of the shown world, with what it declares and defines itself, and keeps the bodies of its procedures:
 /// its code both ways, and where these bodies begin. The only error is want of memory, as which code of more statements or places than 32 bits count is
-/// refused too.
+/// refused too; it leaves no names in the table, and no slots.
 fn link<L: Ledger>(
     alloc: Global,
     env: &Env,
@@ -100,7 +106,46 @@ fn link<L: Ledger>(
     requires own { IsOwn env.now own.now (cell_in checked.now) }
     ensures ready { IfOk result (λ made. IsReady runner.new.counted.store.names runner.new.entries
         (names_in (declare (plain_cell (cell_in checked.now)).declarations (shown_store runner.old.counted.store)))
-        runner.new.procedures (record { book = made.0; checked = checked.now; first = made.1 })) }
+        runner.new.procedures (record { book = made.0; checked = checked.now; first = made.1; first_name = length runner.old.entries })) }
+    ensures named { OnOk result (AreListed runner.new.entries (plain_cell (cell_in checked.now)).procedures) }
+    ensures only { OnOk result (AddNamesOf runner.old.entries runner.new.entries (plain_cell (cell_in checked.now)).procedures) }
+    ensures no_names { OnErr result (runner.new.entries ≡ runner.old.entries) }
+    ensures behind { IfOk result (λ made. made.1 ≡ length (kept_in runner.old.procedures)) }
+    ensures last { IfOk result (λ made. length (kept_in runner.new.procedures) ≡ made.1 + length (plain_cell (cell_in checked.now)).procedures) }
+    ensures slots { OnOk result (length runner.new.counted.store.names ≡ max (width_of_cell runner.new.entries
+        (length (names_in (declare (plain_cell (cell_in checked.now)).declarations (shown_store runner.old.counted.store))))
+        (plain_cell (cell_in checked.now))) (length runner.old.counted.store.names)) }
+    ensures no_slots { OnErr result (runner.new.counted.store.names ≡ runner.old.counted.store.names) }
+    ensures older { KeepsOlder runner.old.procedures runner.new.procedures }
+    ensures none { OnErr result (kept_in runner.new.procedures ≡ kept_in runner.old.procedures) }
+    ensures kept { KeepsSight runner.old.counted.store runner.new.counted.store }
+    ensures steps { steps_of runner.new ≡ steps_of runner.old }
+    ensures entries { GoOn runner.old.entries runner.new.entries }
+    ensures shown { KeepsShown runner.old runner.new }
+{
+    let known = runner.entries.len();
+    match list_and_link(alloc, env, own, checked, runner) {
+        Ok(made) => Ok(made),
+        Err(error) => {
+            runner.entries.truncate(known);
+            Err(error)
+        }
+    }
+}
+
+/// Lists the names of a cell's procedures, and links it as `link` does; an error may leave some of these names in the table.
+fn list_and_link<L: Ledger>(
+    alloc: Global,
+    env: &Env,
+    own: &Env,
+    checked: &Checked,
+    runner: &mut Runner<L>,
+) -> Result<(LinkedCode, usize), AllocError>
+    requires known { (shown : ShownWorld) × ShowsKnown runner.old env.now shown }
+    requires own { IsOwn env.now own.now (cell_in checked.now) }
+    ensures ready { IfOk result (λ made. IsReady runner.new.counted.store.names runner.new.entries
+        (names_in (declare (plain_cell (cell_in checked.now)).declarations (shown_store runner.old.counted.store)))
+        runner.new.procedures (record { book = made.0; checked = checked.now; first = made.1; first_name = length runner.old.entries })) }
     ensures named { OnOk result (AreListed runner.new.entries (plain_cell (cell_in checked.now)).procedures) }
     ensures only { AddNamesOf runner.old.entries runner.new.entries (plain_cell (cell_in checked.now)).procedures }
     ensures behind { IfOk result (λ made. made.1 ≡ length (kept_in runner.old.procedures)) }
@@ -108,6 +153,7 @@ fn link<L: Ledger>(
     ensures slots { OnOk result (length runner.new.counted.store.names ≡ max (width_of_cell runner.new.entries
         (length (names_in (declare (plain_cell (cell_in checked.now)).declarations (shown_store runner.old.counted.store))))
         (plain_cell (cell_in checked.now))) (length runner.old.counted.store.names)) }
+    ensures no_slots { OnErr result (runner.new.counted.store.names ≡ runner.old.counted.store.names) }
     ensures older { KeepsOlder runner.old.procedures runner.new.procedures }
     ensures none { OnErr result (kept_in runner.new.procedures ≡ kept_in runner.old.procedures) }
     ensures kept { KeepsSight runner.old.counted.store runner.new.counted.store }
@@ -162,6 +208,7 @@ fn keep_and_link<L: Ledger>(
     ensures sight { KeepsSight store.old store.new }
     ensures slots { OnOk result (length store.new.names
         ≡ max (width_of_cell entries.now (length (in_sight sight.now)) (plain_cell (cell_in checked.now))) (length store.old.names)) }
+    ensures no_slots { OnErr result (store.new.names ≡ store.old.names) }
 {
     let bodies = keep_all(alloc, &checked.cell().procedures, sight, entries, kept)?;
     let (book, width) = book_of(alloc, checked, sight, entries, store)?;

@@ -87,7 +87,7 @@ module _ {L : Type 0} (runner : Runner L) (program : Program) (at : Place) where
 
     abbrev pub KeepsAgreement : Type 0
     KeepsAgreement = (k : ℕ) → Agrees k runner.procedures program.book runner.cursor runner.counted.store →
-    Agrees k runner.procedures program.book cursor held.store
+        Agrees k runner.procedures program.book cursor held.store
 
     abbrev pub gone : Runner L
     gone = record { counted = held; cursor = cursor; procedures = runner.procedures; entries = runner.entries }

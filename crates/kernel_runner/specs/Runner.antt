@@ -178,6 +178,11 @@ abbrev pub CameBy : {L : Type 0} → Program → (m n : ℕ) → Runner L → Ru
 CameBy program m n old new =
     TakesSafeSteps m n old.procedures program.book old.cursor old.counted.store new.cursor new.counted.store
 
+-- So many steps have led to where the cursor is; the store may have changed since.
+abbrev pub CursorCameBy : {L : Type 0} → Program → (m n : ℕ) → Runner L → Runner L → Type 0
+CursorCameBy program m n old new =
+    (at : StoreState) × TakesSafeSteps m n old.procedures program.book old.cursor old.counted.store new.cursor at
+
 -- ---- what its calls ask for
 
 -- the program can run from the world that is shown: it is well formed there, and its bodies are kept behind all that are defined

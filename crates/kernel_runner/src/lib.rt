@@ -5,7 +5,8 @@
 //! - `Runner` has the one store, the procedures in effect with the table of their names, and the place in the code of the open cell. Code and store
 //!   have slots alone; that a run of slots is one of names is a law of `janus_slots`. Contracts see a runner's configuration: it shows
 //!   a world, or is at a place in a program's code. `enter` and `enter_inverse` lead inside a cell, `run` takes steps onward, `turn` faces round,
-//!   `back` takes steps back, and `leave` takes back what the begin declared and defined. Of these `enter` alone takes memory.
+//!   `back` takes steps back, `leave` takes back what the begin declared and defined, and `forget` drops what was loaded for a cell. Of these `enter`
+//!   alone takes memory.
 //!
 //! The definitions are in specs/: `Program` (the cell that a program is), `Declarable` (what a store has room for) and `Runner` (the model of a
 //! runner, and what each call does to it).

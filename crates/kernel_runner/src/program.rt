@@ -16,6 +16,8 @@ pub struct Program {
     pub checked: Checked,
     /// Where the bodies of its procedures begin among those that are kept.
     pub first: usize,
+    /// How many names stood in the table of procedures' names before its own came behind them.
+    pub first_name: usize,
 }
 
 impl Program {

@@ -1,7 +1,7 @@
 //! The one store, the procedures in effect, and the place in the code of the open cell.
 //!
 //! It alone runs the machine of Janus: what stands above runs cells by these contracts.
-ghost use Rattle.std.specs.Prelude.{◌≡◌, ◌+◌, ◌<◌, [], map, length, IfOk, OnOk, OnErr, IsOk, true, false};
+ghost use Rattle.std.specs.Prelude.{◌≡◌, ◌+◌, ◌<◌, ℕ, List, [], map, length, take, IfOk, OnOk, OnErr, IsOk, true, false};
 ghost use Rattle.janus_meaning.specs.Store.{Store as TheStore};
 ghost use Rattle.janus_meaning.specs.Shape.{shape_of};
 ghost use Rattle.janus_meaning.specs.FormedWorld.{AreNew, HaveValues};
@@ -13,6 +13,7 @@ ghost use Rattle.kernel_runner.specs.Program.{cell_of_program};
 ghost use Rattle.janus_names.specs.Numbers.{GoOn, IsUnmet};
 ghost use Rattle.janus_store.specs.StoreState.{IsWhole, shown_store};
 ghost use Rattle.janus_machine.specs.Procedures.{kept_in};
+ghost use Rattle.janus_machine.specs.Bodies.{AreDefined, AreBelow};
 ghost use Rattle.janus_meaning.specs.Writes.{IsWritten};
 ghost use Rattle.kernel_runner.specs.Runner.{ShownWorld, over, Becomes, IsDeclaredOver, count_of, Is, Between, IsInside};
 ghost use Rattle.kernel_runner.specs.Runner.{writes_of, steps_of, KeepsCounts, CameBy};
@@ -34,7 +35,7 @@ pub struct Runner<L: Ledger> {
     pub counted: CountedStore<L>,
     pub cursor: Cursor,
     pub procedures: Procedures,
-    /// The names of the procedures of all cells that passed the check, each with its number.
+    /// The names of the procedures of all nodes, and of an open posted cell, each with its number.
     pub entries: Names,
 }
 
@@ -49,6 +50,7 @@ impl<L: Ledger> Runner<L> {
         ensures no_steps { IfOk result (λ runner. steps_of runner ≡ 0) }
         ensures is { IfOk result (λ runner. Is runner (Between (over [] empty_world))) }
         ensures none { IfOk result (λ runner. kept_in runner.procedures ≡ []) }
+        ensures no_names { IfOk result (λ runner. runner.entries ≡ []) }
     {
         let cursor = Cursor::new(alloc)?;
         Ok(Runner {
@@ -166,6 +168,7 @@ impl<L: Ledger> Runner<L> {
     pub fn leave(&mut self, program: &Program)
         requires { (to : ShownWorld) × CanLeave self.old program.now to }
         ensures leaves { Leaves program.now self.old self.new }
+        ensures cursor { self.new.cursor ≡ self.old.cursor }
         ensures kept { kept_in self.new.procedures ≡ kept_in self.old.procedures }
         ensures names { GoOn self.old.counted.store.names self.new.counted.store.names }
         ensures entries { self.new.entries ≡ self.old.entries }
@@ -174,6 +177,21 @@ impl<L: Ledger> Runner<L> {
         retire(&mut self.counted.store, program.declarations().len());
         self.procedures
             .retire_all(program.first, program.procedures().len());
+    }
+
+    /// Forgets a program that has been left, the one that was loaded last: its bodies are kept no more, and the names that came into the table for it
+    /// stand there no more.
+    pub fn forget(&mut self, program: &Program)
+        ensures kept { kept_in self.new.procedures ≡ take program.now.first (kept_in self.old.procedures) }
+        ensures entries { self.new.entries ≡ take program.now.first_name self.old.entries }
+        ensures store { self.new.counted.store ≡ self.old.counted.store }
+        ensures cursor { self.new.cursor ≡ self.old.cursor }
+        ensures counts { KeepsCounts self.old self.new }
+        // Where none of its bodies is in effect or hidden.
+        ensures defined { (stack : List ℕ) → AreDefined self.old.procedures stack → AreBelow program.now.first stack → AreDefined self.new.procedures stack }
+    {
+        self.procedures.forget(program.first);
+        self.entries.truncate(program.first_name);
     }
 }
 

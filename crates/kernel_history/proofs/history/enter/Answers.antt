@@ -11,7 +11,7 @@ returns-clause-kept g c =
 pub returns-then-is_err-clause-kept : goal.returns-then-is_err-clause-kept
 returns-then-is_err-clause-kept g c =
     idle_in_time c.args.tree.now c.enter_next.new.runner
-    (kept_refused c.args.tree.now _ c.args.runner.now c.enter_next.new.runner c.requires c.requires.no_other c.requires.stands.0
+    (kept_refused c.args.tree.now _ c.args.runner.now c.enter_next.new.runner c.requires c.requires.no_other c.requires.no_name c.requires.stands.0
     (err_fact _ c.enter_next.result (sym c.is_err.ensures.value ∙ c.if-is_err.true) c.enter_next.ensures.err)
     (err_fact _ c.enter_next.result (sym c.is_err.ensures.value ∙ c.if-is_err.true) c.enter_next.ensures.same)
     c.enter_next.ensures.entries)

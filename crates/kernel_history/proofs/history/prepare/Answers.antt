@@ -1,4 +1,4 @@
-use Rattle.std.proofs.Common.{◌≡◌, List, IfOk, IfErr, ap, ◌∙◌, subst}
+use Rattle.std.proofs.Common.{◌≡◌, ◌≤◌, ℕ, List, Result, Ok, Err, IfOk, IfErr, ap, ◌∙◌, subst}
 use Rattle.janus_meaning.specs.Syntax.{Proc}
 use Rattle.janus_meaning.specs.Store.{Store}
 use Rattle.janus_meaning.specs.World.{World, declare}
@@ -42,3 +42,13 @@ returns-clause-ready g c =
 
 pub returns-clause-counts : goal.returns-clause-counts
 returns-clause-counts g c = record { writes = c.load.ensures.kept.unwritten; steps = c.load.ensures.steps }
+
+if_ok_both : {A E : Type 0} {P Q R : A → Type 0} (r : Result A E) → ((x : A) → P x → Q x → R x) → IfOk r P → IfOk r Q → IfOk r R
+if_ok_both (Ok x) f p q = f x p q
+if_ok_both (Err e) f p q = tt
+
+-- what came into the table is of its procedures
+pub returns-clause-own_names : goal.returns-clause-own_names
+returns-clause-own_names g c =
+    if_ok_both c.load.result (λ program only first. (λ k x le at. only k x (subst (λ (n : ℕ). n ≤ k) first le) at)) c.load.ensures.only
+    c.load.ensures.first_name

@@ -5,13 +5,17 @@ use Rattle.kernel_loader.specs.procedures.Procedures.{Procedures}
 use Rattle.kernel_machine.specs.StepsOfSlices.{steps_back}
 use Rattle.kernel_history.specs.Standing.{place_in}
 use Rattle.kernel_history.specs.Kept.{Kept}
-use Rattle.kernel_loader.specs.Runner.{Stands, writes_of, steps_of}
+use Rattle.kernel_loader.specs.Runner.{Stands, writes_of, steps_of, count_of}
 use Rattle.kernel_machine.specs.declared.heading.Heading.TheVariants.{GoesBack}
 use Rattle.kernel_history.specs.declared.job.Open.TheVariants.{Inside}
-use Rattle.kernel_loader.proofs.Counting.{written_still}
+use Rattle.kernel_loader.proofs.Counting.{written_still, came_still}
 use Rattle.kernel_loader.proofs.Growing.{same_more}
 use Rattle.kernel_loader.proofs.Running.{whole_at_start}
 use Rattle.kernel_history.proofs.Standing.{stands_with, inside_with, kept_at, kept_idle}
+use Rattle.kernel_machine.specs.declared.outcome.Outcome.{Outcome}
+use Rattle.kernel_history.specs.Fields.{work_of}
+use Rattle.kernel_history.specs.Came.{is_done}
+use Rattle.kernel_history.proofs.Done.{turned_not_done}
 use Rattle.kernel_history.proofs.settle.go_back.Goals as goal
 
 pub back-requires : goal.back-requires
@@ -46,7 +50,7 @@ settle_back-requires-clause-whole g c =
 pub returns-then-left-eq0-clause-kept : goal.returns-then-left-eq0-clause-kept
 returns-then-left-eq0-clause-kept g c =
     kept_idle c.args.tree.now _ c.args.runner.now c.settle_back.new.runner c.requires c.settle_back.ensures.ready c.settle_back.ensures.no_other
-    c.settle_back.ensures.is.1 c.settle_back.ensures.is.0
+    c.settle_back.ensures.no_name c.settle_back.ensures.is.1 c.settle_back.ensures.is.0
 
 pub returns-else-left-eq0-clause-kept : goal.returns-else-left-eq0-clause-kept
 returns-else-left-eq0-clause-kept g c =
@@ -88,3 +92,26 @@ returns-else-left-eq0-clause-counted g c =
     (stands_with c.args.tree.now c.args.entered.now.work c.args.entered.now.count true c.args.runner.now c.program_of.result.now c.program_of.ensures
     c.requires.stands).counted in
     c.back.ensures.counted ∙ ap (λ (n : ℕ). steps_of c.args.runner.now + steps_back n c.args.m) same
+
+pub returns-then-left-eq0-clause-came : goal.returns-then-left-eq0-clause-came
+returns-then-left-eq0-clause-came g c = record {
+  program = c.program_of.result.now;
+  of_work = c.program_of.ensures;
+  steps = steps_back (count_of c.args.runner.now) c.args.m;
+  came = came_still c.program_of.result.now c.args.m _ c.args.runner.now c.back.new.self c.settle_back.new.runner c.back.ensures.came
+      c.settle_back.ensures.cursor;
+  counted = c.settle_back.ensures.counts.steps ∙ c.back.ensures.counted;
+}
+
+pub returns-else-left-eq0-clause-came : goal.returns-else-left-eq0-clause-came
+returns-else-left-eq0-clause-came g c = record {
+  program = c.program_of.result.now;
+  of_work = c.program_of.ensures;
+  steps = steps_back (count_of c.args.runner.now) c.args.m;
+  came = came_still c.program_of.result.now c.args.m _ c.args.runner.now c.back.new.self c.back.new.self c.back.ensures.came refl;
+  counted = c.back.ensures.counted;
+}
+
+pub returns-then-left-eq0-clause-back : goal.returns-then-left-eq0-clause-back
+returns-then-left-eq0-clause-back g c =
+    ap (λ (o : Outcome). is_done o) c.turned-outcome.ensures ∙ turned_not_done (work_of c.args.entered.now.work) c.args.why

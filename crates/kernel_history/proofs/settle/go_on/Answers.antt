@@ -18,9 +18,10 @@ use Rattle.kernel_history.specs.declared.job.Entered.{Entered}
 use Rattle.kernel_history.specs.declared.job.Open.TheVariants.{Inside}
 use Rattle.kernel_history.specs.Fields.{past_of, work_of, state_of}
 use Rattle.kernel_machine.specs.Slices.{Backs}
-use Rattle.kernel_loader.specs.Runner.{world_of, writes_of, steps_of}
+use Rattle.kernel_loader.specs.Runner.{world_of, writes_of, steps_of, count_of}
 use Rattle.kernel_machine.specs.declared.progress.Progress.TheVariants.{Went, Stopped, Ended}
 use Rattle.kernel_loader.proofs.Growing.{same_more}
+use Rattle.kernel_loader.proofs.Counting.{came_still}
 use Rattle.kernel_history.proofs.Standing.{stands_with, inside_with, kept_at}
 use Rattle.kernel_history.proofs.settle.go_on.Goals as goal
 
@@ -230,3 +231,12 @@ returns-in-Stopped-clause-counted g c =
       ),
       omega (arith, first, then),
     )
+
+pub returns-in-Ended-clause-came : goal.returns-in-Ended-clause-came
+returns-in-Ended-clause-came g c = record {
+  program = c.program_of.result.now;
+  of_work = c.program_of.ensures;
+  steps = c.in-Ended.n - count_of c.args.runner.now;
+  came = came_still c.program_of.result.now c.args.m _ c.args.runner.now c.run.new.self c.run.new.self c.in-Ended.ensures.came refl;
+  counted = c.in-Ended.ensures.counted;
+}

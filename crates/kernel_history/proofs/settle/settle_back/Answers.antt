@@ -1,10 +1,15 @@
-use Rattle.std.proofs.Common.{refl, sym, ap, ◌∙◌}
+use Rattle.std.proofs.Common.{List, take, refl, sym, ap, ◌∙◌, subst}
+use Rattle.janus_meaning.specs.Syntax.{Name}
+use Rattle.janus_names.specs.Numbers.{GoOn}
+use Rattle.janus_store.specs.StoreState.{StoreState, IsWhole}
+use Rattle.kernel_loader.proofs.Unlisted.{shows_less}
 use Rattle.kernel_history.specs.Fields.{past_of, work_of}
 use Rattle.kernel_history.specs.Bodies.{bodies_at}
 use Rattle.kernel_history.specs.Standing.{shown_here}
 use Rattle.kernel_loader.proofs.Growing.{no_more, same_more}
 use Rattle.kernel_history.proofs.Standing.{work_possible, below_there, cell_of_down, can_leave_cell, can_leave_down, shows_up, below_posted, nodes_forgotten}
-use Rattle.kernel_history.proofs.Standing.{no_other_forgotten, no_other_back, nodes_ready, shows_forgotten}
+use Rattle.kernel_history.proofs.Standing.{no_other_forgotten, no_other_back, nodes_ready, shows_forgotten, older_names_left, no_name_forgotten, no_name_back}
+use Rattle.kernel_history.specs.Kept.{unlisted}
 use Rattle.kernel_history.proofs.settle.settle_back.Goals as goal
 
 pub leave-requires : goal.leave-requires
@@ -18,27 +23,32 @@ returns-in-Cell-clause-is g c =
     let tree = c.args.tree.now in
     let can = can_leave_cell tree c.args.runner.now c.args.work.now k.0 k.1 c.in-Cell.program c.in-Cell.is c.requires.whole in
     let left = c.leave.ensures.leaves (shown_here tree) can in
-    let low = below_posted tree c.args.runner.now c.args.work.now k.0 k.1 c.in-Cell.program c.in-Cell.is in (
-      shows_forgotten c.leave.new.self _ c.in-Cell.program.first (shown_here tree) refl refl left.0 low c.forget.ensures.kept
+    let low = below_posted tree c.args.runner.now c.args.work.now k.0 k.1 c.in-Cell.program c.in-Cell.is in
+    let older = older_names_left tree c.args.runner.now c.args.work.now k.0 k.1 c.leave.new.self c.in-Cell.program c.in-Cell.is c.leave.ensures.names
+    c.leave.ensures.entries c.leave.ensures.kept in
+    let same = c.forget.ensures.store in (
+      shows_forgotten (unlisted c.in-Cell.program c.leave.new.self) c.forget.new.self c.in-Cell.program.first (shown_here tree) same c.forget.ensures.entries
+          (shows_less c.leave.new.self (take c.in-Cell.program.first_name c.leave.new.self.entries) (shown_here tree) older.listed older.same left.0) low
+          c.forget.ensures.kept
           (c.forget.ensures.defined (bodies_at tree tree.position) left.0.defined.defined low),
-      left.1,
+      subst (λ (h : StoreState). IsWhole h) (sym same) left.1,
     )
 
 pub returns-in-Cell-clause-ready : goal.returns-in-Cell-clause-ready
 returns-in-Cell-clause-ready g c =
     let k = c.requires.kept in
-    nodes_forgotten c.args.tree.now c.args.runner.now c.args.work.now k.0 k.1 c.leave.new.self
-    (record { counted = c.leave.new.self.counted; cursor = c.leave.new.self.cursor; procedures = c.forget.new.self; entries = c.leave.new.self.entries })
-    c.in-Cell.program c.in-Cell.is refl refl c.forget.ensures.kept
-    (nodes_ready c.args.tree.now c.args.runner.now c.leave.new.self c.leave.ensures.names
-    (same_more c.args.runner.now.entries c.leave.new.self.entries c.leave.ensures.entries) c.leave.ensures.kept k.1.ready)
+    let older = older_names_left c.args.tree.now c.args.runner.now c.args.work.now k.0 k.1 c.leave.new.self c.in-Cell.program c.in-Cell.is
+    c.leave.ensures.names c.leave.ensures.entries c.leave.ensures.kept in
+    nodes_forgotten c.args.tree.now c.args.runner.now c.args.work.now k.0 k.1 (unlisted c.in-Cell.program c.leave.new.self) c.forget.new.self
+    c.in-Cell.program c.in-Cell.is (ap (λ (h : StoreState). h.names) c.forget.ensures.store) c.forget.ensures.entries c.forget.ensures.kept
+    older.ready
 
 -- the bodies of the posted cell are dropped
 pub returns-in-Cell-clause-no_other : goal.returns-in-Cell-clause-no_other
 returns-in-Cell-clause-no_other g c =
     let k = c.requires.kept in
-    no_other_forgotten c.args.tree.now c.args.runner.now c.args.work.now k.0 k.1 c.leave.new.self.procedures c.forget.new.self c.in-Cell.program c.in-Cell.is
-    c.leave.ensures.kept c.forget.ensures.kept
+    no_other_forgotten c.args.tree.now c.args.runner.now c.args.work.now k.0 k.1 c.leave.new.self.procedures c.forget.new.self.procedures c.in-Cell.program
+    c.in-Cell.is c.leave.ensures.kept c.forget.ensures.kept
 
 pub returns-in-Down-clause-no_other : goal.returns-in-Down-clause-no_other
 returns-in-Down-clause-no_other g c =
@@ -99,4 +109,33 @@ pub returns-in-Up-clause-names : goal.returns-in-Up-clause-names
 returns-in-Up-clause-names g c = no_more c.args.runner.now.counted.store.names
 
 pub returns-in-Cell-clause-counts : goal.returns-in-Cell-clause-counts
-returns-in-Cell-clause-counts g c = record { writes = c.leave.ensures.counts.writes; steps = c.leave.ensures.counts.steps }
+returns-in-Cell-clause-counts g c =
+    record {
+      writes = c.forget.ensures.counts.writes ∙ c.leave.ensures.counts.writes;
+      steps = c.forget.ensures.counts.steps ∙ c.leave.ensures.counts.steps;
+    }
+
+pub returns-in-Cell-clause-entries : goal.returns-in-Cell-clause-entries
+returns-in-Cell-clause-entries g c =
+    rw c.in-Cell.is (c.forget.ensures.entries ∙ ap (λ (l : List Name). take c.in-Cell.program.first_name l) c.leave.ensures.entries)
+
+pub returns-in-Cell-clause-names : goal.returns-in-Cell-clause-names
+returns-in-Cell-clause-names g c =
+    subst (λ (h : StoreState). GoOn c.args.runner.now.counted.store.names h.names) (sym c.forget.ensures.store) c.leave.ensures.names
+
+pub returns-in-Cell-clause-no_name : goal.returns-in-Cell-clause-no_name
+returns-in-Cell-clause-no_name g c =
+    let k = c.requires.kept in
+    no_name_forgotten c.args.tree.now c.args.runner.now c.args.work.now k.0 k.1 c.forget.new.self.entries c.in-Cell.program c.in-Cell.is
+    (c.forget.ensures.entries ∙ ap (λ (l : List Name). take c.in-Cell.program.first_name l) c.leave.ensures.entries)
+
+pub returns-in-Down-clause-no_name : goal.returns-in-Down-clause-no_name
+returns-in-Down-clause-no_name g c =
+    let k = c.requires.kept in
+    no_name_back c.args.tree.now c.args.runner.now c.args.work.now k.0 k.1 c.in-Move.travel c.leave-in-Down.new.self.entries c.in-Move.is
+    c.leave-in-Down.ensures.entries
+
+pub returns-in-Up-clause-no_name : goal.returns-in-Up-clause-no_name
+returns-in-Up-clause-no_name g c =
+    let k = c.requires.kept in
+    no_name_back c.args.tree.now c.args.runner.now c.args.work.now k.0 k.1 c.in-Move.travel c.args.runner.now.entries c.in-Move.is refl

@@ -9,7 +9,7 @@ use Rattle.kernel_loader.specs.Runner.{world_of}
 use Rattle.kernel_machine.specs.declared.outcome.Outcome.TheVariants as outcome
 use Rattle.kernel_machine.specs.declared.outcome.Sliced.TheVariants as sliced
 use Rattle.kernel_history.proofs.Nodes.{child_added, number_added, nodes_added, favourites_added, one_more}
-use Rattle.kernel_history.proofs.Standing.{state_grown, placed_more, ordered_more, no_other_more, shown_more, kept_grown}
+use Rattle.kernel_history.proofs.Standing.{state_grown, placed_more, ordered_more, no_other_more, no_name_more, shown_more, kept_grown}
 use Rattle.kernel_history.proofs.settle.settle_cell.Goals as goal
 
 pub set_favourite-requires : goal.set_favourite-requires
@@ -47,3 +47,4 @@ returns-clause-kept g c =
     (placed_more c.args.tree.now larger c.args.program c.args.n c.args.runner.now c.requires.kept nodes _ c.requires.ended)
     (ordered_more c.args.tree.now larger c.args.program c.args.n c.args.runner.now c.requires.kept nodes)
     (no_other_more c.args.tree.now larger c.args.program c.args.n c.args.runner.now c.requires.kept nodes)
+    (no_name_more c.args.tree.now larger c.args.program c.args.n c.args.runner.now c.requires.kept nodes)

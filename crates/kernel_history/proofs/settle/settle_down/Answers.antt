@@ -36,7 +36,7 @@ pub returns-clause-kept : goal.returns-clause-kept
 returns-clause-kept g c =
     kept_down c.args.tree.now (there g c) c.below-child.result c.args.travel c.args.runner.now c.arrive.result.1 c.arrive.result.0 c.requires.way
     c.requires.come.kept.legal c.requires.come.kept.possible c.requires.come.kept.counted c.requires.come.kept.path c.requires.come.kept.ready
-    c.requires.come.kept.order c.requires.come.kept.no_other c.requires.come.whole
+    c.requires.come.kept.order c.requires.come.kept.no_other c.requires.come.kept.no_name c.requires.come.whole
     c.below-child.ensures (ap (λ (t : cells.Tree EndedCell). t.nodes) c.set_favourite.ensures)
     (ap (λ (t : cells.Tree EndedCell). t.favourites) c.set_favourite.ensures) refl (ap (λ (t : cells.Tree EndedCell). t.way) c.set_favourite.ensures)
     (shows_down c.args.tree.now c.args.runner.now c.args.travel c.args.n c.requires.come.kept c.requires.way c.requires.come.ended)

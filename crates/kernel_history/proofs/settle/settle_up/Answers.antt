@@ -10,6 +10,7 @@ use Rattle.kernel_machine.specs.declared.travel.Travel.{Travel}
 use Rattle.kernel_loader.specs.Runner.{world_of}
 use Rattle.kernel_loader.proofs.Growing.{same_more}
 use Rattle.kernel_history.proofs.Nodes.{parent_there}
+use Rattle.kernel_history.proofs.TableNames.{names_same}
 use Rattle.kernel_history.proofs.Standing.{kept_up, up_names, settled_up, nodes_ready, no_other_same, can_leave_up}
 use Rattle.kernel_machine.proofs.Trees.{up_possible}
 use Rattle.kernel_history.proofs.settle.settle_up.Goals as goal
@@ -49,7 +50,8 @@ returns-clause-kept g c =
     kept_up tree c.parent-tree.result c.args.travel c.leave.new.self c.arrive.result.1 c.arrive.result.0 c.requires.way k.legal k.possible k.counted k.path
     (nodes_ready tree c.args.runner.now c.leave.new.self c.leave.ensures.names
     (same_more c.args.runner.now.entries c.leave.new.self.entries c.leave.ensures.entries) c.leave.ensures.kept k.ready) k.order
-    (no_other_same tree c.args.runner.now.procedures c.leave.new.self.procedures c.leave.ensures.kept k.no_other) (c.leave.ensures.leaves _ can).1
+    (no_other_same tree c.args.runner.now.procedures c.leave.new.self.procedures c.leave.ensures.kept k.no_other)
+    (names_same tree c.args.runner.now.entries c.leave.new.self.entries c.leave.ensures.entries k.no_name) (c.leave.ensures.leaves _ can).1
     (c.parent-tree.ensures.parent ∙ sym (parent_there tree tree.position)) (c.leave.ensures.leaves _ can).0
     (subst (λ (t : Travel). Arrives (cells t) (past_of (record tree { position = c.parent-tree.result })) t c.arrive.result.1
     (state_of (record tree { position = c.parent-tree.result }) c.arrive.result.0)) c.stepped.ensures (c.arrive.ensures _))

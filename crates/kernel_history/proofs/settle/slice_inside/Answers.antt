@@ -12,3 +12,6 @@ returns-in-GoesBack-clause-counted g c = rw c.in-GoesBack.is (_, refl, c.go_back
 
 pub returns-in-GoesOn-clause-counted : goal.returns-in-GoesOn-clause-counted
 returns-in-GoesOn-clause-counted g c = rw (c.in-GoesOn.is, c.if-asked.true) (_, refl, c.turn_back.ensures.counted)
+
+pub returns-in-GoesBack-clause-came_back : goal.returns-in-GoesBack-clause-came_back
+returns-in-GoesBack-clause-came_back g c = rw c.in-GoesBack.is c.go_back.ensures.came

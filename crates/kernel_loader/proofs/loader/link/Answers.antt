@@ -1,104 +1,23 @@
-use Rattle.std.proofs.Common.{◌≡◌, ℕ, ◌+◌, max, List, length, map, take, refl, sym, ap, ◌∙◌, subst}
-use Rattle.janus_meaning.specs.Syntax.{Name, Proc}
-use Rattle.janus_meaning.specs.Shape.{Shape}
-use Rattle.janus_meaning.specs.World.{declare}
-use Rattle.janus_slots.specs.Slots.{names_in}
-use Rattle.janus_slots.specs.Law.{AreListed}
-use Rattle.janus_syntax.specs.Tree as tree
-use Rattle.janus_syntax.specs.Tree.{procedures_view}
-use Rattle.janus_syntax.specs.View.{plain_cell, plain_procedure}
-use Rattle.janus_check.specs.Checked.{cell_in}
-use Rattle.janus_check.specs.Names.{shape_in, over}
-use Rattle.janus_slots.proofs.Stores.{length_names}
-use Rattle.janus_store.specs.StoreState.{shown_store}
-use Rattle.kernel_runner.specs.Bodies.{AreBelow}
-use Rattle.kernel_runner.specs.Procedures.{kept_in}
-use Rattle.kernel_runner.specs.declared.program.Program.{Program}
-use Rattle.kernel_loader.proofs.Sighted.{names_here, entries_here}
-use Rattle.kernel_loader.proofs.Made.{keeps_same, all_kept, shows_more, bodies_within, ready_made}
-use Rattle.kernel_loader.specs.Keeping.{width_of_cell}
-use Rattle.kernel_loader.specs.Loading.{AddNamesOf}
+use Rattle.std.proofs.Common.{◌∙◌}
+use Rattle.kernel_loader.proofs.Unlisted.{taken_back, shows_unlisted}
+use Rattle.kernel_runner.proofs.Growing.{same_more}
 use Rattle.kernel_loader.proofs.loader.link.Goals as goal
 
-pub returns-in_err-listed-clause-shown : goal.returns-in_err-listed-clause-shown
-returns-in_err-listed-clause-shown g c = λ shown h.
-    shows_more c.args.runner.now _ shown (keeps_same c.args.runner.now.counted.store) c.slots_law.ensures.slots c.list_all-listed.ensures.onward
-    (all_kept (kept_in c.args.runner.now.procedures) (kept_in c.args.runner.now.procedures) refl) (λ d. d) h
+pub returns-in-Err-clause-no_names : goal.returns-in-Err-clause-no_names
+returns-in-Err-clause-no_names g c =
+    c.truncate.ensures.names
+    ∙ taken_back c.args.runner.now.entries c.list_and_link.new.runner.entries c.len-known.result c.len-known.ensures c.list_and_link.ensures.entries
 
-pub keep_and_link-kept-requires-clause-entries : goal.keep_and_link-kept-requires-clause-entries
-keep_and_link-kept-requires-clause-entries g c =
-    let same : map plain_procedure (procedures_view c.deref.result.now) ≡ (plain_cell (cell_in c.args.checked.now)).procedures =
-    ap (λ l. map plain_procedure (procedures_view l)) c.deref.ensures.value ∙ ap (λ (t : tree.Cell). (plain_cell t).procedures) c.cell.ensures in
-    entries_here c.args.runner.now c.args.env.now c.args.own.now (cell_in c.args.checked.now) c.requires.known.0 c.list_all-listed.new.entries
-    c.requires.known.1 c.requires.own c.list_all-listed.ensures.onward
-    (subst (λ (ps : List Proc). AreListed c.list_all-listed.new.entries ps) same c.in_ok-listed.ensures.listed)
-
-pub returns-in-Ok-clause-named : goal.returns-in-Ok-clause-named
-returns-in-Ok-clause-named g c =
-    let same : map plain_procedure (procedures_view c.deref.result.now) ≡ (plain_cell (cell_in c.args.checked.now)).procedures =
-    ap (λ l. map plain_procedure (procedures_view l)) c.deref.ensures.value ∙ ap (λ (t : tree.Cell). (plain_cell t).procedures) c.cell.ensures in
-    subst (λ (ps : List Proc). AreListed c.list_all-listed.new.entries ps) same c.in_ok-listed.ensures.listed
-
-pub returns-in-Ok-clause-ready : goal.returns-in-Ok-clause-ready
-returns-in-Ok-clause-ready g c =
-    let es : List Name = c.list_all-listed.new.entries in
-    let cell = cell_in c.args.checked.now in
-    let same : map plain_procedure (procedures_view c.deref.result.now) ≡ (plain_cell cell).procedures =
-    ap (λ l. map plain_procedure (procedures_view l)) c.deref.ensures.value ∙ ap (λ (t : tree.Cell). (plain_cell t).procedures) c.cell.ensures in
-    let listed : AreListed es (plain_cell cell).procedures = subst (λ (ps : List Proc). AreListed es ps) same c.in_ok-listed.ensures.listed in
-    let program : Program = record { book = c.in-Ok.book; checked = c.args.checked.now; first = c.len-first.result } in
-    ready_made c.keep_and_link-kept.new.store.names es _ _ _ _ c.args.runner.now.procedures c.keep_and_link-kept.new.kept program c.in-Ok.ensures.block
-    (names_here c.args.runner.now c.args.env.now c.args.own.now cell c.requires.known.0 c.requires.known.1 c.requires.own)
-    c.in-Ok.ensures.numbered c.len-first.ensures c.in-Ok.ensures.bodies c.in-Ok.ensures.count
-    (entries_here c.args.runner.now c.args.env.now c.args.own.now cell c.requires.known.0 es c.requires.known.1 c.requires.own
-    c.list_all-listed.ensures.onward listed)
-    listed c.requires.own.block c.requires.own.procedures
-
-pub returns-in-Ok-clause-last : goal.returns-in-Ok-clause-last
-returns-in-Ok-clause-last g c =
-    c.in-Ok.ensures.count ∙ ap (λ (n : ℕ). n + length (plain_cell (cell_in c.args.checked.now)).procedures) (sym c.len-first.ensures)
-
-pub returns-in-Ok-clause-shown : goal.returns-in-Ok-clause-shown
-returns-in-Ok-clause-shown g c = λ shown h.
-    shows_more c.args.runner.now _ shown c.keep_and_link-kept.ensures.sight c.slots_law-2.ensures.slots c.list_all-listed.ensures.onward
-    c.keep_and_link-kept.ensures.older (λ d. c.keep_and_link-kept.ensures.defined shown.bodies d) h
+pub returns-in-Err-clause-entries : goal.returns-in-Err-clause-entries
+returns-in-Err-clause-entries g c =
+    same_more c.args.runner.now.entries c.truncate.new.self
+    (c.truncate.ensures.names
+    ∙ taken_back c.args.runner.now.entries c.list_and_link.new.runner.entries c.len-known.result c.len-known.ensures c.list_and_link.ensures.entries)
 
 pub returns-in-Err-clause-shown : goal.returns-in-Err-clause-shown
 returns-in-Err-clause-shown g c = λ shown h.
-    let same : kept_in c.forget.new.self ≡ kept_in c.args.runner.now.procedures =
-    c.forget.ensures.kept ∙ ap (λ (n : ℕ). take n (kept_in c.keep_and_link-kept.new.kept)) c.len-first.ensures ∙ c.keep_and_link-kept.ensures.older in
-    let below : AreBelow c.len-first.result shown.bodies =
-    subst (λ (n : ℕ). AreBelow n shown.bodies) (sym c.len-first.ensures)
-    (bodies_within c.args.runner.now.counted.store.names (kept_in c.args.runner.now.procedures) shown.bodies _ h.0.defined.bodies) in
-    shows_more c.args.runner.now _ shown c.keep_and_link-kept.ensures.sight c.slots_law-2.ensures.slots c.list_all-listed.ensures.onward
-    (all_kept (kept_in c.args.runner.now.procedures) (kept_in c.forget.new.self) same)
-    (λ d. c.forget.ensures.defined shown.bodies (c.keep_and_link-kept.ensures.defined shown.bodies d) below) h
-
-pub returns-in_err-listed-clause-only : goal.returns-in_err-listed-clause-only
-returns-in_err-listed-clause-only g c =
-    let same : map plain_procedure (procedures_view c.deref.result.now) ≡ (plain_cell (cell_in c.args.checked.now)).procedures =
-    ap (λ l. map plain_procedure (procedures_view l)) c.deref.ensures.value ∙ ap (λ (t : tree.Cell). (plain_cell t).procedures) c.cell.ensures in
-    subst (λ (ps : List Proc). AddNamesOf c.args.runner.now.entries c.list_all-listed.new.entries ps) same c.list_all-listed.ensures.only
-
-pub returns-in-Ok-clause-only : goal.returns-in-Ok-clause-only
-returns-in-Ok-clause-only g c =
-    let same : map plain_procedure (procedures_view c.deref.result.now) ≡ (plain_cell (cell_in c.args.checked.now)).procedures =
-    ap (λ l. map plain_procedure (procedures_view l)) c.deref.ensures.value ∙ ap (λ (t : tree.Cell). (plain_cell t).procedures) c.cell.ensures in
-    subst (λ (ps : List Proc). AddNamesOf c.args.runner.now.entries c.list_all-listed.new.entries ps) same c.list_all-listed.ensures.only
-
-pub returns-in-Err-clause-only : goal.returns-in-Err-clause-only
-returns-in-Err-clause-only g c =
-    let same : map plain_procedure (procedures_view c.deref.result.now) ≡ (plain_cell (cell_in c.args.checked.now)).procedures =
-    ap (λ l. map plain_procedure (procedures_view l)) c.deref.ensures.value ∙ ap (λ (t : tree.Cell). (plain_cell t).procedures) c.cell.ensures in
-    subst (λ (ps : List Proc). AddNamesOf c.args.runner.now.entries c.list_all-listed.new.entries ps) same c.list_all-listed.ensures.only
-
-pub returns-in-Ok-clause-slots : goal.returns-in-Ok-clause-slots
-returns-in-Ok-clause-slots g c =
-    let cell = cell_in c.args.checked.now in
-    let shape : Shape = over (shape_in c.args.env.now.names) c.args.own.now.names in
-    let seen : length shape ≡ length (names_in (declare (plain_cell cell).declarations (shown_store c.args.runner.now.counted.store))) =
-    sym (length_names shape)
-    ∙ ap (λ (xs : List Name). length xs)
-    (names_here c.args.runner.now c.args.env.now c.args.own.now cell c.requires.known.0 c.requires.known.1 c.requires.own) in
-    c.in-Ok.ensures.slots
-    ∙ ap (λ (n : ℕ). max (width_of_cell c.list_all-listed.new.entries n (plain_cell cell)) (length c.args.runner.now.counted.store.names)) seen
+    let now = c.list_and_link.ensures.shown shown h in
+    (shows_unlisted c.args.runner.now c.list_and_link.new.runner c.truncate.new.self shown c.list_and_link.ensures.entries
+    (c.truncate.ensures.names
+    ∙ taken_back c.args.runner.now.entries c.list_and_link.new.runner.entries c.len-known.result c.len-known.ensures c.list_and_link.ensures.entries) h now.0,
+    now.1)

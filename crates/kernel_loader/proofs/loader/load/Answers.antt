@@ -1,7 +1,5 @@
-use Rattle.std.proofs.Common.{rules, inr}
+use Rattle.std.proofs.Common.{rules}
 use Rattle.janus_meaning.specs.World.{World}
-use Rattle.janus_syntax.specs.View.{plain_cell}
-use Rattle.janus_check.specs.Checked.{cell_in}
 use Rattle.kernel_machine.specs.Text.{Refuses}
 use Rattle.kernel_runner.specs.Runner.{world_of, over}
 use Rattle.kernel_loader.specs.Defined.{in_a_row}
@@ -43,9 +41,3 @@ returns-in_err-checked-clause-refuses g c =
     let known : IsKnownOf c.in-Ok.env w = record { names = c.in-Ok.ensures.names; heads = c.in-Ok.ensures.heads } in
     let told : Refuses w c.args.text.now c.in_err-checked.field-0.0 = c.in_err-checked.ensures.refuses w known in
     search (rules, told)
-
-pub returns-clause-only_of_text : goal.returns-clause-only_of_text
-returns-clause-only_of_text g c =
-    let w : World = world_of (in_a_row c.args.procedures.now) c.args.runner.now in
-    let known : IsKnownOf c.in-Ok.env w = record { names = c.in-Ok.ensures.names; heads = c.in-Ok.ensures.heads } in
-    inr (plain_cell (cell_in c.in_ok-checked.checked), c.in_ok-checked.ensures.accepts w known, c.link.ensures.only)

@@ -1,4 +1,5 @@
-use Rattle.std.proofs.Common.{◌≡◌, max, OnOk, length, ap, ◌∙◌, sym, subst}
+use Rattle.std.proofs.Common.{◌≡◌, ℕ, List, max, OnOk, length, ap, ◌∙◌, sym, subst}
+use Rattle.std.proofs.lemmas.Result.{on_err_weaker}
 use Rattle.janus_names.specs.Numbers.{GoOn}
 use Rattle.janus_store.specs.StoreState.{StoreState, slots_below}
 use Rattle.janus_store.proofs.Reached.{reached_held, reached_on, reached_kept}
@@ -27,3 +28,8 @@ returns-clause-reached g c =
     let was : ns.len ≡ length c.args.self.now.names = ns.ok.0 ∙ sym (slots_long (length ns.items)) ∙ ap (λ (h : StoreState). length h.names) c.self.view_is in
     subst (λ n. OnOk c.reach_in.result (n ≡ max c.args.count (length c.args.self.now.names))) (ms.ok.0 ∙ sym (slots_long (length ms.items)))
     (subst (λ n. OnOk c.reach_in.result (ms.len ≡ max c.args.count n)) was c.reach_in.ensures.reached)
+
+pub returns-clause-err : goal.returns-clause-err
+returns-clause-err g c =
+    on_err_weaker c.reach_in.result (λ e. ap (λ (l : List ℕ). slots_below (length l)) e ∙ ap (λ (h : StoreState). h.names) c.self.view_is)
+    c.reach_in.ensures.err

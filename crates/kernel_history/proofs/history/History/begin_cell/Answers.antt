@@ -12,13 +12,14 @@ use Rattle.kernel_machine.specs.declared.outcome.Begun.TheVariants as begun
 use Rattle.kernel_loader.specs.Program.{cell_of_program}
 use Rattle.kernel_loader.specs.Runner.{CanEnter, KeepsCounts as RunnerKeepsCounts}
 use Rattle.kernel_history.specs.Standing.{shown_here}
-use Rattle.kernel_history.specs.Kept.{Kept, IsKept}
+use Rattle.kernel_history.specs.Kept.{Kept, IsKept, KeepsOlderNames}
 use Rattle.kernel_history.specs.declared.job.Open.{Open}
 use Rattle.kernel_history.specs.declared.job.Open.TheVariants.{Idle}
 use Rattle.kernel_machine.proofs.Texts.{accepted_formed}
 use Rattle.kernel_loader.proofs.Growing.{more_yet, same_more}
 use Rattle.kernel_history.proofs.Standing.{ok_fact, err_fact, kept_begun, kept_idle, idle_in_time, here_sound, idle_job, nodes_more, nodes_ready, no_other_same}
-use Rattle.kernel_history.proofs.Standing.{posted_behind, behind_stack, shows_still, IsUnentered, kept_dropped}
+use Rattle.kernel_history.proofs.Standing.{posted_behind, behind_stack, shows_still, IsUnentered, kept_dropped, older_names_begun}
+use Rattle.kernel_history.proofs.TableNames.{names_same, names_begun}
 use Rattle.kernel_history.proofs.history.History.begin_cell.Goals as goal
 use Rattle.kernel_history.proofs.history.History.begin_cell.Goals.{then-is_err-via-then-is_err, then-is_err-via-else-is_err+then-is_err-2}
 use Rattle.kernel_loader.specs.Procedures.{kept_in}
@@ -88,9 +89,17 @@ invariant_of-self-2 g c =
     let can : CanEnter met c.in-Ok.program shown =
     record { is = is; sound = here_sound tree kept.legal; formed = formed; ready = c.in-Ok.ensures.ready; named = c.in-Ok.ensures.named; behind = low } in
     let at_text = nodes_more tree old met c.prepare.ensures.kept.names c.prepare.ensures.entries c.prepare.ensures.older kept.ready in
+    let onward = same_more met.entries c.enter.new.self.entries c.enter.ensures.entries in
+    let older : KeepsOlderNames tree c.enter.new.self c.in-Ok.program =
+    older_names_begun tree old c.enter.new.self c.in-Ok.program kept.ready kept.stands
+    (more_yet old.counted.store.names met.counted.store.names c.enter.new.self.counted.store.names c.prepare.ensures.kept.names c.enter.ensures.names)
+    (more_yet old.entries met.entries c.enter.new.self.entries c.prepare.ensures.entries onward)
+    (ap (λ (bs : List LinkedProcedure). take (length (kept_in old.procedures)) bs) c.enter.ensures.kept ∙ c.prepare.ensures.older)
+    c.in-Ok.ensures.first_name in
     kept_begun tree (record { cells = c.room.new.self; position = tree.position }) old c.enter.new.self c.in-Ok.program kept
-    (nodes_ready tree met c.enter.new.self c.enter.ensures.names (same_more met.entries c.enter.new.self.entries c.enter.ensures.entries)
-    c.enter.ensures.kept at_text) behind same nodes refl room formed c.in-Ok.ensures.behind
+    (nodes_ready tree met c.enter.new.self c.enter.ensures.names onward c.enter.ensures.kept at_text) older
+    (names_begun tree old.entries met.entries c.enter.new.self.entries c.in-Ok.program c.in-Ok.ensures.first_name c.prepare.ensures.entries
+    c.enter.ensures.entries c.in-Ok.ensures.own_names kept.no_name) behind same nodes refl room formed c.in-Ok.ensures.behind
     (ap (λ (bs : List LinkedProcedure). length bs) c.enter.ensures.kept ∙ c.in-Ok.ensures.last) (stands shown can)
 
 -- a refused text: there may be more slots, and more names of procedures
@@ -107,7 +116,8 @@ invariant_of-self g c =
     subst (λ (j : Open). IsKept tree met j) (sym idle)
     (idle_in_time tree met
     (kept_idle tree Idle old met kept (nodes_more tree old met c.prepare.ensures.kept.names c.prepare.ensures.entries c.prepare.ensures.older kept.ready)
-    (no_other_same tree old.procedures met.procedures c.in-Err.ensures.none kept.no_other) is.1 is.0))
+    (no_other_same tree old.procedures met.procedures c.in-Err.ensures.none kept.no_other)
+    (names_same tree old.entries met.entries c.in-Err.ensures.no_names kept.no_name) is.1 is.0))
 
 -- no memory for its node or its names: its bodies are dropped again
 pub invariant_of-self-then-is_err : goal.invariant_of-self-then-is_err
@@ -154,9 +164,9 @@ invariant_of-self-then-is_err g c =
             idle = idle;
           }))
     ] in
-    kept_dropped tree left.tree old left.runner
-    (record { counted = left.runner.counted; cursor = left.runner.cursor; procedures = c.forget.new.self; entries = left.runner.entries })
-    left.job c.in-Ok.program.first kept unentered c.in-Ok.ensures.behind low refl refl c.forget.ensures.kept c.forget.ensures.defined
+    kept_dropped tree left.tree old left.runner c.forget.new.self left.job c.in-Ok.program.first c.in-Ok.program.first_name kept unentered
+    c.in-Ok.ensures.behind c.in-Ok.ensures.first_name low c.forget.ensures.store c.forget.ensures.entries
+    c.forget.ensures.kept c.forget.ensures.defined
 
 pub returns-clause-takes : goal.returns-clause-takes
 returns-clause-takes g c =
@@ -195,9 +205,10 @@ returns-then-is_err-clause-counts g c =
         steps = w.enter.ensures.counts.steps ∙ c.prepare.ensures.counts.steps;
       })
     ] in
+    let dropped = c.forget.ensures.counts in
     record {
-      writes = same.writes ∙ ap (λ (s : CountedState). s.writes) c.self.view_is;
-      steps = same.steps ∙ ap (λ (s : CountedState). s.steps) c.self.view_is;
+      writes = dropped.writes ∙ same.writes ∙ ap (λ (s : CountedState). s.writes) c.self.view_is;
+      steps = dropped.steps ∙ same.steps ∙ ap (λ (s : CountedState). s.steps) c.self.view_is;
     }
 
 pub returns-clause-counts : goal.returns-clause-counts

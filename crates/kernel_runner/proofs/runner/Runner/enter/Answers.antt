@@ -28,3 +28,6 @@ returns-clause-ok g c = λ from can.
 
 pub returns-clause-counts : goal.returns-clause-counts
 returns-clause-counts g c = record { writes = c.in_ok-declare.ensures.ok.unwritten; steps = refl }
+
+pub define_all-requires-clause-new : goal.define_all-requires-clause-new
+define_all-requires-clause-new g c = (c.requires.0.bodies, c.requires.1.is.0.defined.defined, c.requires.1.behind)
