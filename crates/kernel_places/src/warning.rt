@@ -48,10 +48,16 @@ fn tell_near<W: Ledger, L: HistoryName, S: Ledger, R: Wait, E: Write>(
     let is_full_of_nodes = state.nodes >= MANY_NODES;
     let is_full_of_minutes = answer.seen >= MANY_MINUTES;
     if is_full_of_nodes && !told.nodes {
-        tell(err, "nine tenths of the 65536 nodes of its history are used");
+        tell(
+            err,
+            "nine tenths of the 65536 nodes of its history are used",
+        );
     }
     if is_full_of_minutes && !told.minutes {
-        tell(err, "nine tenths of the 500000 jobs that it can do are done");
+        tell(
+            err,
+            "nine tenths of the 500000 jobs that it can do are done",
+        );
     }
     Told {
         nodes: is_full_of_nodes || told.nodes,
@@ -60,13 +66,7 @@ fn tell_near<W: Ledger, L: HistoryName, S: Ledger, R: Wait, E: Write>(
 }
 
 /// Waits until all is to end, and tells meanwhile, once each, that nine tenths of the nodes or of the minutes are used.
-pub(crate) fn tell_until_end<
-    W: Ledger,
-    L: HistoryName,
-    S: Ledger,
-    R: Wait + Clock,
-    E: Write,
->(
+pub(crate) fn tell_until_end<W: Ledger, L: HistoryName, S: Ledger, R: Wait + Clock, E: Write>(
     rt: &R,
     service: &Service<W, L, S>,
     mut pass: Pass<L>,
