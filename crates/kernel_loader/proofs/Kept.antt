@@ -1,13 +1,11 @@
 -- The body that is kept of a procedure stands for it, with slots in place of names.
 use Rattle.std.proofs.Common.{◌≡◌, ◌+◌, ◌<◌, ◌≤◌, ℕ, zero, suc, max, add-one, List, [], ◌∷◌, ◌++◌, length, get_or, map, take, refl, sym, ap, ◌∙◌, subst, arith}
-use Rattle.std.specs.Prelude.{slice_get, Some}
+use Rattle.std.specs.Prelude.{slice_get, Some, Contains}
 use Rattle.std.specs.Ordering.{nat_cmp, ord_max}
 use Rattle.std.proofs.lemmas.List.{length-map, map-append}
 use Rattle.kernel_runner.proofs.BodiesInEffect.{bodies_from_before, bodies_from_more}
 use Rattle.janus_meaning.specs.Limit.{parameter_limit}
 use Rattle.janus_meaning.specs.Syntax.{Name, Proc, names_of}
-use Rattle.janus_meaning.specs.Shape.{Heads}
-use Rattle.janus_meaning.specs.Formed.{IsProc, AreProcs}
 use Rattle.janus_syntax.specs.Tree.{procedure_view, procedures_view}
 use Rattle.janus_syntax.specs.View.{plain_procedure}
 use Rattle.janus_syntax.specs.declared.tree.Procedure as Defined
@@ -60,11 +58,11 @@ few_slots es p few = subst (λ n. n ≤ parameter_limit) (sym (stacked_count p.p
 
 -- ---- several
 
-pub formed_at : (hs : Heads) (ys : List Defined.Procedure) (i : ℕ) (y : Defined.Procedure) → i < length ys → get_or ys i y ≡ y →
-    AreProcs hs (map plain_procedure (procedures_view ys)) → IsProc hs (plain_procedure (procedure_view y))
-formed_at hs [] i y l e h = absurd (omega arith)
-formed_at hs (z ∷ ys) zero y l e h = subst (λ (z : Defined.Procedure). IsProc hs (plain_procedure (procedure_view z))) e h.0
-formed_at hs (z ∷ ys) (suc i) y l e h = formed_at hs ys i y (omega arith) e h.1
+pub among_at : (ys : List Defined.Procedure) (i : ℕ) (y : Defined.Procedure) → i < length ys → get_or ys i y ≡ y →
+    Contains (map plain_procedure (procedures_view ys)) (plain_procedure (procedure_view y))
+among_at [] i y l e = absurd (omega arith)
+among_at (z ∷ ys) zero y l e = (0, omega arith, ap (λ (z : Defined.Procedure). plain_procedure (procedure_view z)) e)
+among_at (z ∷ ys) (suc i) y l e = let h = among_at ys i y (omega arith) e in (suc h.0, omega (arith, h.1), h.2)
 
 procedures_more : (ys : List Defined.Procedure) (i : ℕ) (y : Defined.Procedure) → i < length ys → get_or ys i y ≡ y →
     map plain_procedure (procedures_view (take (suc i) ys)) ≡ map plain_procedure (procedures_view (take i ys)) ++ plain_procedure (procedure_view y) ∷ []

@@ -10,13 +10,12 @@ use Rattle.janus_names.specs.Numbers.{IsMet, GoOn, Adds}
 use Rattle.janus_slots.specs.Slots.{names_in}
 use Rattle.janus_slots.specs.Law.{AreListed}
 use Rattle.janus_slots.proofs.Whole.{shape_names}
-use Rattle.janus_syntax.specs.Tree as tree
 use Rattle.janus_syntax.specs.Tree.{procedure_view, procedures_view}
 use Rattle.janus_syntax.specs.View.{plain_cell, plain_procedure}
 use Rattle.janus_syntax.specs.declared.tree.Procedure as Defined
-use Rattle.janus_check.specs.Names.{Known, shape_in, heads_in, over}
-use Rattle.janus_check.specs.Sight.{heads_over}
-use Rattle.janus_check.specs.Own.{IsOwn}
+use Rattle.janus_check.specs.Names.{shape_in, heads_in}
+use Rattle.janus_check.specs.Checked.{cell_in, known_in, names_seen, heads_called}
+use Rattle.janus_check.specs.declared.checked.Checked.{Checked}
 use Rattle.janus_code.specs.Slotted.{HasEntries}
 use Rattle.janus_store.specs.StoreState.{shown_store}
 use Rattle.kernel_runner.specs.Runner.{ShownWorld}
@@ -37,13 +36,12 @@ names_declared [] g s e = e
 names_declared (d ∷ ds) g s e =
     names_declared ds ((declared_name d, declared_kind d) ∷ g) (declare_one d s) (ap (λ (l : List Name). declared_name d ∷ l) e ∙ sym (one_declared d s))
 
-pub names_here : {L : Type 0} (runner : Runner L) (env own : Known) (cell : tree.Cell) (shown : ShownWorld) → ShowsKnown runner env shown →
-    IsOwn env own cell →
-    names_of (over (shape_in env.names) own.names) ≡ names_in (declare (plain_cell cell).declarations (shown_store runner.counted.store))
-names_here runner env own cell shown checked is =
-    let known : names_of (shape_in env.names) ≡ names_in (shown_store runner.counted.store) =
-    ap (λ (g : Shape). names_of g) checked.known.names ∙ shape_names shown.world.store checked.values ∙ ap names_in (sym checked.is.0.store) in
-    ap (λ (g : Shape). names_of g) is.names ∙ names_declared (plain_cell cell).declarations (shape_in env.names) (shown_store runner.counted.store) known
+pub names_here : {L : Type 0} (runner : Runner L) (checked : Checked) (shown : ShownWorld) → ShowsKnown runner (known_in checked) shown →
+    names_of (names_seen checked) ≡ names_in (declare (plain_cell (cell_in checked)).declarations (shown_store runner.counted.store))
+names_here runner checked shown h =
+    let known : names_of (shape_in (known_in checked).names) ≡ names_in (shown_store runner.counted.store) =
+    ap (λ (g : Shape). names_of g) h.known.names ∙ shape_names shown.world.store h.values ∙ ap names_in (sym h.is.0.store) in
+    names_declared (plain_cell (cell_in checked)).declarations (shape_in (known_in checked).names) (shown_store runner.counted.store) known
 
 -- ---- procedures
 
@@ -63,14 +61,13 @@ entries_of : (es : List Name) (ps : List Proc) → AreListed es ps → HasEntrie
 entries_of es [] h = λ f cs e. cc
 entries_of es (p ∷ ps) h = entry_more es (heads_of ps) p (entries_of es ps h.1) h.0
 
-pub entries_here : {L : Type 0} (runner : Runner L) (env own : Known) (cell : tree.Cell) (shown : ShownWorld) (es : List Name) →
-    ShowsKnown runner env shown → IsOwn env own cell →
-    GoOn runner.entries es → AreListed es (plain_cell cell).procedures → HasEntries (heads_over env own) es
-entries_here runner env own cell shown es checked is onward listed =
+pub entries_here : {L : Type 0} (runner : Runner L) (checked : Checked) (shown : ShownWorld) (es : List Name) → ShowsKnown runner (known_in checked) shown →
+    GoOn runner.entries es → AreListed es (plain_cell (cell_in checked)).procedures → HasEntries (heads_called checked) es
+entries_here runner checked shown es h onward listed =
     let older : HasEntries (heads_of shown.world.procedures) es =
-    entries_of es shown.world.procedures (listed_still runner.entries es onward shown.world.procedures checked.is.0.listed) in
-    let known : HasEntries (heads_in env.procedures) es = λ f cs e. older f cs (sym (checked.known.heads f) ∙ e) in
-    subst (λ (hs : Heads). HasEntries hs es) (sym is.heads) (entries_with es (heads_in env.procedures) (plain_cell cell).procedures known listed)
+    entries_of es shown.world.procedures (listed_still runner.entries es onward shown.world.procedures h.is.0.listed) in
+    let known : HasEntries (heads_in (known_in checked).procedures) es = λ f cs e. older f cs (sym (h.known.heads f) ∙ e) in
+    entries_with es (heads_in (known_in checked).procedures) (plain_cell (cell_in checked)).procedures known listed
 
 -- ---- one name more comes into the table
 

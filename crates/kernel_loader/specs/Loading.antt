@@ -4,7 +4,11 @@ use Rattle.janus_meaning.specs.Syntax.{Name, Proc}
 use Rattle.janus_meaning.specs.FormedWorld.{HaveValues}
 use Rattle.janus_meaning.specs.World.{World}
 use Rattle.janus_names.specs.Numbers.{IsNumbered}
+use Rattle.janus_syntax.specs.Tree.{Cell}
 use Rattle.janus_check.specs.Names.{Known}
+use Rattle.kernel_runner.specs.linked_code.LinkedCode.{LinkedCode}
+use Rattle.kernel_runner.specs.Program.{tree_of}
+use Rattle.kernel_runner.specs.declared.program.Program.{Program}
 use Rattle.kernel_runner.specs.Runner.{ShownWorld, Is, Between}
 use Rattle.kernel_runner.specs.declared.runner.Runner.{Runner}
 use Rattle.kernel_loader.specs.Known.{IsKnownOf}
@@ -22,3 +26,9 @@ KeepsShown old new = (shown : ShownWorld) → Is old (Between shown) → Is new 
 -- behind the old names stand names of these procedures, and no others
 abbrev pub AddNamesOf : List Name → List Name → List Proc → Type 0
 AddNamesOf old new ps = (k : ℕ) (x : Name) → length old ≤ k → IsNumbered new k x → Contains (map (λ (p : Proc). p.name) ps) x
+
+-- the program of this cell and this code, whose bodies begin there
+pub record IsMadeOf (cell : Cell) (book : LinkedCode) (first : ℕ) (program : Program) : Type 0 where
+  pub tree : tree_of program ≡ cell
+  pub code : program.book ≡ book
+  pub bodies : program.first ≡ first

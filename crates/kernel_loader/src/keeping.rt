@@ -1,33 +1,32 @@
 //! The bodies of a cell's procedures, made flat and linked, and kept behind those of earlier cells.
-ghost use Rattle.std.specs.Prelude.{◌≡◌, ◌+◌, ◌≤◌, IfOk, OnOk, OnErr, length, map};
-ghost use Rattle.janus_meaning.specs.Formed.{IsProc, AreProcs};
+ghost use Rattle.std.specs.Prelude.{◌≡◌, ◌+◌, ◌≤◌, IfOk, OnOk, OnErr, length, map, Contains};
 ghost use Rattle.janus_slots.specs.Slots.{procedure_in, procedures_in};
 ghost use Rattle.janus_syntax.specs.Tree.{procedure_view, procedures_view};
-ghost use Rattle.janus_syntax.specs.View.{plain_procedure};
-ghost use Rattle.janus_check.specs.Sight.{heads_seen};
+ghost use Rattle.janus_syntax.specs.View.{plain_procedure, plain_cell};
+ghost use Rattle.janus_check.specs.Checked.{cell_in, heads_called};
 ghost use Rattle.janus_code.specs.Slotted.{HasEntries};
 ghost use Rattle.janus_code.specs.Width.{width_of_procedure};
 ghost use Rattle.kernel_runner.specs.Procedures.{kept_in};
 ghost use Rattle.kernel_loader.specs.Keeping.{IsKeptBehind, AreBodiesBehind, KeepsOlder, KeepsDefined, width_of_procedures};
 
-use janus_check::Sight;
+use janus_check::Checked;
 use janus_code::flatten_procedure;
 use janus_names::Names;
 use janus_syntax::tree::Procedure;
 use kernel_runner::{LinkedProcedure, Procedures};
 use std::alloc::{AllocError, Global};
 
-/// Keeps the bodies of procedures, one behind another, and gives how many slots they need; an error for want of memory, or for a body of more
+/// Keeps the bodies of the procedures of a checked cell, one behind another, and gives how many slots they need; an error for want of memory, or for a body of more
 /// statements or places than 32 bits count, after which some of them may be kept.
 pub fn keep_all(
     alloc: Global,
+    checked: &Checked,
     procedures: &[Procedure],
-    sight: &Sight,
     entries: &Names,
     kept: &mut Procedures,
 ) -> Result<usize, AllocError>
-    requires formed { AreProcs (heads_seen sight.now) (map plain_procedure (procedures_view procedures.now)) }
-    requires entries { HasEntries (heads_seen sight.now) entries.now }
+    requires defined { map plain_procedure (procedures_view procedures.now) ≡ (plain_cell (cell_in checked.now)).procedures }
+    requires entries { HasEntries (heads_called checked.now) entries.now }
     ensures bodies { IfOk result (λ width.
         AreBodiesBehind kept.old kept.new width (procedures_in entries.now (map plain_procedure (procedures_view procedures.now)))) }
     ensures width { IfOk result (λ width. width ≡ width_of_procedures entries.now (map plain_procedure (procedures_view procedures.now))) }
@@ -37,7 +36,7 @@ pub fn keep_all(
 {
     let mut width = 0;
     for i in 0..procedures.len() {
-        let more = keep(alloc, &procedures[i], sight, entries, kept)?;
+        let more = keep(alloc, checked, &procedures[i], entries, kept)?;
         width = width.max(more);
     }
     Ok(width)
@@ -47,19 +46,20 @@ pub fn keep_all(
 /// bits count, after which what was kept is.
 fn keep(
     alloc: Global,
+    checked: &Checked,
     procedure: &Procedure,
-    sight: &Sight,
     entries: &Names,
     kept: &mut Procedures,
 ) -> Result<usize, AllocError>
-    requires formed { IsProc (heads_seen sight.now) (plain_procedure (procedure_view procedure.now)) }
-    requires entries { HasEntries (heads_seen sight.now) entries.now }
+    requires of_cell { Contains (plain_cell (cell_in checked.now)).procedures (plain_procedure (procedure_view procedure.now)) }
+    requires entries { HasEntries (heads_called checked.now) entries.now }
     ensures ok { IfOk result (λ width. IsKeptBehind kept.old kept.new width (procedure_in entries.now (plain_procedure (procedure_view procedure.now)))) }
     ensures width { IfOk result (λ width. width ≡ width_of_procedure entries.now (plain_procedure (procedure_view procedure.now))) }
     ensures err { OnErr result (kept_in kept.new ≡ kept_in kept.old) }
     ensures defined { KeepsDefined kept.old kept.new }
 {
-    let Ok(flat) = flatten_procedure(alloc, procedure, sight, entries) else {
+    checked.formed_law();
+    let Ok(flat) = flatten_procedure(alloc, checked, procedure, entries) else {
         return Err(AllocError);
     };
     let width = flat.width;

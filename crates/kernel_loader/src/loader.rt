@@ -1,15 +1,12 @@
 //! A cell's text, made a program that the runner can run.
 ghost use Rattle.std.specs.Prelude.{◌≡◌, ◌+◌, ℕ, max, List, IfOk, IfErr, OnOk, OnErr, length};
 ghost use Rattle.janus_meaning.specs.Syntax.{Name, names_of};
-ghost use Rattle.janus_meaning.specs.Formed.{IsBlk, AreProcs};
 ghost use Rattle.janus_meaning.specs.World.{declare, entered};
 ghost use Rattle.janus_names.specs.Numbers.{GoOn};
 ghost use Rattle.janus_slots.specs.Slots.{names_in, block_in, procedures_in};
 ghost use Rattle.janus_slots.specs.Law.{AreListed};
 ghost use Rattle.janus_syntax.specs.View.{plain_cell};
-ghost use Rattle.janus_check.specs.Checked.{cell_in};
-ghost use Rattle.janus_check.specs.Own.{IsOwn};
-ghost use Rattle.janus_check.specs.Sight.{in_sight, heads_seen};
+ghost use Rattle.janus_check.specs.Checked.{cell_in, known_in, names_seen, heads_called};
 ghost use Rattle.janus_code.specs.CodeBlock.{code_block};
 ghost use Rattle.janus_code.specs.Slotted.{HasEntries};
 ghost use Rattle.janus_code.specs.Width.{width_of};
@@ -21,17 +18,18 @@ ghost use Rattle.kernel_runner.specs.linked_code.Direction.TheVariants.{Forward}
 ghost use Rattle.kernel_machine.specs.Language.{IsSound};
 ghost use Rattle.kernel_machine.specs.Text.{Accepts, Refuses};
 ghost use Rattle.kernel_runner.specs.Program.{cell_of_program, procedures_of, IsReady};
+ghost use Rattle.kernel_runner.specs.declared.program.Program.{Program as TheProgram};
 ghost use Rattle.kernel_runner.specs.Runner.{ShownWorld, over, Is, Between, world_of, steps_of};
 ghost use Rattle.kernel_loader.specs.Defined.{in_a_row};
 ghost use Rattle.kernel_loader.specs.Keeping.{StandsFor, KeepsOlder, KeepsDefined, width_of_cell};
-ghost use Rattle.kernel_loader.specs.Loading.{ShowsKnown, KeepsShown, AddNamesOf};
+ghost use Rattle.kernel_loader.specs.Loading.{ShowsKnown, KeepsShown, AddNamesOf, IsMadeOf};
 
 use crate::checking::cell_of_text;
 use crate::frame::{frame_names, has_loop};
 use crate::keeping::keep_all;
 use crate::known::known_over;
 use crate::listing::list_all;
-use janus_check::{Checked, Env, Sight};
+use janus_check::Checked;
 use janus_code::{Code, flatten};
 use janus_names::Names;
 use janus_syntax::tree::{Declaration, Procedure};
@@ -79,12 +77,12 @@ pub fn load<L: Ledger>(
     let Ok(env) = known_over(alloc, &runner.counted.store, procedures) else {
         return Err(Refusal::Memory);
     };
-    let (checked, own) = cell_of_text(alloc, text, &env)?;
+    let checked = cell_of_text(alloc, text, &env)?;
     let first_name = runner.entries.len();
-    match link(alloc, &env, &own, &checked, runner) {
+    match link(alloc, &checked, runner) {
         Ok((book, first)) => Ok(Program {
             book,
-            checked,
+            cell: checked.into_cell(),
             first,
             first_name,
         }),
@@ -92,21 +90,18 @@ pub fn load<L: Ledger>(
     }
 }
 
-/// Links a cell that was checked over what is known of the shown world, with what it declares and defines itself, and keeps the bodies of its procedures:
-/// its code both ways, and where these bodies begin. The only error is want of memory, as which code of more statements or places than 32 bits count is
+/// Links a cell that was checked over what is known of the shown world, and keeps the bodies of its procedures: its code both ways, and where these bodies
+/// begin. The only error is want of memory, as which code of more statements or places than 32 bits count is
 /// refused too; it leaves no names in the table, and no slots.
 fn link<L: Ledger>(
     alloc: Global,
-    env: &Env,
-    own: &Env,
     checked: &Checked,
     runner: &mut Runner<L>,
 ) -> Result<(LinkedCode, usize), AllocError>
-    requires known { (shown : ShownWorld) × ShowsKnown runner.old env.now shown }
-    requires own { IsOwn env.now own.now (cell_in checked.now) }
-    ensures ready { IfOk result (λ made. IsReady runner.new.counted.store.names runner.new.entries
-        (names_in (declare (plain_cell (cell_in checked.now)).declarations (shown_store runner.old.counted.store)))
-        runner.new.procedures (record { book = made.0; checked = checked.now; first = made.1; first_name = length runner.old.entries })) }
+    requires known { (shown : ShownWorld) × ShowsKnown runner.old (known_in checked.now) shown }
+    ensures ready { IfOk result (λ made. (program : TheProgram) → IsMadeOf (cell_in checked.now) made.0 made.1 program →
+        IsReady runner.new.counted.store.names runner.new.entries
+        (names_in (declare (plain_cell (cell_in checked.now)).declarations (shown_store runner.old.counted.store))) runner.new.procedures program) }
     ensures named { OnOk result (AreListed runner.new.entries (plain_cell (cell_in checked.now)).procedures) }
     ensures only { OnOk result (AddNamesOf runner.old.entries runner.new.entries (plain_cell (cell_in checked.now)).procedures) }
     ensures no_names { OnErr result (runner.new.entries ≡ runner.old.entries) }
@@ -124,7 +119,7 @@ fn link<L: Ledger>(
     ensures shown { KeepsShown runner.old runner.new }
 {
     let known = runner.entries.len();
-    match list_and_link(alloc, env, own, checked, runner) {
+    match list_and_link(alloc, checked, runner) {
         Ok(made) => Ok(made),
         Err(error) => {
             runner.entries.truncate(known);
@@ -136,16 +131,13 @@ fn link<L: Ledger>(
 /// Lists the names of a cell's procedures, and links it as `link` does; an error may leave some of these names in the table.
 fn list_and_link<L: Ledger>(
     alloc: Global,
-    env: &Env,
-    own: &Env,
     checked: &Checked,
     runner: &mut Runner<L>,
 ) -> Result<(LinkedCode, usize), AllocError>
-    requires known { (shown : ShownWorld) × ShowsKnown runner.old env.now shown }
-    requires own { IsOwn env.now own.now (cell_in checked.now) }
-    ensures ready { IfOk result (λ made. IsReady runner.new.counted.store.names runner.new.entries
-        (names_in (declare (plain_cell (cell_in checked.now)).declarations (shown_store runner.old.counted.store)))
-        runner.new.procedures (record { book = made.0; checked = checked.now; first = made.1; first_name = length runner.old.entries })) }
+    requires known { (shown : ShownWorld) × ShowsKnown runner.old (known_in checked.now) shown }
+    ensures ready { IfOk result (λ made. (program : TheProgram) → IsMadeOf (cell_in checked.now) made.0 made.1 program →
+        IsReady runner.new.counted.store.names runner.new.entries
+        (names_in (declare (plain_cell (cell_in checked.now)).declarations (shown_store runner.old.counted.store))) runner.new.procedures program) }
     ensures named { OnOk result (AreListed runner.new.entries (plain_cell (cell_in checked.now)).procedures) }
     ensures only { AddNamesOf runner.old.entries runner.new.entries (plain_cell (cell_in checked.now)).procedures }
     ensures behind { IfOk result (λ made. made.1 ≡ length (kept_in runner.old.procedures)) }
@@ -161,15 +153,14 @@ fn list_and_link<L: Ledger>(
     ensures entries { GoOn runner.old.entries runner.new.entries }
     ensures shown { KeepsShown runner.old runner.new }
 {
+    checked.formed_law();
     let listed = list_all(&mut runner.entries, &checked.cell().procedures);
     runner.counted.store.slots_law();
     listed?;
     let first = runner.procedures.len();
-    let sight = Sight::Declared(env, own);
     let kept = keep_and_link(
         alloc,
         checked,
-        &sight,
         &runner.entries,
         &mut runner.counted.store,
         &mut runner.procedures,
@@ -189,16 +180,13 @@ fn list_and_link<L: Ledger>(
 fn keep_and_link<L: Ledger>(
     alloc: Global,
     checked: &Checked,
-    sight: &Sight,
     entries: &Names,
     store: &mut Store<L>,
     kept: &mut Procedures,
 ) -> Result<LinkedCode, AllocError>
-    requires block { IsBlk (heads_seen sight.now) (in_sight sight.now) (plain_cell (cell_in checked.now)).block }
-    requires procedures { AreProcs (heads_seen sight.now) (plain_cell (cell_in checked.now)).procedures }
-    requires entries { HasEntries (heads_seen sight.now) entries.now }
+    requires entries { HasEntries (heads_called checked.now) entries.now }
     ensures block { IfOk result (λ book. block_of_book store.new.names book Forward
-        ≡ block_in entries.now (names_of (in_sight sight.now)) (plain_cell (cell_in checked.now)).block) }
+        ≡ block_in entries.now (names_of (names_seen checked.now)) (plain_cell (cell_in checked.now)).block) }
     ensures numbered { IfOk result (BookHasNumbers store.new.names) }
     ensures bodies { OnOk result (AreBodiesFrom store.new.names (kept_in kept.new) (length (kept_in kept.old))
         (procedures_in entries.now (plain_cell (cell_in checked.now)).procedures)) }
@@ -207,11 +195,11 @@ fn keep_and_link<L: Ledger>(
     ensures defined { KeepsDefined kept.old kept.new }
     ensures sight { KeepsSight store.old store.new }
     ensures slots { OnOk result (length store.new.names
-        ≡ max (width_of_cell entries.now (length (in_sight sight.now)) (plain_cell (cell_in checked.now))) (length store.old.names)) }
+        ≡ max (width_of_cell entries.now (length (names_seen checked.now)) (plain_cell (cell_in checked.now))) (length store.old.names)) }
     ensures no_slots { OnErr result (store.new.names ≡ store.old.names) }
 {
-    let bodies = keep_all(alloc, &checked.cell().procedures, sight, entries, kept)?;
-    let (book, width) = book_of(alloc, checked, sight, entries, store)?;
+    let bodies = keep_all(alloc, checked, &checked.cell().procedures, entries, kept)?;
+    let (book, width) = book_of(alloc, checked, entries, store)?;
     let reached = store.reach(bodies.max(width));
     store.slots_law();
     reached?;
@@ -223,17 +211,15 @@ fn keep_and_link<L: Ledger>(
 fn book_of<L: Ledger>(
     alloc: Global,
     checked: &Checked,
-    sight: &Sight,
     entries: &Names,
     store: &Store<L>,
 ) -> Result<(LinkedCode, usize), AllocError>
-    requires block { IsBlk (heads_seen sight.now) (in_sight sight.now) (plain_cell (cell_in checked.now)).block }
-    requires entries { HasEntries (heads_seen sight.now) entries.now }
+    requires entries { HasEntries (heads_called checked.now) entries.now }
     ensures block { IfOk result (λ made.
-        StandsFor made.1 made.0 (block_in entries.now (names_of (in_sight sight.now)) (plain_cell (cell_in checked.now)).block)) }
-    ensures width { IfOk result (λ made. made.1 ≡ width_of entries.now (length (in_sight sight.now)) (plain_cell (cell_in checked.now)).block) }
+        StandsFor made.1 made.0 (block_in entries.now (names_of (names_seen checked.now)) (plain_cell (cell_in checked.now)).block)) }
+    ensures width { IfOk result (λ made. made.1 ≡ width_of entries.now (length (names_seen checked.now)) (plain_cell (cell_in checked.now)).block) }
 {
-    let Ok(slotted) = flatten(alloc, checked, sight, entries) else {
+    let Ok(slotted) = flatten(alloc, checked, entries) else {
         return Err(AllocError);
     };
     let width = slotted.width;

@@ -4,13 +4,13 @@ use Rattle.std.specs.declared.sync.ledger.Ledger as Ledger
 use denote.Param.Send.{IsSend, sendable}
 use Rattle.std.proofs.Crossing.{crosses}
 use Rattle.janus_names.proofs.Crosses.{Names-send}
-use Rattle.janus_check.proofs.Crosses.{Checked-send}
+use Rattle.janus_syntax.proofs.Crosses.{Cell-send}
 use Rattle.janus_machine.proofs.Crosses.{LinkedCode-send, Procedures-send, CountedStore-send}
 use Rattle.kernel_runner.specs.contracts.program.Program as Program
 use Rattle.kernel_runner.specs.contracts.runner.Runner as Runner
 
 pub Program-send : IsSend (Program.the_field).row
-Program-send = search (crosses, LinkedCode-send, Checked-send, sendable) depth 60 fits 20000
+Program-send = search (crosses, LinkedCode-send, Cell-send, sendable) depth 60 fits 20000
 
 module _ (W : RattleType) (w : Ledger.Ghosts W.Denot) where
   pub Runner-send : IsSend W → IsSend (Runner.the_field W w).row

@@ -3,8 +3,8 @@ use Rattle.std.specs.Prelude.{◌≡◌, ℕ, ◌+◌, ◌≤◌, List, length}
 use Rattle.janus_meaning.specs.Syntax.{Name, Proc}
 use Rattle.janus_meaning.specs.World.{Cell, Declaration}
 use Rattle.janus_syntax.specs.Tree as tree
+use Rattle.janus_syntax.specs.Tree.{cell_view}
 use Rattle.janus_syntax.specs.View.{plain_cell}
-use Rattle.janus_check.specs.Checked.{cell_in}
 use Rattle.janus_names.specs.Numbers.{GoOn}
 use Rattle.janus_slots.specs.Slots.{block_in as block_in_slots, procedures_in}
 use Rattle.janus_machine.specs.Places.{block_in, BookHasNumbers}
@@ -14,9 +14,9 @@ use Rattle.janus_machine.specs.declared.linked_code.Direction.TheVariants.{Forwa
 use Rattle.janus_machine.specs.declared.procedures.Procedures.{Procedures}
 use Rattle.kernel_runner.specs.declared.program.Program.{Program}
 
--- the tree of a program, as it was checked
+-- the tree of a program
 abbrev pub tree_of : Program → tree.Cell
-tree_of program = cell_in program.checked
+tree_of program = cell_view program.cell
 
 -- the cell that it is: the one that was checked
 abbrev pub cell_of_program : Program → Cell

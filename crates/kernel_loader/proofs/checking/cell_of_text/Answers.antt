@@ -1,9 +1,7 @@
 use Rattle.std.proofs.Common.{refl, sym, ap, subst}
-use Rattle.janus_syntax.specs.Tree as tree
 use Rattle.janus_syntax.specs.Tree.{cell_view}
 use Rattle.janus_syntax.specs.View.{plain_cell}
 use Rattle.janus_check.specs.Names.{shape_in, heads_in}
-use Rattle.janus_check.specs.Own.{IsOwn}
 use Rattle.kernel_machine.specs.Text.{Refuses}
 use Rattle.kernel_machine.specs.declared.outcome.Refusal.{Refusal}
 use Rattle.kernel_machine.proofs.Texts.{refuses_syntax, refuses_check}
@@ -17,10 +15,6 @@ returns-in-Ok-check-clause-accepts c = λ w known. record {
   formed = formed_here w c.args.env.now (cell_view c.in-Ok.cell) (cell_view c.in-Ok.cell) known c.in-Ok-check.ensures.well_formed refl;
   meant = ap plain_cell c.in-Ok-check.ensures.same;
 }
-
-pub returns-in-Ok-check-clause-own : goal.returns-in-Ok-check-clause-own
-returns-in-Ok-check-clause-own c =
-    subst (λ (t : tree.Cell). IsOwn c.args.env.now c.in-Ok-check.passed.1 t) (sym c.in-Ok-check.ensures.same) c.in-Ok-check.ensures.own
 
 pub returns-in-Err-check-clause-refuses : goal.returns-in-Err-check-clause-refuses
 returns-in-Err-check-clause-refuses c = λ w known.

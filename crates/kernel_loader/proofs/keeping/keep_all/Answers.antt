@@ -1,12 +1,16 @@
-use Rattle.std.proofs.Common.{sym, arith}
-use Rattle.janus_check.specs.Sight.{heads_seen}
+use Rattle.std.proofs.Common.{List, sym, subst, arith}
+use Rattle.std.specs.Prelude.{Contains}
+use Rattle.janus_meaning.specs.Syntax.{Proc}
+use Rattle.janus_syntax.specs.Tree.{procedure_view}
+use Rattle.janus_syntax.specs.View.{plain_procedure}
 use Rattle.kernel_runner.specs.Procedures.{kept_in}
-use Rattle.kernel_loader.proofs.Kept.{formed_at, kept_more, bodies_more, width_more, larger_is}
+use Rattle.kernel_loader.proofs.Kept.{among_at, kept_more, bodies_more, width_more, larger_is}
 use Rattle.kernel_loader.proofs.keeping.keep_all.Goals as goal
 
-pub keep-requires-clause-formed : goal.keep-requires-clause-formed
-keep-requires-clause-formed c = formed_at (heads_seen c.args.sight.now) c.args.procedures.now c.loop-i.i c.index-procedures-i.result c.loop-i-test.true
-    (sym c.index-procedures-i.is) c.requires.formed
+pub keep-requires-clause-of_cell : goal.keep-requires-clause-of_cell
+keep-requires-clause-of_cell c =
+    subst (λ (ps : List Proc). Contains ps (plain_procedure (procedure_view c.index-procedures-i.result))) c.requires.defined
+    (among_at c.args.procedures.now c.loop-i.i c.index-procedures-i.result c.loop-i-test.true (sym c.index-procedures-i.is))
 
 pub loop-i-preserved : goal.loop-i-preserved
 loop-i-preserved c =

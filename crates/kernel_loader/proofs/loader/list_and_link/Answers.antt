@@ -1,19 +1,21 @@
 use Rattle.std.proofs.Common.{◌≡◌, ℕ, ◌+◌, max, List, length, map, take, refl, sym, ap, ◌∙◌, subst}
-use Rattle.janus_meaning.specs.Syntax.{Name, Proc}
-use Rattle.janus_meaning.specs.Shape.{Shape}
+use Rattle.janus_meaning.specs.Syntax.{Name, Proc, names_of}
+use Rattle.janus_meaning.specs.Formed.{IsBlk, AreProcs}
 use Rattle.janus_meaning.specs.World.{declare}
-use Rattle.janus_slots.specs.Slots.{names_in}
+use Rattle.janus_slots.specs.Slots.{names_in, block_in, procedures_in}
 use Rattle.janus_slots.specs.Law.{AreListed}
 use Rattle.janus_syntax.specs.Tree as tree
 use Rattle.janus_syntax.specs.Tree.{procedures_view}
 use Rattle.janus_syntax.specs.View.{plain_cell, plain_procedure}
-use Rattle.janus_check.specs.Checked.{cell_in}
-use Rattle.janus_check.specs.Names.{shape_in, over}
+use Rattle.janus_check.specs.Checked.{cell_in, names_seen, heads_called}
 use Rattle.janus_slots.proofs.Stores.{length_names}
 use Rattle.janus_store.specs.StoreState.{shown_store}
-use Rattle.kernel_runner.specs.Bodies.{AreBelow}
+use Rattle.kernel_runner.specs.Bodies.{AreBelow, AreBodiesFrom}
+use Rattle.kernel_runner.specs.Places.{block_in as block_of_book, BookHasNumbers}
+use Rattle.kernel_runner.specs.linked_code.Direction.TheVariants.{Forward}
+use Rattle.kernel_runner.specs.linked_code.LinkedCode.{LinkedCode}
+use Rattle.kernel_runner.specs.Program.{tree_of}
 use Rattle.kernel_runner.specs.Procedures.{kept_in}
-use Rattle.kernel_runner.specs.declared.program.Program.{Program}
 use Rattle.kernel_loader.proofs.Sighted.{names_here, entries_here}
 use Rattle.kernel_loader.proofs.Made.{keeps_same, all_kept, shows_more, bodies_within, ready_made}
 use Rattle.kernel_loader.specs.Keeping.{width_of_cell}
@@ -29,8 +31,7 @@ pub keep_and_link-kept-requires-clause-entries : goal.keep_and_link-kept-require
 keep_and_link-kept-requires-clause-entries g c =
     let same : map plain_procedure (procedures_view c.deref.result.now) ≡ (plain_cell (cell_in c.args.checked.now)).procedures =
     ap (λ l. map plain_procedure (procedures_view l)) c.deref.ensures.value ∙ ap (λ (t : tree.Cell). (plain_cell t).procedures) c.cell.ensures in
-    entries_here c.args.runner.now c.args.env.now c.args.own.now (cell_in c.args.checked.now) c.requires.known.0 c.list_all-listed.new.entries
-    c.requires.known.1 c.requires.own c.list_all-listed.ensures.onward
+    entries_here c.args.runner.now c.args.checked.now c.requires.known.0 c.list_all-listed.new.entries c.requires.known.1 c.list_all-listed.ensures.onward
     (subst (λ (ps : List Proc). AreListed c.list_all-listed.new.entries ps) same c.in_ok-listed.ensures.listed)
 
 pub returns-in-Ok-clause-named : goal.returns-in-Ok-clause-named
@@ -40,19 +41,28 @@ returns-in-Ok-clause-named g c =
     subst (λ (ps : List Proc). AreListed c.list_all-listed.new.entries ps) same c.in_ok-listed.ensures.listed
 
 pub returns-in-Ok-clause-ready : goal.returns-in-Ok-clause-ready
-returns-in-Ok-clause-ready g c =
+returns-in-Ok-clause-ready g c = λ program made.
+    let checked = c.args.checked.now in
     let es : List Name = c.list_all-listed.new.entries in
-    let cell = cell_in c.args.checked.now in
-    let same : map plain_procedure (procedures_view c.deref.result.now) ≡ (plain_cell cell).procedures =
+    let xs : List Name = c.keep_and_link-kept.new.store.names in
+    let old = c.args.runner.now.procedures in
+    let new = c.keep_and_link-kept.new.kept in
+    let same : map plain_procedure (procedures_view c.deref.result.now) ≡ (plain_cell (cell_in checked)).procedures =
     ap (λ l. map plain_procedure (procedures_view l)) c.deref.ensures.value ∙ ap (λ (t : tree.Cell). (plain_cell t).procedures) c.cell.ensures in
-    let listed : AreListed es (plain_cell cell).procedures = subst (λ (ps : List Proc). AreListed es ps) same c.in_ok-listed.ensures.listed in
-    let program : Program = record { book = c.in-Ok.book; checked = c.args.checked.now; first = c.len-first.result; first_name = length c.args.runner.now.entries } in
-    ready_made c.keep_and_link-kept.new.store.names es _ _ _ _ c.args.runner.now.procedures c.keep_and_link-kept.new.kept program c.in-Ok.ensures.block
-    (names_here c.args.runner.now c.args.env.now c.args.own.now cell c.requires.known.0 c.requires.known.1 c.requires.own)
-    c.in-Ok.ensures.numbered c.len-first.ensures c.in-Ok.ensures.bodies c.in-Ok.ensures.count
-    (entries_here c.args.runner.now c.args.env.now c.args.own.now cell c.requires.known.0 es c.requires.known.1 c.requires.own
-    c.list_all-listed.ensures.onward listed)
-    listed c.requires.own.block c.requires.own.procedures
+    let listed : AreListed es (plain_cell (cell_in checked)).procedures = subst (λ (ps : List Proc). AreListed es ps) same c.in_ok-listed.ensures.listed in
+    let is : cell_in checked ≡ tree_of program = sym made.tree in
+    ready_made xs es _ _ (heads_called checked) (names_seen checked) old new program
+    (ap (λ (b : LinkedCode). block_of_book xs b Forward) made.code ∙ c.in-Ok.ensures.block
+    ∙ ap (λ (t : tree.Cell). block_in es (names_of (names_seen checked)) (plain_cell t).block) is)
+    (names_here c.args.runner.now checked c.requires.known.0 c.requires.known.1)
+    (subst (λ (b : LinkedCode). BookHasNumbers xs b) (sym made.code) c.in-Ok.ensures.numbered)
+    (made.bodies ∙ c.len-first.ensures)
+    (subst (λ (t : tree.Cell). AreBodiesFrom xs (kept_in new) (length (kept_in old)) (procedures_in es (plain_cell t).procedures)) is c.in-Ok.ensures.bodies)
+    (c.in-Ok.ensures.count ∙ ap (λ (t : tree.Cell). length (kept_in old) + length (plain_cell t).procedures) is)
+    (entries_here c.args.runner.now checked c.requires.known.0 es c.requires.known.1 c.list_all-listed.ensures.onward listed)
+    (subst (λ (t : tree.Cell). AreListed es (plain_cell t).procedures) is listed)
+    (subst (λ (t : tree.Cell). IsBlk (heads_called checked) (names_seen checked) (plain_cell t).block) is c.formed_law.ensures.block)
+    (subst (λ (t : tree.Cell). AreProcs (heads_called checked) (plain_cell t).procedures) is c.formed_law.ensures.procedures)
 
 pub returns-in-Ok-clause-last : goal.returns-in-Ok-clause-last
 returns-in-Ok-clause-last g c =
@@ -94,11 +104,9 @@ returns-in-Err-clause-only g c =
 
 pub returns-in-Ok-clause-slots : goal.returns-in-Ok-clause-slots
 returns-in-Ok-clause-slots g c =
-    let cell = cell_in c.args.checked.now in
-    let shape : Shape = over (shape_in c.args.env.now.names) c.args.own.now.names in
-    let seen : length shape ≡ length (names_in (declare (plain_cell cell).declarations (shown_store c.args.runner.now.counted.store))) =
-    sym (length_names shape)
-    ∙ ap (λ (xs : List Name). length xs)
-    (names_here c.args.runner.now c.args.env.now c.args.own.now cell c.requires.known.0 c.requires.known.1 c.requires.own) in
+    let checked = c.args.checked.now in
+    let seen : length (names_seen checked) ≡ length (names_in (declare (plain_cell (cell_in checked)).declarations (shown_store c.args.runner.now.counted.store))) =
+    sym (length_names (names_seen checked))
+    ∙ ap (λ (xs : List Name). length xs) (names_here c.args.runner.now checked c.requires.known.0 c.requires.known.1) in
     c.in-Ok.ensures.slots
-    ∙ ap (λ (n : ℕ). max (width_of_cell c.list_all-listed.new.entries n (plain_cell cell)) (length c.args.runner.now.counted.store.names)) seen
+    ∙ ap (λ (n : ℕ). max (width_of_cell c.list_all-listed.new.entries n (plain_cell (cell_in checked))) (length c.args.runner.now.counted.store.names)) seen

@@ -1,7 +1,17 @@
-use Rattle.std.proofs.Common.{rules}
-use Rattle.janus_meaning.specs.World.{World}
-use Rattle.kernel_machine.specs.Text.{Refuses}
+use Rattle.std.proofs.Common.{◌+◌, max, length, rules, refl, sym, ap, ◌∙◌, subst}
+use Rattle.janus_meaning.specs.World.{World, declare}
+use Rattle.janus_slots.specs.Slots.{names_in}
+use Rattle.janus_slots.specs.Law.{AreListed}
+use Rattle.janus_syntax.specs.Tree.{Cell}
+use Rattle.janus_syntax.specs.View.{plain_cell}
+use Rattle.janus_check.specs.Names.{Known}
+use Rattle.kernel_machine.specs.Text.{Accepts, Refuses}
+use Rattle.janus_store.specs.StoreState.{shown_store}
+use Rattle.kernel_runner.specs.Program.{IsReady}
 use Rattle.kernel_runner.specs.Runner.{world_of, over}
+use Rattle.kernel_runner.specs.declared.program.Program.{Program}
+use Rattle.kernel_loader.specs.Keeping.{width_of_cell}
+use Rattle.kernel_loader.specs.Loading.{AddNamesOf}
 use Rattle.kernel_loader.specs.Defined.{in_a_row}
 use Rattle.kernel_loader.specs.Known.{IsKnownOf}
 use Rattle.kernel_loader.proofs.loader.load.Goals as goal
@@ -16,24 +26,51 @@ known_over-requires-clause-distinct g c =
 
 pub link-requires-clause-known : goal.link-requires-clause-known
 link-requires-clause-known g c =
-    let w : World = world_of (in_a_row c.args.procedures.now) c.args.runner.now in (
+    let w : World = world_of (in_a_row c.args.procedures.now) c.args.runner.now in
+    let known : IsKnownOf c.in-Ok.env w = record { names = c.in-Ok.ensures.names; heads = c.in-Ok.ensures.heads } in (
       over c.requires.is.0 w,
       record {
         is = c.requires.is.1;
-        known = record { names = c.in-Ok.ensures.names; heads = c.in-Ok.ensures.heads };
+        known = subst (λ (k : Known). IsKnownOf k w) (sym c.in_ok-checked.ensures.known) known;
         values = c.requires.sound.formed.values;
       },
     )
-
-pub link-requires-clause-own : goal.link-requires-clause-own
-link-requires-clause-own g c =
-    c.in_ok-checked.ensures.own
 
 pub returns-in-Ok-link-clause-accepts : goal.returns-in-Ok-link-clause-accepts
 returns-in-Ok-link-clause-accepts g c =
     let w : World = world_of (in_a_row c.args.procedures.now) c.args.runner.now in
     let known : IsKnownOf c.in-Ok.env w = record { names = c.in-Ok.ensures.names; heads = c.in-Ok.ensures.heads } in
-    c.in_ok-checked.ensures.accepts w known
+    subst (λ (t : Cell). Accepts w c.args.text.now (plain_cell t)) (sym c.into_cell.ensures) (c.in_ok-checked.ensures.accepts w known)
+
+-- what is said of the checked cell is said of the program's
+
+pub returns-in-Ok-link-clause-ready : goal.returns-in-Ok-link-clause-ready
+returns-in-Ok-link-clause-ready g c =
+    let new = c.link.new.runner in
+    let program : Program = record { book = c.in-Ok-link.book; cell = c.into_cell.result; first = c.in-Ok-link.first; first_name = c.len-first_name.result } in
+    subst (λ (t : Cell). IsReady new.counted.store.names new.entries
+    (names_in (declare (plain_cell t).declarations (shown_store c.args.runner.now.counted.store))) new.procedures program) (sym c.into_cell.ensures)
+    (c.in-Ok-link.ensures.ready program (record { tree = c.into_cell.ensures; code = refl; bodies = refl }))
+
+pub returns-in-Ok-link-clause-named : goal.returns-in-Ok-link-clause-named
+returns-in-Ok-link-clause-named g c =
+    subst (λ (t : Cell). AreListed c.link.new.runner.entries (plain_cell t).procedures) (sym c.into_cell.ensures) c.in-Ok-link.ensures.named
+
+pub returns-in-Ok-link-clause-only : goal.returns-in-Ok-link-clause-only
+returns-in-Ok-link-clause-only g c =
+    subst (λ (t : Cell). AddNamesOf c.args.runner.now.entries c.link.new.runner.entries (plain_cell t).procedures) (sym c.into_cell.ensures)
+    c.in-Ok-link.ensures.only
+
+pub returns-in-Ok-link-clause-last : goal.returns-in-Ok-link-clause-last
+returns-in-Ok-link-clause-last g c =
+    c.in-Ok-link.ensures.last ∙ ap (λ (t : Cell). c.in-Ok-link.first + length (plain_cell t).procedures) (sym c.into_cell.ensures)
+
+pub returns-in-Ok-link-clause-slots : goal.returns-in-Ok-link-clause-slots
+returns-in-Ok-link-clause-slots g c =
+    let old = c.args.runner.now.counted.store in
+    c.in-Ok-link.ensures.slots
+    ∙ ap (λ (t : Cell). max (width_of_cell c.link.new.runner.entries (length (names_in (declare (plain_cell t).declarations (shown_store old)))) (plain_cell t))
+    (length old.names)) (sym c.into_cell.ensures)
 
 pub returns-in_err-checked-clause-refuses : goal.returns-in_err-checked-clause-refuses
 returns-in_err-checked-clause-refuses g c =
