@@ -47,5 +47,5 @@ returns-in-None-clause-came g c =
     rw (c.in-Inside.is, c.in-None.ensures.onward) (
       tt,
       λ on well. came_on c.args.tree.now c.in-Inside.entered.work c.args.m c.args.runner.now c.slice_inside.new.runner c.settle_job.new.runner
-      c.in-None.ensures.came c.settle_job.ensures.cursor c.settle_job.ensures.counts.steps,
+          c.in-None.ensures.came c.settle_job.ensures.cursor c.settle_job.ensures.counts.steps,
     )

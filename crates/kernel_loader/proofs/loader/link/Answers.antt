@@ -16,8 +16,9 @@ returns-in-Err-clause-entries g c =
 
 pub returns-in-Err-clause-shown : goal.returns-in-Err-clause-shown
 returns-in-Err-clause-shown g c = λ shown h.
-    let now = c.list_and_link.ensures.shown shown h in
-    (shows_unlisted c.args.runner.now c.list_and_link.new.runner c.truncate.new.self shown c.list_and_link.ensures.entries
-    (c.truncate.ensures.names
-    ∙ taken_back c.args.runner.now.entries c.list_and_link.new.runner.entries c.len-known.result c.len-known.ensures c.list_and_link.ensures.entries) h now.0,
-    now.1)
+    let now = c.list_and_link.ensures.shown shown h in (
+      shows_unlisted c.args.runner.now c.list_and_link.new.runner c.truncate.new.self shown c.list_and_link.ensures.entries
+          (c.truncate.ensures.names
+          ∙ taken_back c.args.runner.now.entries c.list_and_link.new.runner.entries c.len-known.result c.len-known.ensures c.list_and_link.ensures.entries) h now.0,
+      now.1,
+    )

@@ -17,8 +17,13 @@ returns-clause-ok g c = λ from can.
     sym (ap (λ (ps : List Proc). length ps) c.procedures.ensures) ∙ length-map (procedures_view c.procedures.result.now) plain_procedure
     ∙ length-map c.procedures.result.now procedure_view in
     entered_here c.args.self.now
-    (record { counted = record c.args.self.now.counted { store = c.declare.new.store }; cursor = c.enter.new.self; procedures =
-    c.define_all.new.self; entries = c.args.self.now.entries })
+    (record {
+      counted = record c.args.self.now.counted { store = c.declare.new.store };
+      cursor = c.enter.new.self;
+      procedures =
+          c.define_all.new.self;
+      entries = c.args.self.now.entries;
+    })
     c.args.program.now from can
     (becomes_same _ _ _ _ (ap (λ l. declare l (shown_store c.args.self.now.counted.store)) c.declarations.ensures) c.in_ok-declare.ensures.ok)
     c.define_all.ensures.kept refl

@@ -37,6 +37,8 @@ pub retire_all-requires-clause-newest : goal.retire_all-requires-clause-newest
 retire_all-requires-clause-newest g c =
     let same : length (procedures_of c.args.program.now) ≡ length c.procedures.result.now =
     sym (ap (λ (ps : List Proc). length ps) c.procedures.ensures) ∙ length-map (procedures_view c.procedures.result.now) plain_procedure
-    ∙ length-map c.procedures.result.now procedure_view in
-    (c.requires.0.bodies, subst (λ (n : ℕ). AreDefined c.args.self.now.procedures (onto c.args.program.now.first n c.requires.0.bodies)) same
-    c.requires.1.is.0.defined.defined)
+    ∙ length-map c.procedures.result.now procedure_view in (
+      c.requires.0.bodies,
+      subst (λ (n : ℕ). AreDefined c.args.self.now.procedures (onto c.args.program.now.first n c.requires.0.bodies)) same
+          c.requires.1.is.0.defined.defined,
+    )
