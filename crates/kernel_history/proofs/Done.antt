@@ -1,8 +1,10 @@
 -- What went back is not done.
 use Rattle.std.proofs.Common.{◌≡◌, ℕ, false, refl}
 use Rattle.kernel_machine.specs.State.{Work, Posted, Move}
-use Rattle.kernel_machine.specs.Heading.{Why, WasAsked, Faulted}
-use Rattle.kernel_machine.specs.Travel.{Aim, Undo, Redo, Goto}
+use Rattle.kernel_machine.specs.declared.heading.Why.{Why}
+use Rattle.kernel_machine.specs.declared.heading.Why.TheVariants.{WasAsked, Faulted}
+use Rattle.kernel_machine.specs.declared.travel.Aim.{Aim}
+use Rattle.kernel_machine.specs.declared.travel.Aim.TheVariants.{Undo, Redo, Goto}
 use Rattle.kernel_machine.specs.Slices.{turned, finished_by}
 use Rattle.kernel_machine.specs.declared.outcome.TravelEnd.TheVariants.{Asked}
 use Rattle.kernel_history.specs.Came.{is_done}

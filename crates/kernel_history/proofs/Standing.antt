@@ -301,7 +301,7 @@ idle_job (Border travel) e = cc
 idle_job (Inside x) e = cc
 
 -- a border of the code, where its model is known
-border_job : (job : Open) (travel : Travel) → job_of job ≡ state.Border travel → (t : Travel) × (job ≡ Border t) × (t ≡ travel)
+pub border_job : (job : Open) (travel : Travel) → job_of job ≡ state.Border travel → (t : Travel) × (job ≡ Border t) × (t ≡ travel)
 border_job Idle travel e = cc
 border_job (Border t) travel e = (t, refl, cc)
 border_job (Inside x) travel e = cc

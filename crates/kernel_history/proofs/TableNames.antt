@@ -38,7 +38,7 @@ names_grown tree larger node entries nodes h = λ k x at.
     elim (cases_lt k node.content.program.first_name) [
       | inl low ↦
           (let older = h.0 k x (front node.content.program.first_name entries k x low at) in
-          (older.0, older.1, cell_grown tree larger node older.0 older.1 nodes older.2.0, older.2.1))
+          (older.0, older.1, cell_grown tree larger node older.0 older.1 nodes older.2, older.3))
       | inr high ↦ (length tree.cells.nodes + 1, node.content, cell_new tree larger node nodes, h.1 k x high at)
     ]
 

@@ -19,7 +19,7 @@
 //!   `NodeTrees`: a tree of a node's cell.
 //! - `Bodies`: which program a node has and a job runs, which bodies are defined where, and how many are kept.
 //! - `Index`: what the index of bodies tells of the tree.
-//! - `Standing`: where the runner stands.
+//! - `TableNames`: which names of procedures stand in the runner's table. `Standing`: where the runner stands.
 //! - `Kept`: what a history keeps of its fields, with a map of it, what a slice leaves, and where a cell has come to its end. `Came`: that the cursor of a slice that
 //!   ends a cell came there by steps.
 //!
