@@ -21,6 +21,7 @@ pub mod OpenTotals
 pub mod Laid
 pub mod Leaping
 pub mod Paths
+pub mod Single
 pub mod Over
 pub mod Walking
 pub mod Crosses

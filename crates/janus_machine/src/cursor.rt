@@ -63,9 +63,10 @@ impl Cursor {
     ghost use Rattle.janus_machine.specs.Cursor.{count_in, with_count, is_turned};
     ghost use Rattle.janus_machine.specs.Turns.{IsMirrored, AgreesMirrored};
 
-    /// A cursor at no place of a book yet, with the memory of all calls that may be open; an error for want of it.
+    /// A cursor at no place of a book yet, with the memory of all calls that may be open; an error for want of it. No step is taken.
     pub fn new(alloc: Global) -> Result<Cursor, AllocError>
-        ensures { IfOk result (λ cursor. has_ended cursor ≡ true) }
+        ensures ended { IfOk result (λ cursor. has_ended cursor ≡ true) }
+        ensures counts { IfOk result IsAtEntry }
     {
         let calls = Vec::with_capacity(alloc, CALL_LIMIT)?;
         Ok(Cursor {

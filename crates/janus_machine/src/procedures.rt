@@ -95,12 +95,12 @@ impl Procedures {
         Ok(())
     }
 
-    /// Puts the body of an index into effect for its name. It remembers what it hides. It takes no memory.
+    /// Puts the body of an index, which is not yet in effect nor hidden, into effect for its name. It remembers what it hides. It takes no memory.
     pub fn define(&mut self, index: usize)
-        requires { index < length (kept_in self.old) }
+        requires inside { index < length (kept_in self.old) }
+        requires new { (stack : List ℕ) × AreDefined self.old stack × IsOutside index stack }
         ensures kept { kept_in self.new ≡ kept_in self.old }
         ensures in_effect { IsPutIntoEffect self.old self.new index }
-        // One that is not yet in effect, nor hidden.
         ensures defined { (stack : List ℕ) → AreDefined self.old stack → IsOutside index stack → AreDefined self.new (index ∷ stack) }
     {
         let name = self.bodies[index].procedure.name;
@@ -108,10 +108,10 @@ impl Procedures {
         self.newest[name] = index + 1;
     }
 
-    /// Takes the body of an index out of effect, the newest one of its name: what it hid is in effect again. It takes no
-    /// memory.
+    /// Takes the body of an index out of effect, which was put into effect last: what it hid is in effect again. It takes no memory.
     pub fn retire(&mut self, index: usize)
-        requires { index < length (kept_in self.old) }
+        requires inside { index < length (kept_in self.old) }
+        requires newest { (stack : List ℕ) × AreDefined self.old (index ∷ stack) }
         ensures kept { kept_in self.new ≡ kept_in self.old }
         ensures others { AreOthersKept self.old self.new index }
         ensures defined { (stack : List ℕ) → AreDefined self.old (index ∷ stack) → AreDefined self.new stack }
@@ -120,9 +120,10 @@ impl Procedures {
         self.newest[name] = self.bodies[index].hidden;
     }
 
-    /// Puts bodies that stand one behind another into effect, one after another. It takes no memory.
+    /// Puts bodies that stand one behind another, and behind all that are in effect or hidden, into effect, one after another. It takes no memory.
     pub fn define_all(&mut self, first: usize, count: usize)
-        requires { first + count ≤ length (kept_in self.old) }
+        requires inside { first + count ≤ length (kept_in self.old) }
+        requires new { (stack : List ℕ) × AreDefined self.old stack × AreBelow first stack }
         ensures kept { kept_in self.new ≡ kept_in self.old }
         ensures defined { (stack : List ℕ) → AreDefined self.old stack → AreBelow first stack → AreDefined self.new (onto first count stack) }
     {
@@ -131,9 +132,10 @@ impl Procedures {
         }
     }
 
-    /// Takes them out of effect again, the last one first. It takes no memory.
+    /// Takes them out of effect again, the last one first. They were put into effect last. It takes no memory.
     pub fn retire_all(&mut self, first: usize, count: usize)
-        requires { first + count ≤ length (kept_in self.old) }
+        requires inside { first + count ≤ length (kept_in self.old) }
+        requires newest { (stack : List ℕ) × AreDefined self.old (onto first count stack) }
         ensures kept { kept_in self.new ≡ kept_in self.old }
         ensures defined { (stack : List ℕ) → AreDefined self.old (onto first count stack) → AreDefined self.new stack }
     {

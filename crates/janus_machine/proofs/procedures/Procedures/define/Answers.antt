@@ -8,7 +8,7 @@ use Rattle.janus_machine.proofs.Bodies.{kept_same, define_puts, define_defines}
 use Rattle.janus_machine.proofs.procedures.Procedures.define.Goals as goal
 
 low : (c : goal.After-self-3-1) → c.args.index < length c.args.self.now.bodies.items
-low c = subst (λ n. c.args.index < n) (length-map c.args.self.now.bodies.items (λ (b : Body). b.procedure)) c.requires
+low c = subst (λ n. c.args.index < n) (length-map c.args.self.now.bodies.items (λ (b : Body). b.procedure)) c.requires.inside
 
 is_at : (c : goal.After-self-3-1) → slice_get c.args.self.now.bodies.items c.args.index ≡ Some c.index.result.now
 is_at c = slice_get_read c.args.self.now.bodies.items (length c.args.self.now.bodies.items) c.args.index c.index.result.now refl (low c) c.index.ensures
