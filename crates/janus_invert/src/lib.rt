@@ -4,7 +4,8 @@
 //! its number. A statement's inverse has its number, and the members of each block stand backward. Want of memory is its one refusal.
 //!
 //! Flat code is that of `janus_code`, whose names are passed on with all that its public fields have: `invert` there is the inverse of a tree. The inverse of
-//! a statement is that of Yokoyama and Glück (2007), "A reversible programming language and its invertible self-interpreter", in the definitions of `janus_meaning`.
+//! a statement is that of Yokoyama and Glück (2007), "A reversible programming language and its invertible self-interpreter", in the
+//! definitions of `janus_meaning`.
 #![tactic(auto)]
 
 ghost use Rattle.janus_invert.specs.InvertedBlock.{InvertedStandsForInverse};
