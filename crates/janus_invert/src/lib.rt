@@ -3,9 +3,9 @@
 //! To the layer above it promises that `invert_code` gives code that stands for the inverse of a code's block, in which each name keeps
 //! its number. A statement's inverse has its number, and the members of each block stand backward. Want of memory is its one refusal.
 //!
-//! Flat code is that of `janus_code`, whose names are passed on with all that its public fields and calls name: `invert` there is the inverse of a tree.
-//! The inverse of a statement is that of
-//! Yokoyama and Glück (2007), "A reversible programming language and its invertible self-interpreter", in the definitions of `janus_meaning`.
+//! Flat code is that of `janus_code`, whose names are passed on with all that its public fields have: `invert` there is the inverse of a tree. The inverse of
+//! a statement is that of Yokoyama and Glück (2007), "A reversible programming language and its invertible self-interpreter", in the
+//! definitions of `janus_meaning`.
 #![tactic(auto)]
 
 ghost use Rattle.janus_invert.specs.InvertedBlock.{InvertedStandsForInverse};
@@ -18,6 +18,7 @@ pub use janus_code::{
     Block, Code, FlatExp, FlatParameter, FlatProcedure, InvertFault, Kind, Names, SlottedCode,
     SlottedProcedure, Statement, Symbol, flat_exp, flatten, flatten_procedure, invert,
 };
+pub use janus_syntax::{Operator, Update};
 
 /// Law: where code stands for a block with slots in place of names, as what `flatten` gives does, what `invert_code` gives of it stands for the
 /// inverted block, as the flat code of the inverted cell does.
