@@ -27,12 +27,15 @@ returns-in_err-listed-clause-shown g c = λ shown h.
     shows_more c.args.runner.now _ shown (keeps_same c.args.runner.now.counted.store) c.slots_law.ensures.slots c.list_all-listed.ensures.onward
     (all_kept (kept_in c.args.runner.now.procedures) (kept_in c.args.runner.now.procedures) refl) (λ d. d) h
 
-pub keep_and_link-kept-requires-clause-entries : goal.keep_and_link-kept-requires-clause-entries
-keep_and_link-kept-requires-clause-entries g c =
+pub keep_and_link-kept-requires : goal.keep_and_link-kept-requires
+keep_and_link-kept-requires g c =
     let same : map plain_procedure (procedures_view c.deref.result.now) ≡ (plain_cell (cell_in c.args.checked.now)).procedures =
     ap (λ l. map plain_procedure (procedures_view l)) c.deref.ensures.value ∙ ap (λ (t : tree.Cell). (plain_cell t).procedures) c.cell.ensures in
-    entries_here c.args.runner.now c.args.checked.now c.requires.known.0 c.list_all-listed.new.entries c.requires.known.1 c.list_all-listed.ensures.onward
-    (subst (λ (ps : List Proc). AreListed c.list_all-listed.new.entries ps) same c.in_ok-listed.ensures.listed)
+    record {
+      entries =
+          entries_here c.args.runner.now c.args.checked.now c.requires.known.0 c.list_all-listed.new.entries c.requires.known.1 c.list_all-listed.ensures.onward
+          (subst (λ (ps : List Proc). AreListed c.list_all-listed.new.entries ps) same c.in_ok-listed.ensures.listed);
+    }
 
 pub returns-in-Ok-clause-named : goal.returns-in-Ok-clause-named
 returns-in-Ok-clause-named g c =

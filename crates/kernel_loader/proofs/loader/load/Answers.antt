@@ -4,14 +4,15 @@ use Rattle.janus_slots.specs.Slots.{names_in}
 use Rattle.janus_slots.specs.Law.{AreListed}
 use Rattle.janus_syntax.specs.Tree.{Cell}
 use Rattle.janus_syntax.specs.View.{plain_cell}
+use Rattle.janus_check.specs.Checked.{known_in}
 use Rattle.janus_check.specs.Names.{Known}
 use Rattle.kernel_machine.specs.Text.{Accepts, Refuses}
 use Rattle.janus_store.specs.StoreState.{shown_store}
 use Rattle.kernel_runner.specs.Program.{IsReady}
-use Rattle.kernel_runner.specs.Runner.{world_of, over}
+use Rattle.kernel_runner.specs.Runner.{ShownWorld, world_of, over}
 use Rattle.kernel_runner.specs.declared.program.Program.{Program}
 use Rattle.kernel_loader.specs.Keeping.{width_of_cell}
-use Rattle.kernel_loader.specs.Loading.{AddNamesOf}
+use Rattle.kernel_loader.specs.Loading.{AddNamesOf, ShowsKnown}
 use Rattle.kernel_loader.specs.Defined.{in_a_row}
 use Rattle.kernel_loader.specs.Known.{IsKnownOf}
 use Rattle.kernel_loader.proofs.loader.load.Goals as goal
@@ -24,17 +25,19 @@ pub known_over-requires-clause-distinct : goal.known_over-requires-clause-distin
 known_over-requires-clause-distinct g c =
     c.requires.sound.formed.names
 
-pub link-requires-clause-known : goal.link-requires-clause-known
-link-requires-clause-known g c =
+pub link-requires : goal.link-requires
+link-requires g c =
     let w : World = world_of (in_a_row c.args.procedures.now) c.args.runner.now in
-    let known : IsKnownOf c.in-Ok.env w = record { names = c.in-Ok.ensures.names; heads = c.in-Ok.ensures.heads } in (
+    let known : IsKnownOf c.in-Ok.env w = record { names = c.in-Ok.ensures.names; heads = c.in-Ok.ensures.heads } in
+    let shows : (shown : ShownWorld) × ShowsKnown c.args.runner.now (known_in c.in_ok-checked.checked) shown = (
       over c.requires.is.0 w,
       record {
         is = c.requires.is.1;
         known = subst (λ (k : Known). IsKnownOf k w) (sym c.in_ok-checked.ensures.known) known;
         values = c.requires.sound.formed.values;
       },
-    )
+    ) in
+    record { known = shows }
 
 pub returns-in-Ok-link-clause-accepts : goal.returns-in-Ok-link-clause-accepts
 returns-in-Ok-link-clause-accepts g c =
