@@ -42,11 +42,12 @@ fn tell_near<W: Ledger, L: HistoryName, S: Ledger, R: Wait, E: Write>(
     let Ok(answer) = service.hall.ask(rt, pass, Ask::State) else {
         return told;
     };
+    let seen = answer.seen;
     let Content::State(state) = answer.content else {
         return told;
     };
     let is_full_of_nodes = state.nodes >= MANY_NODES;
-    let is_full_of_minutes = answer.seen >= MANY_MINUTES;
+    let is_full_of_minutes = seen >= MANY_MINUTES;
     if is_full_of_nodes && !told.nodes {
         tell(
             err,
