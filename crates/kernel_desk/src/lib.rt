@@ -16,8 +16,8 @@ mod quiet;
 
 pub use hall_desk::HallDesk;
 pub use kernel_hall::{
-    Ask, Comms, Content, Done, Entry, Gate, Hall, HistoryName, Job, Kernel, Moment, NewHistory,
-    PARTS_OF_POSTS, Pass, PostFault, work,
+    Comms, Done, Entry, Gate, Hall, HistoryName, Job, Kernel, Moment, NewHistory, PARTS_OF_POSTS,
+    PostFault, work,
 };
 pub use kernel_session::{Desk, Socket, serve};
 pub use quiet::QuietDesk;

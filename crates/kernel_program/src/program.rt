@@ -95,7 +95,6 @@ fn serve_new_kernel<
     S: Ledger + Send + Sync,
     R,
     O: Write,
-    E: Write,
 >(
     rt: &R,
     alloc: Global,
@@ -106,7 +105,6 @@ fn serve_new_kernel<
     listeners: &Listeners,
     key: Key,
     out: &mut O,
-    err: &mut E,
 ) -> Result<(), ProgramFault>
 where
     R: RandomSource + Threads + Wait + Clock + Sync,
@@ -118,7 +116,7 @@ where
     let (service, seats) = new_service::<W, L, S, R>(
         rt, alloc, writes, posts, history, strangers, key,
     )?;
-    let served = serve_all(rt, &service, listeners, seats, out, err);
+    let served = serve_all(rt, &service, listeners, seats, out);
     service.discard();
     match served {
         Ok(true) => Ok(()),
@@ -160,7 +158,7 @@ where
     let listeners = listeners_of(rt, &file)?;
     tell_reach(&listeners, &file.ip, err);
     let key = Key::new(file.key.into_bytes());
-    serve_new_kernel::<Brand, Brand, Brand, R, O, E>(
+    serve_new_kernel::<Brand, Brand, Brand, R, O>(
         rt,
         alloc,
         Blank::new(2),
@@ -170,7 +168,6 @@ where
         &listeners,
         key,
         out,
-        err,
     )
 }
 
