@@ -91,20 +91,24 @@ fn check_row(env: &Env, row: &str, sheet: &mut Sheet) {
 fn check_text(env: &Env, text: &str, sheet: &mut Sheet) {
     let alloc = sheet.alloc();
     match parse_cell(alloc, text) {
-        Ok(cell) => tell_check(check(alloc, env, cell), sheet),
+        Ok(cell) => match check(alloc, env, cell) {
+            Ok(checked) => tell_passed(checked, sheet),
+            Err(fault) => tell_fault(&fault, sheet),
+        },
         Err(SyntaxFault::Memory) => sheet.show(&SyntaxFault::Memory),
         Err(_) => sheet.write("is no cell"),
     }
 }
 
-/// What the check said of a cell.
-fn tell_check(checked: Result<Checked, CheckFault>, sheet: &mut Sheet) {
-    match checked {
-        Ok(_) => sheet.write("passes"),
-        Err(fault) => {
-            sheet.show(&fault.number());
-            sheet.write(" ");
-            sheet.show(&fault);
-        }
-    }
+/// That a cell passes.
+fn tell_passed(checked: Checked, sheet: &mut Sheet) {
+    let _cell = checked.into_cell();
+    sheet.write("passes");
+}
+
+/// Why a cell is refused.
+fn tell_fault(fault: &CheckFault, sheet: &mut Sheet) {
+    sheet.show(&fault.number());
+    sheet.write(" ");
+    sheet.show(fault);
 }
