@@ -1,26 +1,30 @@
-/* How the usher of a socket, its places and the end of the kernel wait: an usher, two places, three connections that come, one who starts and ends all,
-   and a shutdown that any connection may bring.
+/* How the ushers of sockets, their places and the end of the kernel wait: an usher, two places and three connections that come, or with -DDOORS=2 two
+   ushers, each with a place and a connection of its own; one who starts and ends all, and a shutdown that any connection may bring.
 
    Claims: no invalid end state: once a shutdown came, every thread comes to its end; and `ends`: it does so in the end, under weak fairness.
    Spoiled: the door tells the places nothing as it is closed. */
 #include "waiting.h"
 
+#ifndef DOORS
+#define DOORS       1
+#endif
 #define PLACES      2
-#define CONNECTIONS 3
+#define CONNECTIONS (5 - 2 * DOORS)
+#define DOOR(place) ((place) % DOORS)
 
-bool door;                      /* Door::entrance */
-byte offered, taken;            /* Door::offered, Door::taken */
-bool has_next, is_door_closed;  /* Entrance */
-byte idle;
+bool door[DOORS];               /* Door::entrance */
+byte offered[DOORS], taken[DOORS];                      /* Door::offered, Door::taken */
+bool has_next[DOORS], is_door_closed[DOORS];            /* Entrance */
+byte idle[DOORS];
 bool latch;                     /* Latch::set of started and of ending */
 byte setting;
 bool is_started, is_ending;
 bool is_listening = true;       /* the listener, until Listeners::close */
-byte come;                      /* connections that came */
+byte come[DOORS];               /* connections that came */
 bool is_served[PLACES];         /* who is in the register of Connections */
 bool has_to_end[PLACES];        /* shut by Connections::make_room, or for reading as all ends */
 bool is_register_closed;
-byte running = PLACES + 1;      /* threads to be joined */
+byte running = PLACES + DOORS;      /* threads to be joined */
 
 inline set_ending() {           /* Latch::set */
     is_ending = true;
@@ -28,15 +32,15 @@ inline set_ending() {           /* Latch::set */
     WAKE_ALL(setting)
 }
 
-inline close_door() {           /* Door::close */
-    UNDER(door, is_door_closed = true; has_next = false);
+inline close_door(d) {          /* Door::close */
+    UNDER(door[d], is_door_closed[d] = true; has_next[d] = false);
 #ifndef SPOILED
-    WAKE_ALL(offered);
+    WAKE_ALL(offered[d]);
 #endif
-    WAKE_ALL(taken)
+    WAKE_ALL(taken[d])
 }
 
-proctype Usher(byte me) {
+proctype Usher(byte me; byte d) {
     bool is_awaited;
     LOCK(latch);                                        /* started.wait */
     do
@@ -48,35 +52,35 @@ proctype Usher(byte me) {
     :: is_ending -> break
     :: !is_ending ->
         if
-        :: is_listening && come < CONNECTIONS -> come++         /* usher::accept */
+        :: is_listening && come[d] < CONNECTIONS -> come[d]++         /* usher::accept */
         :: !is_listening -> goto again
         fi;
-        LOCK(door);                                     /* Door::offer */
+        LOCK(door[d]);                                  /* Door::offer */
         do
-        :: !has_next -> break
-        :: has_next -> SLEEP(door, taken)
+        :: !has_next[d] -> break
+        :: has_next[d] -> SLEEP(door[d], taken[d])
         od;
         if
-        :: is_door_closed -> UNLOCK(door); is_awaited = true
-        :: !is_door_closed ->
-            atomic { has_next = true; is_awaited = idle > 0 };
-            UNLOCK(door);
-            WAKE_ONE(offered)
+        :: is_door_closed[d] -> UNLOCK(door[d]); is_awaited = true
+        :: !is_door_closed[d] ->
+            atomic { has_next[d] = true; is_awaited = idle[d] > 0 };
+            UNLOCK(door[d]);
+            WAKE_ONE(offered[d])
         fi;
         do                                              /* usher::see_in */
         :: is_awaited -> break
         :: !is_awaited ->
             if                                          /* Connections::make_room: a stranger, if one is there */
-            :: is_served[0] -> has_to_end[0] = true
-            :: is_served[1] -> has_to_end[1] = true
+            :: DOOR(0) == d && is_served[0] -> has_to_end[0] = true
+            :: DOOR(1) == d && is_served[1] -> has_to_end[1] = true
             :: skip
             fi;
-            is_awaited = !has_next                      /* Door::wait_until_free: for ten milliseconds at most */
+            is_awaited = !has_next[d]                   /* Door::wait_until_free: for ten milliseconds at most */
         od;
 again:
         skip
     od;
-    close_door();
+    close_door(d);
     running--
 }
 
@@ -84,15 +88,15 @@ proctype Place(byte me) {
     bool has;
     do
     :: true ->
-        LOCK(door);                                     /* Door::take */
-        idle++;
+        LOCK(door[DOOR(me)]);                           /* Door::take */
+        idle[DOOR(me)]++;
         do
-        :: has_next || is_door_closed -> break
-        :: !has_next && !is_door_closed -> SLEEP(door, offered)
+        :: has_next[DOOR(me)] || is_door_closed[DOOR(me)] -> break
+        :: !has_next[DOOR(me)] && !is_door_closed[DOOR(me)] -> SLEEP(door[DOOR(me)], offered[DOOR(me)])
         od;
-        atomic { idle--; has = has_next; has_next = false };
-        UNLOCK(door);
-        WAKE_ALL(taken);
+        atomic { idle[DOOR(me)]--; has = has_next[DOOR(me)]; has_next[DOOR(me)] = false };
+        UNLOCK(door[DOOR(me)]);
+        WAKE_ALL(taken[DOOR(me)]);
         if
         :: !has -> break
         :: has -> skip
@@ -129,7 +133,10 @@ proctype Starter(byte me) {
     od;
     UNLOCK(latch);
     is_listening = false;                               /* start::end_all: Listeners::close, Doors::close, Connections::close */
-    close_door();
+    close_door(0);
+#if DOORS > 1
+    close_door(1);
+#endif
     atomic { is_register_closed = true; has_to_end[0] = true; has_to_end[1] = true };
     running == 0                                        /* thread::scope joins them */
 }
@@ -139,7 +146,13 @@ proctype Console() {
 }
 
 init {
-    atomic { run Starter(3); run Usher(2); run Place(0); run Place(1); run Console() }
+    atomic { 
+        run Starter(4); run Place(0); run Place(1); run Usher(2, 0);
+#if DOORS > 1
+        run Usher(3, 1);
+#endif
+        run Console()
+    }
 }
 
 ltl ends { <> (running == 0) }

@@ -1,4 +1,4 @@
-/* How threads wait at the hall: two frontends, each of which runs two jobs and asks behind each, the worker, and a shutdown that may come at any time or never.
+/* How threads wait at the hall: two frontends, each of which runs two jobs and asks behind each, the worker, and a shutdown that may come at any time or never, with -DCLOSERS=2 from two sides.
    A frontend that is refused goes away. Each job ends after at most two slices, or at its begin.
 
    Claims: nobody is left asleep as all others are done (no invalid end state); and `answered`: who waits for the end of a job gets it, where each
@@ -101,7 +101,12 @@ proctype Closer() {
 }
 
 init {
-    atomic { run Frontend(0); run Frontend(1); run Worker(2); run Closer() }
+    atomic {
+        run Frontend(0); run Frontend(1); run Worker(2); run Closer();
+#if CLOSERS > 1
+        run Closer()
+#endif
+    }
 }
 
 ltl answered { [] ((waits[0] -> <> !waits[0]) && (waits[1] -> <> !waits[1])) }

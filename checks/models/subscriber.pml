@@ -1,4 +1,4 @@
-/* How the halves of two subscribers' connections and a publisher of two broadcasts wait. One peer is there from the first, the other is ready at some
+/* How the halves of two subscribers' connections and a publisher of two broadcasts wait, or with -DPUBLISHERS=2 two of one each. One peer is there from the first, the other is ready at some
    time and may ping once; each goes away, or is shut for reading as the kernel ends. Of the count it is kept for each writing half whether it has
    risen since that half took it: nothing else of it is looked at.
 
@@ -7,7 +7,10 @@
    Spoiled: the writing half takes the count after it has looked, so that what comes in between wakes it no more. */
 #include "waiting.h"
 
-#define BROADCASTS 2
+#ifndef PUBLISHERS
+#define PUBLISHERS 1
+#endif
+#define BROADCASTS (2 / PUBLISHERS)
 #define NOWHERE    99
 
 bool lock;                      /* EventCount::count */
@@ -25,9 +28,10 @@ inline raise() {                /* EventCount::raise */
 }
 
 proctype Publisher() {
+    byte count;
     do
-    :: board < BROADCASTS -> board++; raise()           /* Bulletin::publish, and then Bulletin::wake */
-    :: board == BROADCASTS -> break
+    :: count < BROADCASTS -> count++; board++; raise()  /* Bulletin::publish, and then Bulletin::wake */
+    :: count == BROADCASTS -> break
     od
 }
 
@@ -83,7 +87,11 @@ proctype Speaks(byte me) {
 init {
     atomic {
         joined[0] = NOWHERE; joined[1] = 0; at[0] = NOWHERE; at[1] = NOWHERE;
-        run Publisher(); run Hears(0); run Speaks(0); run Hears(1); run Speaks(1)
+        run Publisher();
+#if PUBLISHERS > 1
+        run Publisher();
+#endif
+        run Hears(0); run Speaks(0); run Hears(1); run Speaks(1)
     }
 }
 
