@@ -1,5 +1,5 @@
-/* How threads wait at the hall: two frontends, each of which runs two jobs and asks behind each, the worker, and a shutdown that may come at any time or never, with -DCLOSERS=2 from two sides.
-   A frontend that is refused goes away. Each job ends after at most two slices, or at its begin.
+/* How threads wait at the hall: two frontends, each of which runs two jobs and asks behind each, the worker, and a shutdown that may come at any time or
+   never, with -DCLOSERS=2 from two sides. A frontend that is refused goes away. Each job ends after at most two slices, or at its begin.
 
    Claims: nobody is left asleep as all others are done (no invalid end state); and `answered`: who waits for the end of a job gets it, where each
    thread that can go on does so in the end (weak fairness).
