@@ -1,6 +1,6 @@
 /* How the halves of two subscribers' connections and a publisher of two broadcasts wait, or with -DPUBLISHERS=2 two of one each. One peer is there from the
-   first, the other is ready at some time and may ping once; each goes away, or is shut for reading as the kernel ends. Of the count it is kept for each writing half whether it has
-   risen since that half took it: nothing else of it is looked at.
+   first, the other is ready at some time and may ping once; each goes away, or is shut for reading as the kernel ends. Of the count it is kept for each
+   writing half whether it has risen since that half took it: nothing else of it is looked at.
 
    Claims: no invalid end state; and `heard`: what is published behind the place at which a peer joined is read by its writing half, or that half has
    come to its end, under weak fairness.
