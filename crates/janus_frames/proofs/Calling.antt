@@ -87,16 +87,16 @@ entered hp cs ds base top xs t m b d p h =
       ap (λ (u : List Val × Store). u.1) e ∙ s,
     )
 
-down-at : (g : ℕ → Val) (n i : ℕ) → i < n → get_or (down g n) i Lent ≡ g (n - (i + 1))
+pub down-at : (g : ℕ → Val) (n i : ℕ) → i < n → get_or (down g n) i Lent ≡ g (n - (i + 1))
 down-at g zero i h = absurd (omega arith)
 down-at g (suc n) zero h = ap g (omega arith)
 down-at g (suc n) (suc i) h = down-at g n i (omega arith) ∙ ap g (omega arith)
 
-down-length : (g : ℕ → Val) (n : ℕ) → length (down g n) ≡ n
+pub down-length : (g : ℕ → Val) (n : ℕ) → length (down g n) ≡ n
 down-length g zero = refl
 down-length g (suc n) = ap suc (down-length g n)
 
-has-some : (xs : List ℕ) (i : ℕ) → i < length xs → has xs (get_or xs i 0) ≡ true
+pub has-some : (xs : List ℕ) (i : ℕ) → i < length xs → has xs (get_or xs i 0) ≡ true
 has-some [] i h = absurd (omega arith)
 has-some (x ∷ xs) zero h = found (nat_eq x x) (has xs x) (same x)
   where

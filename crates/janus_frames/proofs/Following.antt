@@ -46,7 +46,7 @@ turned : (p q : ℕ) → nat_eq p q ≡ false → nat_eq q p ≡ false
 turned p q h = other_case (nat_eq q p) refl
   where
     other_case : (b : Bool) → nat_eq q p ≡ b → b ≡ false
-    other_case true e = let z : p ≡ q = sym (equal q p e) in sym h ∙ ap (nat_eq p) (sym z) ∙ same_number p
+    other_case true e = let z : p ≡ q = sym (equal q p e) in sym (sym h ∙ ap (nat_eq p) (sym z) ∙ same_number p)
     other_case false e = refl
 
 pub place-at : (xs : List ℕ) (i : ℕ) → AreApart xs → i < length xs → place_in xs (get_or xs i 0) ≡ i

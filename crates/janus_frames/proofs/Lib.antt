@@ -20,3 +20,4 @@ pub mod Sizes
 pub mod Opening
 pub mod Leaving
 pub mod Declared
+pub mod Inwards

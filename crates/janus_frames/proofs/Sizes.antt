@@ -1,5 +1,6 @@
 -- The invariant of a store as its frames change.
-use Rattle.std.proofs.Common.{◌≡◌, ℕ, zero, suc, ◌+◌, ◌-◌, ◌*◌, ◌<◌, ◌≤◌, List, [], ◌∷◌, ◌++◌, length, map, refl, ap, ◌∙◌, sym, subst, arith, Bool, true, false}
+use Rattle.std.proofs.Common.{◌≡◌, ℕ, zero, suc, ◌+◌, ◌-◌, ◌*◌, ◌<◌, ◌≤◌, List, [], ◌∷◌, ◌++◌, length, map, take, length-append, refl, ap, ◌∙◌, sym, subst, arith, Bool, true, false}
+use Rattle.std.proofs.lemmas.List.{length-take-le}
 use Rattle.janus_meaning.specs.Fault.{Res, Fine, Bad, and_then, or_else}
 use Rattle.janus_meaning.specs.Syntax.{Name}
 use Rattle.janus_meaning.specs.Store.{Val, Num, Arr, Stk, Lent, Store, Bare, Slot, same_name, take, take_at, take_slot, pull, bind, fill, unbind, values_in, cleared}
@@ -9,10 +10,12 @@ use Rattle.janus_meaning.proofs.Results.{with_parts, by_fine}
 use Rattle.janus_meaning.proofs.Stores.{fill-pull}
 use Rattle.janus_names.specs.Numbers.{HaveOneNumber}
 use Rattle.janus_frames.specs.Calls.{Caller, CanLend, Enters, Returns, AreAlone, returned, given_back, names_lent, params_bound, own_names, AreShort}
-use Rattle.janus_frames.specs.Cells.{parameters}
+use Rattle.janus_frames.specs.Cells.{parameters, stored, down}
 use Rattle.janus_frames.specs.FramesState.{FramesState, HasShape, names_there, with_names}
 use Rattle.janus_frames.specs.Kept.{AreHeld, outer_size}
 use Rattle.janus_frames.specs.StoreState.{local_limit, call_limit, bound_limit}
+use Rattle.janus_frames.proofs.Reading.{size-stored}
+use Rattle.janus_frames.proofs.Stored.{unbind-all}
 
 -- ---- sizes
 
@@ -74,6 +77,10 @@ outer_more n m (c ∷ cs) h = omega arith
 outer_fewer : (d n : ℕ) (cs : List Caller) → own_names d cs < n → d ≤ outer_size n cs → d ≤ outer_size (n - 1) cs
 outer_fewer d n [] l h = omega arith
 outer_fewer d n (c ∷ cs) l h = h
+
+pub own-less : (d : ℕ) (cs : List Caller) (n : ℕ) → own_names d cs < n → own_names 0 cs < n
+own-less d [] n h = omega arith
+own-less d (c ∷ cs) n h = h
 
 -- ---- parameters
 
@@ -139,6 +146,53 @@ module _ (f : FramesState) (d : ℕ) (ts : List Name) (h : AreHeld f d ts) where
         room = h.room;
       }
 
+  -- there is memory for more
+  pub held-roomy : (r : ℕ) → f.room ≤ r → AreHeld (record { slots = f.slots; callers = f.callers; room = r }) d ts
+  held-roomy r l = record {
+    one_text = h.one_text;
+    many = h.many;
+    declared = h.declared;
+    few = h.few;
+    short = h.short;
+    calls = h.calls;
+    room = let e = h.room in omega (arith, e, l);
+  }
+
+  -- a name is declared
+  pub held-declared : (x y : Name) (v : Val) (us : List Name) → f.callers ≡ [] → d ≡ size_of f.slots → d + 1 + local_limit + bound_limit ≤ f.room → us ≡ ts ++ x ∷ []
+      → HaveOneNumber us → AreHeld (with_names (Slot y v f.slots) f) (d + 1) us
+  held-declared x y v us c n r u one =
+      let o : outer_size (suc (size_of f.slots)) f.callers ≡ suc (size_of f.slots) = ap (outer_size (suc (size_of f.slots))) c in
+      let p : params_bound f.callers ≡ 0 = ap params_bound c in
+      let l : names_lent f.callers ≡ 0 = ap names_lent c in
+      record {
+        one_text = one;
+        many = let m = h.many in omega (arith, m, ap length u, length-append ts (x ∷ []));
+        declared = omega (arith, o, n);
+        few = omega (arith, p, l, n);
+        short = h.short;
+        calls = h.calls;
+        room = r;
+      }
+
+  -- and retired
+  pub held-retired : (x : Name) (v : Val) (s : Store) (us : List Name) → f.callers ≡ [] → d ≡ size_of f.slots → f.slots ≡ Slot x v s → us ≡ take (d - 1) ts
+      → HaveOneNumber us → AreHeld (with_names s f) (d - 1) us
+  held-retired x v s us c n e u one =
+      let z : size_of f.slots ≡ suc (size_of s) = ap size_of e in
+      let o : outer_size (size_of s) f.callers ≡ size_of s = ap (outer_size (size_of s)) c in
+      let p : params_bound f.callers ≡ 0 = ap params_bound c in
+      let l : names_lent f.callers ≡ 0 = ap names_lent c in
+      record {
+        one_text = one;
+        many = let m = h.many in ap length u ∙ length-take-le (d - 1) ts (omega (arith, m));
+        declared = omega (arith, o, n, z);
+        few = omega (arith, p, l, n, z);
+        short = h.short;
+        calls = h.calls;
+        room = let e = h.room in omega (arith, e);
+      }
+
   -- a call is entered
   pub held-entered : (g : FramesState) (xs : List Name) → CanLend xs f.slots → Enters xs f.slots f.callers g.slots g.callers → g.room ≡ f.room
       → length f.callers < call_limit → length xs ≤ 16 → AreHeld g d ts
@@ -163,14 +217,19 @@ module _ (f : FramesState) (d : ℕ) (ts : List Name) (h : AreHeld f d ts) where
       }
 
   -- and left
-  pub held-left : (g : FramesState) → AreAlone f.callers f.slots → ((c : Caller) (cs : List Caller) → f.callers ≡ c ∷ cs → (vs : List Val) × (unbind (parameters (length c.args)) f.slots ≡ Fine vs))
+  pub held-left : (g : FramesState) → AreAlone f.callers f.slots → (v : ℕ → Val) (n : ℕ) → f.slots ≡ stored v n
       → Returns f.callers f.slots g.slots g.callers → g.room ≡ f.room → AreHeld g d ts
-  held-left g a u r z = by f.callers refl a r
+  held-left g a v n u r z = by f.callers refl a r
     where
+      told_alone : (m : ℕ) → size_of f.slots ≡ m → (vs : List Val) × (unbind (parameters m) f.slots ≡ Fine vs)
+      told_alone m e =
+          let k : n ≡ m = sym (size-stored v n) ∙ ap size_of (sym u) ∙ e in
+          (down v n, ap (λ m. unbind (parameters m) f.slots) (sym k) ∙ ap (unbind (parameters n)) u ∙ unbind-all v n)
+
       by : (cs : List Caller) → cs ≡ f.callers → AreAlone cs f.slots → Returns cs f.slots g.slots g.callers → AreHeld g d ts
       by [] e a r = absurd a
       by (c ∷ cs) e a r =
-          let w = u c cs (sym e) in
+          let w = told_alone (length c.args) a in
           let y = fill_size c.args w.0 c.store g.slots (r.1 w.0 w.1) in
           let n : names_lent f.callers ≡ size_of c.store + names_lent cs = ap names_lent (sym e) in
           let p : params_bound f.callers ≡ length c.args + params_bound cs = ap params_bound (sym e) in

@@ -110,7 +110,8 @@ impl Frames {
 
     /// How many names are in sight.
     pub(crate) fn len(&self) -> usize
-        ensures { result ≡ size_of self.now.slots }
+        ensures names { result ≡ size_of self.now.slots }
+        ensures low { result < 2 ^ 63 }
     {
         self.top - self.base
     }
@@ -391,9 +392,9 @@ fn release(cell: Cell, arrays: &mut Arrays, stacks: &mut Stacks)
 
 /// The place at which the k-th of the outermost names is found, where the frame in sight begins at `base`.
 fn place_shown(calls: &[OpenCall], base: usize, k: usize) -> usize
-    requires calls { AreLow (2 ^ 62) calls.now }
-    requires base { base < 2 ^ 62 }
-    requires low { k < 2 ^ 62 }
+    requires calls { AreLow (2 ^ 63) calls.now }
+    requires base { base < 2 ^ 63 }
+    requires low { k < 2 ^ 63 }
     ensures { (v : ℕ → Val) → through v (from v base) (reverse calls.now) k ≡ v result }
 {
     let mut slot = k;

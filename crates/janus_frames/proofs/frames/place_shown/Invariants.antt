@@ -7,6 +7,6 @@ use Rattle.janus_frames.proofs.frames.place_shown.Given as goal
 
 abbrev pub invariant-loop-i : goal.invariant-loop-i
 invariant-loop-i l = record {
-  low : l.slot < 2 ^ 62;
+  low : l.slot < 2 ^ 63;
   value : (v : ℕ → Val) → through v (from v l.base) (reverse l.calls) l.k ≡ through v (from v l.base) (reverse (drop l.i l.calls)) l.slot;
 }

@@ -38,12 +38,12 @@ give_back-requires-clause-order c =
     let room = vec_capacity a.cells in
     let calls : reverse a.calls.items ≡ call ∷ rest = ap reverse c.in-Some.ensures.items ∙ reverse-append c.pop.new.self.items (call ∷ []) in
     let f : AreFrames (value_at hp cs) a.base a.top (call ∷ rest) = subst (AreFrames (value_at hp cs) a.base a.top) calls i.frames in
-    let open : AreAlone (callers_of (value_at hp cs) a.base (call ∷ rest)) (stored (from (value_at hp cs) a.base) (a.top - a.base)) =
+    let opened : AreAlone (callers_of (value_at hp cs) a.base (call ∷ rest)) (stored (from (value_at hp cs) a.base) (a.top - a.base)) =
     subst (λ r. AreAlone (callers_of (value_at hp cs) a.base r) (stored (from (value_at hp cs) a.base) (a.top - a.base))) calls
     (subst (λ (h : FramesState). AreAlone h.callers h.slots) (sym c.self.view_is) c.requires) in
     let n = size-stored (from (value_at hp cs) a.base) (a.top - a.base) in
     let many = as-many xs in
-    let alone : a.top - a.base ≡ length xs = omega (arith, open, n, many) in
+    let alone : a.top - a.base ≡ length xs = omega (arith, opened, n, many) in
     f.nested.0
 
 pub give_back-requires-clause-room : goal.give_back-requires-clause-room
@@ -59,12 +59,12 @@ give_back-requires-clause-room c =
     let room = vec_capacity a.cells in
     let calls : reverse a.calls.items ≡ call ∷ rest = ap reverse c.in-Some.ensures.items ∙ reverse-append c.pop.new.self.items (call ∷ []) in
     let f : AreFrames (value_at hp cs) a.base a.top (call ∷ rest) = subst (AreFrames (value_at hp cs) a.base a.top) calls i.frames in
-    let open : AreAlone (callers_of (value_at hp cs) a.base (call ∷ rest)) (stored (from (value_at hp cs) a.base) (a.top - a.base)) =
+    let opened : AreAlone (callers_of (value_at hp cs) a.base (call ∷ rest)) (stored (from (value_at hp cs) a.base) (a.top - a.base)) =
     subst (λ r. AreAlone (callers_of (value_at hp cs) a.base r) (stored (from (value_at hp cs) a.base) (a.top - a.base))) calls
     (subst (λ (h : FramesState). AreAlone h.callers h.slots) (sym c.self.view_is) c.requires) in
     let n = size-stored (from (value_at hp cs) a.base) (a.top - a.base) in
     let many = as-many xs in
-    let alone : a.top - a.base ≡ length xs = omega (arith, open, n, many) in
+    let alone : a.top - a.base ≡ length xs = omega (arith, opened, n, many) in
     let l = i.long in
     let o = f.order in
     omega (arith, alone, l, o, ap length c.slots.ensures, ap length c.deref_mut.ensures.value)
@@ -82,12 +82,12 @@ give_back-requires-clause-low c =
     let room = vec_capacity a.cells in
     let calls : reverse a.calls.items ≡ call ∷ rest = ap reverse c.in-Some.ensures.items ∙ reverse-append c.pop.new.self.items (call ∷ []) in
     let f : AreFrames (value_at hp cs) a.base a.top (call ∷ rest) = subst (AreFrames (value_at hp cs) a.base a.top) calls i.frames in
-    let open : AreAlone (callers_of (value_at hp cs) a.base (call ∷ rest)) (stored (from (value_at hp cs) a.base) (a.top - a.base)) =
+    let opened : AreAlone (callers_of (value_at hp cs) a.base (call ∷ rest)) (stored (from (value_at hp cs) a.base) (a.top - a.base)) =
     subst (λ r. AreAlone (callers_of (value_at hp cs) a.base r) (stored (from (value_at hp cs) a.base) (a.top - a.base))) calls
     (subst (λ (h : FramesState). AreAlone h.callers h.slots) (sym c.self.view_is) c.requires) in
     let n = size-stored (from (value_at hp cs) a.base) (a.top - a.base) in
     let many = as-many xs in
-    let alone : a.top - a.base ≡ length xs = omega (arith, open, n, many) in
+    let alone : a.top - a.base ≡ length xs = omega (arith, opened, n, many) in
     subst (AreBelow (a.base - call.base)) (sym c.slots.ensures) f.nested.2.below
 
 pub give_back-requires-clause-apart : goal.give_back-requires-clause-apart
@@ -103,12 +103,12 @@ give_back-requires-clause-apart c =
     let room = vec_capacity a.cells in
     let calls : reverse a.calls.items ≡ call ∷ rest = ap reverse c.in-Some.ensures.items ∙ reverse-append c.pop.new.self.items (call ∷ []) in
     let f : AreFrames (value_at hp cs) a.base a.top (call ∷ rest) = subst (AreFrames (value_at hp cs) a.base a.top) calls i.frames in
-    let open : AreAlone (callers_of (value_at hp cs) a.base (call ∷ rest)) (stored (from (value_at hp cs) a.base) (a.top - a.base)) =
+    let opened : AreAlone (callers_of (value_at hp cs) a.base (call ∷ rest)) (stored (from (value_at hp cs) a.base) (a.top - a.base)) =
     subst (λ r. AreAlone (callers_of (value_at hp cs) a.base r) (stored (from (value_at hp cs) a.base) (a.top - a.base))) calls
     (subst (λ (h : FramesState). AreAlone h.callers h.slots) (sym c.self.view_is) c.requires) in
     let n = size-stored (from (value_at hp cs) a.base) (a.top - a.base) in
     let many = as-many xs in
-    let alone : a.top - a.base ≡ length xs = omega (arith, open, n, many) in
+    let alone : a.top - a.base ≡ length xs = omega (arith, opened, n, many) in
     subst AreApart (sym c.slots.ensures) f.nested.2.apart
 
 pub invariant_of-self : goal.invariant_of-self
@@ -124,12 +124,12 @@ invariant_of-self c =
     let room = vec_capacity a.cells in
     let calls : reverse a.calls.items ≡ call ∷ rest = ap reverse c.in-Some.ensures.items ∙ reverse-append c.pop.new.self.items (call ∷ []) in
     let f : AreFrames (value_at hp cs) a.base a.top (call ∷ rest) = subst (AreFrames (value_at hp cs) a.base a.top) calls i.frames in
-    let open : AreAlone (callers_of (value_at hp cs) a.base (call ∷ rest)) (stored (from (value_at hp cs) a.base) (a.top - a.base)) =
+    let opened : AreAlone (callers_of (value_at hp cs) a.base (call ∷ rest)) (stored (from (value_at hp cs) a.base) (a.top - a.base)) =
     subst (λ r. AreAlone (callers_of (value_at hp cs) a.base r) (stored (from (value_at hp cs) a.base) (a.top - a.base))) calls
     (subst (λ (h : FramesState). AreAlone h.callers h.slots) (sym c.self.view_is) c.requires) in
     let n = size-stored (from (value_at hp cs) a.base) (a.top - a.base) in
     let many = as-many xs in
-    let alone : a.top - a.base ≡ length xs = omega (arith, open, n, many) in
+    let alone : a.top - a.base ≡ length xs = omega (arith, opened, n, many) in
     let m : AreGiven cs ds call.base a.base xs =
     subst (λ xs. AreGiven cs ds call.base a.base xs) c.slots.ensures (subst (λ cs. AreGiven cs ds call.base a.base c.slots.result.now) c.deref_mut.ensures.value
     (record { before = c.give_back.ensures.before; frame = c.give_back.ensures.frame; moved = c.give_back.ensures.moved })) in
@@ -158,12 +158,12 @@ returns-clause-left c =
     let room = vec_capacity a.cells in
     let calls : reverse a.calls.items ≡ call ∷ rest = ap reverse c.in-Some.ensures.items ∙ reverse-append c.pop.new.self.items (call ∷ []) in
     let f : AreFrames (value_at hp cs) a.base a.top (call ∷ rest) = subst (AreFrames (value_at hp cs) a.base a.top) calls i.frames in
-    let open : AreAlone (callers_of (value_at hp cs) a.base (call ∷ rest)) (stored (from (value_at hp cs) a.base) (a.top - a.base)) =
+    let opened : AreAlone (callers_of (value_at hp cs) a.base (call ∷ rest)) (stored (from (value_at hp cs) a.base) (a.top - a.base)) =
     subst (λ r. AreAlone (callers_of (value_at hp cs) a.base r) (stored (from (value_at hp cs) a.base) (a.top - a.base))) calls
     (subst (λ (h : FramesState). AreAlone h.callers h.slots) (sym c.self.view_is) c.requires) in
     let n = size-stored (from (value_at hp cs) a.base) (a.top - a.base) in
     let many = as-many xs in
-    let alone : a.top - a.base ≡ length xs = omega (arith, open, n, many) in
+    let alone : a.top - a.base ≡ length xs = omega (arith, opened, n, many) in
     let m : AreGiven cs ds call.base a.base xs =
     subst (λ xs. AreGiven cs ds call.base a.base xs) c.slots.ensures (subst (λ cs. AreGiven cs ds call.base a.base c.slots.result.now) c.deref_mut.ensures.value
     (record { before = c.give_back.ensures.before; frame = c.give_back.ensures.frame; moved = c.give_back.ensures.moved })) in
