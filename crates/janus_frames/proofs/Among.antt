@@ -1,5 +1,6 @@
 -- Numbers among others.
-use Rattle.std.proofs.Common.{◌≡◌, ◌≢◌, ℕ, zero, suc, ◌<◌, ◌≤◌, Bool, true, false, ◌||◌, nat_eq, List, [], ◌∷◌, length, take, get_or, refl, ap, ◌∙◌, sym, subst, arith}
+use Rattle.std.proofs.Common.{◌≡◌, ◌≢◌, ℕ, zero, suc, ◌<◌, ◌≤◌, Bool, true, false, ◌||◌, nat_eq, List, [], ◌∷◌, length, take, get_or, refl, ap, ◌∙◌}
+use Rattle.std.proofs.Common.{sym, subst, arith}
 use Rattle.std.proofs.lemmas.Bool.{eqb-false, ne_eqb}
 use Rattle.std.proofs.lemmas.Bool.Decides.{nat_tests}
 use Rattle.janus_frames.specs.Cells.{has, AreApart, AreBelow}
@@ -46,7 +47,8 @@ has-more (x ∷ xs) (suc i) k h = ap (λ b. nat_eq x k || b) (has-more xs i k (o
 pub none-before : (xs : List ℕ) (i : ℕ) → AreApart xs → i < length xs → has (take i xs) (get_or xs i 0) ≡ false
 none-before [] i d h = absurd (omega arith)
 none-before (x ∷ xs) zero d h = refl
-none-before (x ∷ xs) (suc i) d h = let e : nat_eq x (get_or xs i 0) ≡ false = nat_turned (get_or xs i 0) x (has-at xs i x (omega arith) d.0) in rw e (none-before xs i d.1 (omega arith))
+none-before (x ∷ xs) (suc i) d h = let e : nat_eq x (get_or xs i 0)
+    ≡ false = nat_turned (get_or xs i 0) x (has-at xs i x (omega arith) d.0) in rw e (none-before xs i d.1 (omega arith))
 
 pub not-equal : (p q : ℕ) → nat_eq p q ≡ false → p ≢ q
 not-equal p q h = eqb-false p q h
@@ -55,7 +57,8 @@ pub equal : (p q : ℕ) → nat_eq p q ≡ true → p ≡ q
 equal p q h = grind (arith, nat_tests)
 
 -- what is not among one more of them is not among those, nor the next
-pub has-less : (xs : List ℕ) (i j k : ℕ) → j ≡ suc i → i < length xs → has (take j xs) k ≡ false → (has (take i xs) k ≡ false) × (nat_eq (get_or xs i 0) k ≡ false)
+pub has-less : (xs : List ℕ) (i j k : ℕ) → j ≡ suc i → i < length xs → has (take j xs) k ≡ false →
+    (has (take i xs) k ≡ false) × (nat_eq (get_or xs i 0) k ≡ false)
 has-less xs i j k e h n = or_false (has (take i xs) k) (nat_eq (get_or xs i 0) k) (sym (has-more xs i k h) ∙ subst (λ j. has (take j xs) k ≡ false) e n)
 
 -- no two of different places are one

@@ -23,7 +23,8 @@ items-set (v ∷ vs) zero w = refl
 items-set (v ∷ vs) (suc a) w = ap (λ l. v.items ∷ l) (items-set vs a w)
 
 -- those in front of one
-pub items-front : (vs : List (Vec ℤ)) (a i : ℕ) → i < a → i < length vs → (i < length (items_in (take a vs))) × (list_of (items_in (take a vs)) i ≡ list_of (items_in vs) i)
+pub items-front : (vs : List (Vec ℤ)) (a i : ℕ) → i < a → i < length vs →
+    (i < length (items_in (take a vs))) × (list_of (items_in (take a vs)) i ≡ list_of (items_in vs) i)
 items-front [] a i h l = absurd (omega arith)
 items-front (v ∷ vs) zero i h l = absurd (omega arith)
 items-front (v ∷ vs) (suc a) zero h l = (omega arith, refl)

@@ -1,5 +1,6 @@
 -- Cells that were moved to the frame of a call, or back, read as stores of the meaning.
-use Rattle.std.proofs.Common.{◌≡◌, ℕ, zero, suc, ◌+◌, ◌-◌, ◌<◌, Bool, true, false, ◌||◌, nat_eq, List, [], ◌∷◌, length, map, get_or, refl, ap, ◌∙◌, sym, subst, arith, cond}
+use Rattle.std.proofs.Common.{◌≡◌, ℕ, zero, suc, ◌+◌, ◌-◌, ◌<◌, Bool, true, false, ◌||◌, nat_eq, List, [], ◌∷◌, length, map, get_or, refl, ap, ◌∙◌}
+use Rattle.std.proofs.Common.{sym, subst, arith, cond}
 use Rattle.janus_meaning.specs.Fault.{Fine}
 use Rattle.janus_meaning.specs.Store.{Val, Lent, Store, pull, fill, bind, unbind}
 use Rattle.janus_meaning.proofs.Results.{fine_inj}
@@ -29,7 +30,8 @@ lent_or : (hp : Heap) (b : Bool) (c d : Cell) → d ≡ cond b lent_cell c → v
 lent_or hp true c d e = ap (val_of hp) e
 lent_or hp false c d e = ap (val_of hp) e
 
-pub lent-cell : (hp : Heap) (cs ds : List Cell) (p : ℕ) (b : Bool) → cell_at ds p ≡ cond b lent_cell (cell_at cs p) → value_at hp ds p ≡ cond b Lent (value_at hp cs p)
+pub lent-cell : (hp : Heap) (cs ds : List Cell) (p : ℕ) (b : Bool) → cell_at ds p ≡ cond b lent_cell (cell_at cs p) →
+    value_at hp ds p ≡ cond b Lent (value_at hp cs p)
 lent-cell hp cs ds p b e = lent_or hp b (cell_at cs p) (cell_at ds p) e
 
 lent_here : (b : Bool) (v w : Val) → w ≡ cond b Lent v → b ≡ true → w ≡ Lent
@@ -47,7 +49,8 @@ lent-frame hp cs ds base top xs m b d p = record {
   below = b;
   apart = d;
   lent = λ k l h. lent_here (has xs k) (value_at hp cs (base + k)) (value_at hp ds (base + k)) (lent-cell hp cs ds (base + k) (has xs k) (m.frame k l)) h;
-  own = λ k l h. subst IsPresent (sym (own_here (has xs k) (value_at hp cs (base + k)) (value_at hp ds (base + k)) (lent-cell hp cs ds (base + k) (has xs k) (m.frame k l)) h))
+  own = λ k l h. subst IsPresent (sym (own_here (has xs k) (value_at hp cs (base + k)) (value_at hp ds (base + k))
+      (lent-cell hp cs ds (base + k) (has xs k) (m.frame k l)) h))
       (p k l);
 }
 
@@ -78,7 +81,8 @@ pub entered : (hp : Heap) (cs ds : List Cell) (base top : ℕ) (xs : List ℕ) (
 entered hp cs ds base top xs t m b d p h =
     let f = from (value_at hp cs) base in
     let g = from (value_at hp ds) top in
-    let e : t ≡ (map f xs, stored (lending xs f) (top - base)) = fine_inj t (map f xs, stored (lending xs f) (top - base)) (sym h ∙ pull-all f (top - base) xs d b p) in
+    let e : t ≡ (map f xs, stored (lending xs f) (top - base)) = fine_inj t (map f xs, stored (lending xs f) (top - base)) (sym h
+    ∙ pull-all f (top - base) xs d b p) in
     let v : t.0 ≡ map f xs = ap (λ (u : List Val × Store). u.0) e in
     let w = moved-down f g xs (λ i l. same-cell hp cs ds (top + (length xs - (i + 1))) (base + get_or xs i 0) (m.moved i l)) in
     let s = stored-same (lending xs f) (from (value_at hp ds) base) (top - base) (λ k l. sym (lent-cell hp cs ds (base + k) (has xs k) (m.frame k l))) in
@@ -113,7 +117,8 @@ has-some (x ∷ xs) (suc i) h = later (nat_eq x (get_or xs i 0)) (has xs (get_or
     later false b h = h
 
 -- a call is left
-pub left : (hp : Heap) (cs ds : List Cell) (base top : ℕ) (xs : List ℕ) (vs : List Val) → AreGiven cs ds base top xs → AreLent (value_at hp cs) base (top - base) xs
+pub left : (hp : Heap) (cs ds : List Cell) (base top : ℕ) (xs : List ℕ) (vs : List Val) → AreGiven cs ds base top xs →
+    AreLent (value_at hp cs) base (top - base) xs
     → ((k : ℕ) → k < length xs → IsPresent (value_at hp cs (top + k)))
     → unbind (parameters (length xs)) (stored (from (value_at hp cs) top) (length xs)) ≡ Fine vs
     → fill (map slot xs) vs (stored (from (value_at hp cs) base) (top - base)) ≡ Fine (stored (from (value_at hp ds) base) (top - base))
@@ -132,7 +137,8 @@ left hp cs ds base top xs vs m a p h =
     ))
     (λ k l n. same-cell hp cs ds (base + k) (base + k) (m.frame k l n))
 
-found_at : (y : ℕ) (ys : List ℕ) (k : ℕ) (b : Bool) → nat_eq y k ≡ b → (has ys k ≡ true → (i : ℕ) × (i < length ys) × (get_or ys i 0 ≡ k)) → b || has ys k ≡ true
+found_at : (y : ℕ) (ys : List ℕ) (k : ℕ) (b : Bool) → nat_eq y k ≡ b → (has ys k ≡ true → (i : ℕ) × (i < length ys) × (get_or ys i 0 ≡ k)) →
+    b || has ys k ≡ true
     → (i : ℕ) × (i < length (y ∷ ys)) × (get_or (y ∷ ys) i 0 ≡ k)
 found_at y ys k true e ih h = (0, omega arith, equal y k e)
 found_at y ys k false e ih h = let r = ih h in (suc r.0, omega (arith, r.1), r.2)

@@ -1,5 +1,6 @@
 -- Which cells have which values, and what a change to an array or a stack leaves.
-use Rattle.std.proofs.Common.{◌≡◌, ◌≢◌, ℕ, zero, suc, ◌+◌, ◌<◌, ℤ, pos, List, [], ◌∷◌, ◌++◌, length, set, take, get_or, refl, ap, ◌∙◌, sym, subst, arith, get_or-set_other, get_or-set_same}
+use Rattle.std.proofs.Common.{◌≡◌, ◌≢◌, ℕ, zero, suc, ◌+◌, ◌<◌, ℤ, pos, List, [], ◌∷◌, ◌++◌, length, set, take, get_or, refl, ap, ◌∙◌, sym, subst}
+use Rattle.std.proofs.Common.{arith, get_or-set_other, get_or-set_same}
 use Rattle.cell_pool.specs.Chains.{times}
 use Rattle.janus_meaning.specs.Limit.{live_stack_limit}
 use Rattle.janus_meaning.specs.Store.{Val, Num, Arr, Stk, Lent}
@@ -111,7 +112,8 @@ within-list (l ∷ ls) zero x r e = omega arith
 within-list (l ∷ ls) (suc i) x r e = let h = within-list ls i x r e in omega (arith, h)
 
 -- an array more leaves what cells hold
-pub array-same : (hp : Heap) (ms : List (List ℤ)) (m : List ℤ) (spare : List ℕ) (c d : Cell) → ms ≡ hp.arrays ++ m ∷ [] → IsFit (length hp.arrays) spare c c.kind → d ≡ c
+pub array-same : (hp : Heap) (ms : List (List ℤ)) (m : List ℤ) (spare : List ℕ) (c d : Cell) → ms ≡ hp.arrays ++ m ∷ [] →
+    IsFit (length hp.arrays) spare c c.kind → d ≡ c
     → val_of (record { arrays = ms; stacks = hp.stacks }) d ≡ val_of hp c
 array-same hp ms m spare c d e f g =
     ap (val_of (record { arrays = ms; stacks = hp.stacks })) g

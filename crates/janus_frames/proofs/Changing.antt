@@ -1,5 +1,6 @@
 -- A name in sight of frames has another number, another element, or one value more or fewer on its stack.
-use Rattle.std.proofs.Common.{◌≡◌, ◌≢◌, ℕ, ℤ, suc, ◌+◌, ◌-◌, ◌<◌, ◌≤◌, pos, List, [], ◌∷◌, length, set, get_or, refl, ap, ◌∙◌, sym, subst, arith, get_or-set_same, get_or-set_other, length-set, Bool, true, false, nat_eq, zero, negsuc}
+use Rattle.std.proofs.Common.{◌≡◌, ◌≢◌, ℕ, ℤ, suc, ◌+◌, ◌-◌, ◌<◌, ◌≤◌, pos, List, [], ◌∷◌, length, set, get_or, refl, ap, ◌∙◌, sym, subst, arith}
+use Rattle.std.proofs.Common.{get_or-set_same, get_or-set_other, length-set, Bool, true, false, nat_eq, zero, negsuc}
 use Rattle.std.specs.Prelude.{reverse, vec_capacity}
 use Rattle.cell_pool.specs.Chains.{times}
 use Rattle.janus_meaning.specs.Fault.{Fine}
@@ -59,17 +60,22 @@ module _ (a : Inside) (i : IsKept a) (k : ℕ) (m n : ℤ) (e : look (slot k) (f
   pub replaced-counted : AreCounted a.stacks.spare a.stacks.lists
       (state_at (value_at (heap_of a) (set a.cells.items (a.base + k) c)) a.base a.top (reverse a.calls.items) (vec_capacity a.cells))
   replaced-counted =
-      changed-counted n_v n_w a.base a.top k (reverse a.calls.items) i.frames (name-low a i k (Num m) e) n_other n_there a.stacks.spare a.stacks.lists a.stacks.lists
-      (vec_capacity a.cells) i.counted (ap one_stack n_here ∙ sym (ap one_stack n_was)) (let x = ap held_by n_here in let y = ap held_by n_was in omega (arith, x, y))
+      changed-counted n_v n_w a.base a.top k (reverse a.calls.items) i.frames (name-low a i k (Num m) e) n_other n_there a.stacks.spare a.stacks.lists
+      a.stacks.lists
+      (vec_capacity a.cells) i.counted (ap one_stack n_here
+      ∙ sym (ap one_stack n_was)) (let x = ap held_by n_here in let y = ap held_by n_was in omega (arith, x, y))
 
-  pub replaced-written : write (slot k) (Num n) (frames_of a).slots ≡ Fine (stored (from (value_at (heap_of a) (set a.cells.items (a.base + k) c)) a.base) (a.top - a.base))
+  pub replaced-written : write (slot k) (Num n) (frames_of a).slots
+      ≡ Fine (stored (from (value_at (heap_of a) (set a.cells.items (a.base + k) c)) a.base) (a.top - a.base))
   replaced-written =
       ap (λ u. write (slot k) u (frames_of a).slots) (sym n_here)
       ∙ changed-written n_v n_w a.base a.top k (reverse a.calls.items) i.frames (name-low a i k (Num m) e) n_other n_there
 
-  pub replaced-shape : HasShape (frames_of a) (state_at (value_at (heap_of a) (set a.cells.items (a.base + k) c)) a.base a.top (reverse a.calls.items) (vec_capacity a.cells))
+  pub replaced-shape : HasShape (frames_of a)
+      (state_at (value_at (heap_of a) (set a.cells.items (a.base + k) c)) a.base a.top (reverse a.calls.items) (vec_capacity a.cells))
   replaced-shape = record {
-    slots = changed-shape n_v n_w a.base a.top k (reverse a.calls.items) i.frames (name-low a i k (Num m) e) n_other n_there (ap cleared_val n_here ∙ sym (ap cleared_val n_was));
+    slots = changed-shape n_v n_w a.base a.top k (reverse a.calls.items) i.frames (name-low a i k (Num m) e) n_other n_there (ap cleared_val n_here
+        ∙ sym (ap cleared_val n_was));
     callers = changed-callers n_v n_w a.base a.top k (reverse a.calls.items) i.frames (name-low a i k (Num m) e) n_other n_there;
     room = refl;
   }
@@ -89,7 +95,8 @@ pub same-zeros : (l : List ℤ) (j n : ℤ) → zeros (length (set_element l j n
 same-zeros l (pos j) n = zeros_set l j n
 same-zeros l (negsuc j) n = refl
 
-module _ (a : Inside) (i : IsKept a) (k : ℕ) (l m : List ℤ) (e : look (slot k) (frames_of a).slots ≡ Fine (Arr l)) (long : zeros (length m) ≡ zeros (length l)) where
+module _ (a : Inside) (i : IsKept a) (k : ℕ) (l m : List ℤ) (e : look (slot k) (frames_of a).slots ≡ Fine (Arr l)) (long : zeros (length m)
+    ≡ zeros (length l)) where
   abbrev a_at : ℕ
   a_at = index_of (cell_at a.cells.items (a.base + k))
 
@@ -107,7 +114,8 @@ module _ (a : Inside) (i : IsKept a) (k : ℕ) (l m : List ℤ) (e : look (slot 
 
   a_here : a_w (a.base + k) ≡ Arr m
   a_here =
-      array-value (record { arrays = a_lists; stacks = a.stacks.lists }) (cell_at a.cells.items (a.base + k)) (cell_at a.cells.items (a.base + k)).kind (array-there a i k l e).0
+      array-value (record { arrays = a_lists; stacks = a.stacks.lists }) (cell_at a.cells.items (a.base + k)) (cell_at a.cells.items (a.base + k)).kind
+      (array-there a i k l e).0
       ∙ ap Arr (get_or-set_same a.arrays a_at m [] (array-there a i k l e).3)
 
   a_there : IsPresent (a_w (a.base + k))
@@ -116,7 +124,8 @@ module _ (a : Inside) (i : IsKept a) (k : ℕ) (l m : List ℤ) (e : look (slot 
   a_was : a_v (a.base + k) ≡ Arr l
   a_was = name-value a i k (Arr l) e
 
-  pub array-frames : AreFrames (value_at (record { arrays = set a.arrays (index_of (cell_at a.cells.items (a.base + k))) m; stacks = a.stacks.lists }) a.cells.items)
+  pub array-frames : AreFrames (value_at (record { arrays = set a.arrays (index_of (cell_at a.cells.items (a.base + k))) m; stacks = a.stacks.lists })
+      a.cells.items)
       a.base a.top (reverse a.calls.items)
   array-frames = changed a_v a_w a.base a.top k (reverse a.calls.items) i.frames (name-low a i k (Arr l) e) a_other a_there
 
@@ -124,11 +133,14 @@ module _ (a : Inside) (i : IsKept a) (k : ℕ) (l m : List ℤ) (e : look (slot 
       (state_at (value_at (record { arrays = set a.arrays (index_of (cell_at a.cells.items (a.base + k))) m; stacks = a.stacks.lists }) a.cells.items)
       a.base a.top (reverse a.calls.items) (vec_capacity a.cells))
   array-counted =
-      changed-counted a_v a_w a.base a.top k (reverse a.calls.items) i.frames (name-low a i k (Arr l) e) a_other a_there a.stacks.spare a.stacks.lists a.stacks.lists
-      (vec_capacity a.cells) i.counted (ap one_stack a_here ∙ sym (ap one_stack a_was)) (let x = ap held_by a_here in let y = ap held_by a_was in omega (arith, x, y))
+      changed-counted a_v a_w a.base a.top k (reverse a.calls.items) i.frames (name-low a i k (Arr l) e) a_other a_there a.stacks.spare a.stacks.lists
+      a.stacks.lists
+      (vec_capacity a.cells) i.counted (ap one_stack a_here
+      ∙ sym (ap one_stack a_was)) (let x = ap held_by a_here in let y = ap held_by a_was in omega (arith, x, y))
 
   pub array-written : write (slot k) (Arr m) (frames_of a).slots
-      ≡ Fine (stored (from (value_at (record { arrays = set a.arrays (index_of (cell_at a.cells.items (a.base + k))) m; stacks = a.stacks.lists }) a.cells.items) a.base)
+      ≡ Fine (stored (from (value_at (record { arrays = set a.arrays (index_of (cell_at a.cells.items (a.base + k))) m; stacks = a.stacks.lists })
+      a.cells.items) a.base)
       (a.top - a.base))
   array-written =
       ap (λ u. write (slot k) u (frames_of a).slots) (sym a_here)
@@ -147,8 +159,14 @@ module _ (a : Inside) (i : IsKept a) (k : ℕ) (l m : List ℤ) (e : look (slot 
   pub array-owned : AreOwned (length (set a.arrays (index_of (cell_at a.cells.items (a.base + k))) m)) a.stacks.spare a.cells.items a.top
   array-owned = subst (λ n. AreOwned n a.stacks.spare a.cells.items a.top) (sym (length-set a.arrays a_at m)) i.owned
 
-  pub array-kept : IsKept (record { cells = a.cells; base = a.base; top = a.top; calls = a.calls;
-      arrays = set a.arrays (index_of (cell_at a.cells.items (a.base + k))) m; stacks = a.stacks })
+  pub array-kept : IsKept (record {
+    cells = a.cells;
+    base = a.base;
+    top = a.top;
+    calls = a.calls;
+    arrays = set a.arrays (index_of (cell_at a.cells.items (a.base + k))) m;
+    stacks = a.stacks;
+  })
   array-kept = record { frames = array-frames; owned = array-owned; counted = array-counted; long = i.long; call_room = i.call_room }
 
 module _ (a : Inside) (i : IsKept a) (k : ℕ) (l m : List ℤ) (e : look (slot k) (frames_of a).slots ≡ Fine (Stk l)) where
@@ -167,7 +185,8 @@ module _ (a : Inside) (i : IsKept a) (k : ℕ) (l m : List ℤ) (e : look (slot 
   module _ (long : s_at < length a.stacks.lists) where
     s_here : s_w (a.base + k) ≡ Stk m
     s_here =
-        stack-value (record { arrays = a.arrays; stacks = set a.stacks.lists s_at m }) (cell_at a.cells.items (a.base + k)) (cell_at a.cells.items (a.base + k)).kind
+        stack-value (record { arrays = a.arrays; stacks = set a.stacks.lists s_at m }) (cell_at a.cells.items (a.base + k))
+        (cell_at a.cells.items (a.base + k)).kind
         (stack-there a i k l e).0
         ∙ ap Stk (get_or-set_same a.stacks.lists s_at m [] long)
 
@@ -177,7 +196,8 @@ module _ (a : Inside) (i : IsKept a) (k : ℕ) (l m : List ℤ) (e : look (slot 
     s_was : s_v (a.base + k) ≡ Stk l
     s_was = name-value a i k (Stk l) e
 
-    pub stack-frames : AreFrames (value_at (record { arrays = a.arrays; stacks = set a.stacks.lists (index_of (cell_at a.cells.items (a.base + k))) m }) a.cells.items)
+    pub stack-frames : AreFrames (value_at (record { arrays = a.arrays; stacks = set a.stacks.lists (index_of (cell_at a.cells.items (a.base + k))) m })
+        a.cells.items)
         a.base a.top (reverse a.calls.items)
     stack-frames = changed s_v s_w a.base a.top k (reverse a.calls.items) i.frames (name-low a i k (Stk l) e) s_other s_there
 
@@ -186,11 +206,14 @@ module _ (a : Inside) (i : IsKept a) (k : ℕ) (l m : List ℤ) (e : look (slot 
         (state_at (value_at (record { arrays = a.arrays; stacks = set a.stacks.lists (index_of (cell_at a.cells.items (a.base + k))) m }) a.cells.items)
         a.base a.top (reverse a.calls.items) (vec_capacity a.cells))
     stack-counted s =
-        changed-counted s_v s_w a.base a.top k (reverse a.calls.items) i.frames (name-low a i k (Stk l) e) s_other s_there a.stacks.spare a.stacks.lists (set a.stacks.lists s_at m)
-        (vec_capacity a.cells) i.counted (ap one_stack s_here ∙ sym (ap one_stack s_was)) (let x = ap held_by s_here in let y = ap held_by s_was in omega (arith, x, y, s))
+        changed-counted s_v s_w a.base a.top k (reverse a.calls.items) i.frames (name-low a i k (Stk l) e) s_other s_there a.stacks.spare a.stacks.lists
+        (set a.stacks.lists s_at m)
+        (vec_capacity a.cells) i.counted (ap one_stack s_here
+        ∙ sym (ap one_stack s_was)) (let x = ap held_by s_here in let y = ap held_by s_was in omega (arith, x, y, s))
 
     pub stack-written : write (slot k) (Stk m) (frames_of a).slots
-        ≡ Fine (stored (from (value_at (record { arrays = a.arrays; stacks = set a.stacks.lists (index_of (cell_at a.cells.items (a.base + k))) m }) a.cells.items) a.base)
+        ≡ Fine (stored (from (value_at (record { arrays = a.arrays; stacks = set a.stacks.lists (index_of (cell_at a.cells.items (a.base + k))) m })
+        a.cells.items) a.base)
         (a.top - a.base))
     stack-written =
         ap (λ u. write (slot k) u (frames_of a).slots) (sym s_here)
@@ -200,12 +223,19 @@ module _ (a : Inside) (i : IsKept a) (k : ℕ) (l m : List ℤ) (e : look (slot 
         (state_at (value_at (record { arrays = a.arrays; stacks = set a.stacks.lists (index_of (cell_at a.cells.items (a.base + k))) m }) a.cells.items)
         a.base a.top (reverse a.calls.items) (vec_capacity a.cells))
     stack-shape = record {
-      slots = changed-shape s_v s_w a.base a.top k (reverse a.calls.items) i.frames (name-low a i k (Stk l) e) s_other s_there (ap cleared_val s_here ∙ sym (ap cleared_val s_was));
+      slots = changed-shape s_v s_w a.base a.top k (reverse a.calls.items) i.frames (name-low a i k (Stk l) e) s_other s_there (ap cleared_val s_here
+          ∙ sym (ap cleared_val s_was));
       callers = changed-callers s_v s_w a.base a.top k (reverse a.calls.items) i.frames (name-low a i k (Stk l) e) s_other s_there;
       room = refl;
     }
 
     pub stack-kept : total (set a.stacks.lists (index_of (cell_at a.cells.items (a.base + k))) m) + length l ≡ total a.stacks.lists + length m
-        → IsKept (record { cells = a.cells; base = a.base; top = a.top; calls = a.calls; arrays = a.arrays;
-        stacks = record { lists = set a.stacks.lists (index_of (cell_at a.cells.items (a.base + k))) m; spare = a.stacks.spare } })
+        → IsKept (record {
+          cells = a.cells;
+          base = a.base;
+          top = a.top;
+          calls = a.calls;
+          arrays = a.arrays;
+          stacks = record { lists = set a.stacks.lists (index_of (cell_at a.cells.items (a.base + k))) m; spare = a.stacks.spare };
+        })
     stack-kept s = record { frames = stack-frames; owned = i.owned; counted = stack-counted s; long = i.long; call_room = i.call_room }

@@ -87,7 +87,8 @@ counted-entered spare ls old new xs can e h =
     counted-same spare ls old new (omega (arith, a, s, t)) (omega (arith, b, x, y)) h
 
 pub counted-left : (spare : List ℕ) (ls : List (List ℤ)) (old new : FramesState) (c : Caller) (cs : List Caller) (vs : List Val) → old.callers ≡ c ∷ cs
-    → unbind (parameters (length c.args)) old.slots ≡ Fine vs → Returns (c ∷ cs) old.slots new.slots new.callers → AreCounted spare ls old → AreCounted spare ls new
+    → unbind (parameters (length c.args)) old.slots ≡ Fine vs → Returns (c ∷ cs) old.slots new.slots new.callers → AreCounted spare ls old →
+    AreCounted spare ls new
 counted-left spare ls old new c cs vs e u r h =
     let a = left-total one_stack refl c cs new.callers old.slots new.slots vs u r in
     let b = left-total held_by refl c cs new.callers old.slots new.slots vs u r in

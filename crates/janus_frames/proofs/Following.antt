@@ -1,5 +1,6 @@
 -- A name of the outermost frame is followed inwards.
-use Rattle.std.proofs.Common.{◌≡◌, ◌≢◌, ℕ, zero, suc, ◌+◌, ◌-◌, ◌<◌, ◌≤◌, Bool, true, false, ◌||◌, nat_eq, List, [], ◌∷◌, ◌++◌, length, map, get_or, refl, ap, ◌∙◌, sym, subst, arith, cond}
+use Rattle.std.proofs.Common.{◌≡◌, ◌≢◌, ℕ, zero, suc, ◌+◌, ◌-◌, ◌<◌, ◌≤◌, Bool, true, false, ◌||◌, nat_eq, List, [], ◌∷◌, ◌++◌, length, map, drop}
+use Rattle.std.proofs.Common.{get_or, refl, ap, ◌∙◌, sym, subst, arith, cond}
 use Rattle.std.specs.Prelude.{reverse}
 use Rattle.std.proofs.lemmas.List.{reverse-append, reverse-reverse}
 use Rattle.std.proofs.lemmas.Bool.{ne_eqb}
@@ -92,7 +93,8 @@ missed-all (x ∷ xs) (suc i) k h m = let z : nat_eq x k ≡ false = m.0 in ap (
 -- the first one that is met
 pub met-first : (xs : List ℕ) (i k : ℕ) → AreMissed xs i k → i < length xs → get_or xs i 0 ≡ k → (has xs k ≡ true) × (place_in xs k ≡ i)
 met-first [] i k m h e = absurd (omega arith)
-met-first (x ∷ xs) zero k m h e = let z : nat_eq x k ≡ true = subst (λ k. nat_eq x k ≡ true) e (same_number x) in (ap (λ b. b || has xs k) z, place_first x xs k true z refl)
+met-first (x ∷ xs) zero k m h e = let z : nat_eq x k
+    ≡ true = subst (λ k. nat_eq x k ≡ true) e (same_number x) in (ap (λ b. b || has xs k) z, place_first x xs k true z refl)
 met-first (x ∷ xs) (suc i) k m h e =
     let r = met-first xs i k m.1 (omega arith) e in
     let z : nat_eq x k ≡ false = m.0 in (ap (λ b. b || has xs k) z ∙ r.0, place_later x xs k z ∙ ap suc r.1)
@@ -117,12 +119,14 @@ module _ (v f : ℕ → Val) (b n : ℕ) (c : OpenCall) (many : length (slots_of
   given-present k h = by (has lent_slots k) refl
     where
       by : (e : Bool) → has lent_slots k ≡ e → IsPresent (given f (slots_of c.args) (from v c.base) k)
-      by true e = subst IsPresent (sym (given_lent f lent_slots (from v c.base) k e)) (p (length lent_slots - (place_in lent_slots k + 1)) (let l = place-low lent_slots k e in omega (arith, l, many)))
+      by true e = subst IsPresent (sym (given_lent f lent_slots (from v c.base) k e))
+          (p (length lent_slots - (place_in lent_slots k + 1)) (let l = place-low lent_slots k e in omega (arith, l, many)))
       by false e = subst IsPresent (sym (given_own f lent_slots (from v c.base) k e)) (a.own k h e)
 
   given_at : (i : ℕ) → i < length lent_slots → after (get_or lent_slots i 0) ≡ f (length lent_slots - (i + 1))
   given_at i h =
-      given_lent f lent_slots (from v c.base) (get_or lent_slots i 0) (has-some lent_slots i h) ∙ ap (λ j. f (length lent_slots - (j + 1))) (place-at lent_slots i a.apart h)
+      given_lent f lent_slots (from v c.base) (get_or lent_slots i 0) (has-some lent_slots i h)
+      ∙ ap (λ j. f (length lent_slots - (j + 1))) (place-at lent_slots i a.apart h)
 
   pub returned-is : returned (record { args = names_of c.args; store = stored (from v c.base) (b - c.base) }) (stored f n)
       ≡ stored (given f (slots_of c.args) (from v c.base)) (b - c.base)
@@ -175,13 +179,15 @@ reverse-first c cs = reverse-append (c ∷ []) cs
 pub followed : (v f : ℕ → Val) (c : OpenCall) (cs : List OpenCall) (k : ℕ) → has (slots_of c.args) k ≡ true
     → through v f (reverse (c ∷ cs)) k ≡ through v f (reverse cs) (length (slots_of c.args) - (place_in (slots_of c.args) k + 1))
 followed v f c cs k h =
-    ap (λ l. through v f l k) (reverse-first c cs) ∙ through-last v f (reverse cs) c k ∙ given_lent (through v f (reverse cs)) (slots_of c.args) (from v c.base) k h
+    ap (λ l. through v f l k) (reverse-first c cs) ∙ through-last v f (reverse cs) c k
+    ∙ given_lent (through v f (reverse cs)) (slots_of c.args) (from v c.base) k h
 
 -- or it has not
 pub stopped : (v f : ℕ → Val) (c : OpenCall) (cs : List OpenCall) (k : ℕ) → has (slots_of c.args) k ≡ false
     → through v f (reverse (c ∷ cs)) k ≡ v (c.base + k)
 stopped v f c cs k h =
-    ap (λ l. through v f l k) (reverse-first c cs) ∙ through-last v f (reverse cs) c k ∙ given_own (through v f (reverse cs)) (slots_of c.args) (from v c.base) k h
+    ap (λ l. through v f l k) (reverse-first c cs) ∙ through-last v f (reverse cs) c k
+    ∙ given_own (through v f (reverse cs)) (slots_of c.args) (from v c.base) k h
 
 -- ---- where the frames begin
 
@@ -204,3 +210,19 @@ pub low-at : (m : ℕ) (os : List OpenCall) (i : ℕ) (d : OpenCall) → AreLow 
 low-at m [] i d a h = absurd (omega arith)
 low-at m (c ∷ os) zero d a h = a.0
 low-at m (c ∷ os) (suc i) d a h = low-at m os i d a.1 (omega arith)
+
+-- ---- the calls that are left
+
+pub drop-next : (os : List OpenCall) (i j : ℕ) (c : OpenCall) → j ≡ suc i → i < length os → c ≡ get_or os i c → drop i os ≡ c ∷ drop j os
+drop-next [] i j c e h f = absurd (omega arith)
+drop-next (o ∷ os) zero zero c e h f = absurd (omega arith)
+drop-next (o ∷ os) zero (suc j) c e h f =
+    let z : j ≡ 0 = omega arith in ap (λ o. o ∷ os) (sym f) ∙ ap (λ j. c ∷ drop j os) (sym z)
+drop-next (o ∷ os) (suc i) zero c e h f = absurd (omega arith)
+drop-next (o ∷ os) (suc i) (suc j) c e h f = drop-next os i j c (omega arith) (omega arith) f
+
+pub drop-all : (os : List OpenCall) (i : ℕ) → length os ≤ i → drop i os ≡ []
+drop-all [] zero h = refl
+drop-all [] (suc i) h = refl
+drop-all (o ∷ os) zero h = absurd (omega arith)
+drop-all (o ∷ os) (suc i) h = drop-all os i (omega arith)

@@ -1,5 +1,6 @@
 -- Frames of cells: what stays as values change, and as a name comes or goes.
-use Rattle.std.proofs.Common.{◌≡◌, ◌≢◌, ℕ, zero, suc, ◌+◌, ◌-◌, ◌<◌, ◌≤◌, Bool, true, false, nat_eq, List, [], ◌∷◌, length, map, refl, ap, ◌∙◌, sym, subst, arith}
+use Rattle.std.proofs.Common.{◌≡◌, ◌≢◌, ℕ, zero, suc, ◌+◌, ◌-◌, ◌<◌, ◌≤◌, Bool, true, false, nat_eq, List, [], ◌∷◌, length, map, refl, ap, ◌∙◌, sym}
+use Rattle.std.proofs.Common.{subst, arith}
 use Rattle.janus_meaning.specs.Fault.{Fine}
 use Rattle.janus_meaning.specs.World.{size_of}
 use Rattle.janus_meaning.specs.Store.{Val, Store, Bare, Slot, look, cleared, cleared_val}
@@ -87,12 +88,14 @@ module _ (v w : ℕ → Val) (base top k : ℕ) (cs : List OpenCall) (f : AreFra
   }
 
   pub changed-written : write (slot k) (w (base + k)) (stored (from v base) (top - base)) ≡ Fine (stored (from w base) (top - base))
-  changed-written = write-at (from v base) (from w base) (top - base) k (w (base + k)) l (f.present k l) p refl (λ j h z. other (base + j) (omega arith) (omega arith))
+  changed-written = write-at (from v base) (from w base) (top - base) k (w (base + k)) l (f.present k l) p refl
+      (λ j h z. other (base + j) (omega arith) (omega arith))
 
   pub changed-callers : callers_of w base cs ≡ callers_of v base cs
   changed-callers = sym (callers-same v w base (top - base) cs f.nested (λ q h. let o = f.order in sym (other q (omega arith) (omega arith))))
 
-  pub changed-shape : cleared_val (w (base + k)) ≡ cleared_val (v (base + k)) → cleared (stored (from w base) (top - base)) ≡ cleared (stored (from v base) (top - base))
+  pub changed-shape : cleared_val (w (base + k)) ≡ cleared_val (v (base + k)) →
+      cleared (stored (from w base) (top - base)) ≡ cleared (stored (from v base) (top - base))
   changed-shape e = clear (top - base) (λ j h. same_case j (nat_eq j k) refl h)
     where
       same_case : (j : ℕ) (b : Bool) → nat_eq j k ≡ b → j < top - base → cleared_val (w (base + j)) ≡ cleared_val (v (base + j))
@@ -102,12 +105,14 @@ module _ (v w : ℕ → Val) (base top k : ℕ) (cs : List OpenCall) (f : AreFra
       clear : (n : ℕ) → ((j : ℕ) → j < n → cleared_val (w (base + j)) ≡ cleared_val (v (base + j)))
           → cleared (stored (from w base) n) ≡ cleared (stored (from v base) n)
       clear zero h = refl
-      clear (suc n) h = let e = h n (omega arith) in let r = clear n (λ j l. h j (omega arith)) in ap (λ (u : Val). Slot (slot n) u (cleared (stored (from w base) n))) e
+      clear (suc n) h = let e = h n (omega arith) in let r = clear n (λ j l. h j (omega arith)) in ap
+          (λ (u : Val). Slot (slot n) u (cleared (stored (from w base) n))) e
           ∙ ap (λ (s : Store). Slot (slot n) (cleared_val (v (base + n))) s) r
 
 -- ---- a name more, and one fewer
 
-module _ (v w : ℕ → Val) (base top : ℕ) (cs : List OpenCall) (f : AreFrames v base top cs) (before : (q : ℕ) → q < top → w q ≡ v q) (p : IsPresent (w top)) where
+module _ (v w : ℕ → Val) (base top : ℕ) (cs : List OpenCall) (f : AreFrames v base top cs) (before : (q : ℕ) → q < top →
+    w q ≡ v q) (p : IsPresent (w top)) where
   put_case : (j : ℕ) (b : Bool) → nat_eq (base + j) top ≡ b → j < top + 1 - base → IsPresent (w (base + j))
   put_case j true e h = subst (λ q. IsPresent (w q)) (sym (equal (base + j) top e)) p
   put_case j false e h =
@@ -125,7 +130,8 @@ module _ (v w : ℕ → Val) (base top : ℕ) (cs : List OpenCall) (f : AreFrame
   pub opened-callers : callers_of w base cs ≡ callers_of v base cs
   opened-callers = sym (callers-same v w base (top - base) cs f.nested (λ q h. let o = f.order in sym (before q (omega arith))))
 
-  pub opened-slots : stored (from w base) (top + 1 - base) ≡ Slot (slot (size_of (stored (from v base) (top - base)))) (w top) (stored (from v base) (top - base))
+  pub opened-slots : stored (from w base) (top + 1 - base)
+      ≡ Slot (slot (size_of (stored (from v base) (top - base)))) (w top) (stored (from v base) (top - base))
   opened-slots =
       let o = f.order in
       let z : top + 1 - base ≡ suc (top - base) = omega arith in

@@ -41,7 +41,8 @@ module _ (a : Inside) (i : IsKept a) where
   abbrev inner_calls : List OpenCall
   inner_calls = reverse a.calls.items
 
-  back_is : given_back (frames_of a).slots (frames_of a).callers ≡ stored (through here (from here a.base) inner_calls) (outer_count (a.top - a.base) a.base inner_calls)
+  back_is : given_back (frames_of a).slots (frames_of a).callers
+      ≡ stored (through here (from here a.base) inner_calls) (outer_count (a.top - a.base) a.base inner_calls)
   back_is = given-back-is here (from here a.base) a.base (a.top - a.base) inner_calls i.frames.nested i.frames.present
 
   pub outer-at : (k : ℕ) → k < size_of (given_back (frames_of a).slots (frames_of a).callers) → k < outer_count (a.top - a.base) a.base (reverse a.calls.items)

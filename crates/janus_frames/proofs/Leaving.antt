@@ -38,7 +38,8 @@ module _ (hp : Heap) (cs ds : List Cell) (base top : ℕ) (call : OpenCall) (res
       }
 
   l_filled : (vs : List Val) → unbind (parameters (length (names_of call.args))) (stored (from (value_at hp cs) base) (top - base)) ≡ Fine vs
-      → fill (names_of call.args) vs (stored (from (value_at hp cs) call.base) (base - call.base)) ≡ Fine (stored (from (value_at hp ds) call.base) (base - call.base))
+      → fill (names_of call.args) vs (stored (from (value_at hp cs) call.base) (base - call.base))
+      ≡ Fine (stored (from (value_at hp ds) call.base) (base - call.base))
   l_filled vs h =
       let n = f.nested in
       let many = as-many (slots_of call.args) in
@@ -81,7 +82,8 @@ moved-front cs bs ds base top xs m o b h = record {
   moved = λ i l. let low = below-at (top - base) xs i b l in m.moved i l ∙ h (base + get_or xs i 0) (omega arith);
 }
 
-module _ (hp : Heap) (cs ds : List Cell) (base top : ℕ) (call : OpenCall) (calls : List OpenCall) (f : AreFrames (value_at hp cs) base top calls) (at : call.base ≡ base)
+module _ (hp : Heap) (cs ds : List Cell) (base top : ℕ) (call : OpenCall) (calls : List OpenCall) (f : AreFrames (value_at hp cs) base top calls)
+    (at : call.base ≡ base)
     (t : List Val × Store) (can : pull (names_of call.args) (stored (from (value_at hp cs) base) (top - base)) ≡ Fine t)
     (m : AreMoved cs ds base top (slots_of call.args)) where
   e_can : AreBelow (top - base) (slots_of call.args) × AreApart (slots_of call.args) × ArePresent (from (value_at hp cs) base) (slots_of call.args)

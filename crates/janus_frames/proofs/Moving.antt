@@ -1,5 +1,6 @@
 -- One cell more that is moved between frames.
-use Rattle.std.proofs.Common.{◌≡◌, ◌≢◌, ℕ, suc, ◌+◌, ◌<◌, Bool, true, false, ◌||◌, nat_eq, List, length, take, get_or, set, refl, ap, ◌∙◌, sym, subst, arith, cond, get_or-set_other, get_or-set_same}
+use Rattle.std.proofs.Common.{◌≡◌, ◌≢◌, ℕ, suc, ◌+◌, ◌<◌, Bool, true, false, ◌||◌, nat_eq, List, length, take, get_or, set, refl, ap, ◌∙◌, sym}
+use Rattle.std.proofs.Common.{subst, arith, cond, get_or-set_other, get_or-set_same}
 use Rattle.janus_frames.specs.Cells.{has, AreApart, cell_at, lent_cell, no_cell}
 use Rattle.janus_frames.specs.declared.cell.Cell.{Cell}
 use Rattle.janus_frames.proofs.Among.{not-equal, equal, has-more, none-before}

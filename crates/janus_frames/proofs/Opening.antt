@@ -1,5 +1,6 @@
 -- A name more in sight of frames, and one fewer.
-use Rattle.std.proofs.Common.{◌≡◌, ◌≢◌, ℕ, ℤ, suc, zero, ◌+◌, ◌-◌, ◌<◌, ◌≤◌, pos, List, [], ◌∷◌, ◌++◌, length, get_or, refl, ap, ◌∙◌, sym, subst, arith, length-append}
+use Rattle.std.proofs.Common.{◌≡◌, ◌≢◌, ℕ, ℤ, suc, zero, ◌+◌, ◌-◌, ◌<◌, ◌≤◌, pos, List, [], ◌∷◌, ◌++◌, length, get_or, refl, ap, ◌∙◌, sym, subst}
+use Rattle.std.proofs.Common.{arith, length-append}
 use Rattle.std.specs.Prelude.{reverse, vec_capacity}
 use Rattle.janus_meaning.specs.Limit.{live_stack_limit}
 use Rattle.janus_meaning.specs.Syntax.{Name}
@@ -84,7 +85,8 @@ module _ (a : Inside) (i : IsKept a) (own : own_names 0 (frames_of a).callers < 
       let n = in-sight a i in
       let z : a.top - a.base - 1 ≡ a.top - 1 - a.base = omega arith in
       subst (λ n. IsEnough n (reverse a.calls.items)) z
-      (enough_own (value_at (heap_of a) a.cells.items) a.base (a.top - a.base) (reverse a.calls.items) (subst (λ n. own_names 0 (frames_of a).callers < n) n own))
+      (enough_own (value_at (heap_of a) a.cells.items) a.base (a.top - a.base) (reverse a.calls.items)
+      (subst (λ n. own_names 0 (frames_of a).callers < n) n own))
 
   module _ (hq : Heap) (same : (q : ℕ) → q < a.top - 1 → value_at hq a.cells.items q ≡ value_at (heap_of a) a.cells.items q) where
     pub fewer-frames : AreFrames (value_at hq a.cells.items) a.base (a.top - 1) (reverse a.calls.items)
@@ -96,14 +98,16 @@ module _ (a : Inside) (i : IsKept a) (own : own_names 0 (frames_of a).callers < 
         closed-callers (value_at (heap_of a) a.cells.items) (value_at hq a.cells.items) a.base a.top (reverse a.calls.items) i.frames last-there c_enough same
 
     pub fewer-slots : (frames_of a).slots
-        ≡ Slot (slot (a.top - 1 - a.base)) (value_at (heap_of a) a.cells.items (a.top - 1)) (stored (from (value_at hq a.cells.items) a.base) (a.top - 1 - a.base))
+        ≡ Slot (slot (a.top - 1 - a.base)) (value_at (heap_of a) a.cells.items (a.top - 1))
+        (stored (from (value_at hq a.cells.items) a.base) (a.top - 1 - a.base))
     fewer-slots =
         closed-slots (value_at (heap_of a) a.cells.items) (value_at hq a.cells.items) a.base a.top (reverse a.calls.items) i.frames last-there c_enough same
 
     pub fewer-state : (s : Store) → stored (from (value_at hq a.cells.items) a.base) (a.top - 1 - a.base) ≡ s
         → state_at (value_at hq a.cells.items) a.base (a.top - 1) (reverse a.calls.items) (vec_capacity a.cells) ≡ with_names s (frames_of a)
     fewer-state s e = same-frames (stored (from (value_at hq a.cells.items) a.base) (a.top - 1 - a.base)) s
-        (callers_of (value_at hq a.cells.items) a.base (reverse a.calls.items)) (frames_of a).callers (vec_capacity a.cells) (vec_capacity a.cells) e c_callers refl
+        (callers_of (value_at hq a.cells.items) a.base (reverse a.calls.items)) (frames_of a).callers (vec_capacity a.cells) (vec_capacity a.cells) e
+        c_callers refl
 
     pub fewer-counted : (more : List ℕ) → length more ≡ length a.stacks.spare + one_stack (value_at (heap_of a) a.cells.items (a.top - 1))
         → held_by (value_at (heap_of a) a.cells.items (a.top - 1)) ≡ 0

@@ -1,5 +1,6 @@
 -- Each array and each stack has one cell, also behind moves.
-use Rattle.std.proofs.Common.{◌≡◌, ℕ, zero, suc, ◌+◌, ◌-◌, ◌<◌, ◌≤◌, Bool, true, false, List, [], ◌∷◌, ◌++◌, length, get_or, refl, ap, ◌∙◌, sym, subst, arith, cond, pos, nat_eq, ◌≢◌, ⊎_elim, ◌⊎◌, inl, inr}
+use Rattle.std.proofs.Common.{◌≡◌, ℕ, zero, suc, ◌+◌, ◌-◌, ◌<◌, ◌≤◌, Bool, true, false, List, [], ◌∷◌, ◌++◌, length, get_or, refl, ap, ◌∙◌, sym}
+use Rattle.std.proofs.Common.{subst, arith, cond, pos, nat_eq, ◌≢◌, ⊎_elim, ◌⊎◌, inl, inr}
 use Rattle.std.proofs.lemmas.Bool.{cases_lt, ne_eqb}
 use Rattle.std.proofs.lemmas.List.{append-nil}
 use Rattle.cell_pool.specs.Chains.{times, one_if}
@@ -117,7 +118,8 @@ data Back (cs ds : List Cell) (base top : ℕ) (xs : List ℕ) (p : ℕ) : Type 
   Stayed : (e : cell_at ds p ≡ cell_at cs p) → Back cs ds base top xs p
   Given : (i : ℕ) (l : i < length xs) (z : p ≡ base + get_or xs i 0) (e : cell_at ds p ≡ cell_at cs (top + (length xs - (i + 1)))) → Back cs ds base top xs p
 
-back_frame : (cs ds : List Cell) (base top : ℕ) (xs : List ℕ) (p k : ℕ) (b : Bool) → has xs k ≡ b → p ≡ base + k → p < top → AreGiven cs ds base top xs → Back cs ds base top xs p
+back_frame : (cs ds : List Cell) (base top : ℕ) (xs : List ℕ) (p k : ℕ) (b : Bool) → has xs k ≡ b → p ≡ base + k → p < top → AreGiven cs ds base top xs →
+    Back cs ds base top xs p
 back_frame cs ds base top xs p k true h z l m =
     let r = place-of xs k h in
     let y : p ≡ base + get_or xs r.0 0 = omega (arith, r.2) in
@@ -141,7 +143,8 @@ two_back n cs ds base top xs p q w l k a g e (Given i m z f) (Given j o y h) =
     let s : i ≡ j = omega arith in
     let t : get_or xs i 0 ≡ get_or xs j 0 = ap (λ i. get_or xs i 0) s in omega arith
 
-pub given-owned : (a : ℕ) (s : List ℕ) (cs ds : List Cell) (base top : ℕ) (xs : List ℕ) → AreGiven cs ds base top xs → AreOwned a s cs (top + length xs) → AreOwned a s ds top
+pub given-owned : (a : ℕ) (s : List ℕ) (cs ds : List Cell) (base top : ℕ) (xs : List ℕ) → AreGiven cs ds base top xs → AreOwned a s cs (top + length xs) →
+    AreOwned a s ds top
 given-owned a s cs ds base top xs m w = record {
   fit = λ p l. fits p l (back cs ds base top xs p m l (side p base));
   arrays_once = λ p q l k a g e. two_back kinds.Array cs ds base top xs p q w.arrays_once l k a g e (back cs ds base top xs p m l (side p base))
@@ -234,8 +237,10 @@ pub put-owned : (a b : ℕ) (s t : List ℕ) (cs ds : List Cell) (n : ℕ) → A
     → ((i : ℕ) → times i t ≤ 1) → ((i : ℕ) → live_stack_limit ≤ i → times i t ≡ 0) → AreOwned b t ds (n + 1)
 put-owned a b s t cs ds n w before more new apart once known = record {
   fit = λ p l. fits p (next n p l);
-  arrays_once = λ p q l k x g e. put_once kinds.Array cs ds n w.arrays_once before (λ p l. apart kinds.Array p l (inl refl)) p q x g e (next n p l) (next n q k);
-  stacks_once = λ p q l k x g e. put_once kinds.Stack cs ds n w.stacks_once before (λ p l. apart kinds.Stack p l (inr refl)) p q x g e (next n p l) (next n q k);
+  arrays_once = λ p q l k x g e. put_once kinds.Array cs ds n w.arrays_once before (λ p l. apart kinds.Array p l (inl refl)) p q x g e (next n p l)
+      (next n q k);
+  stacks_once = λ p q l k x g e. put_once kinds.Stack cs ds n w.stacks_once before (λ p l. apart kinds.Stack p l (inr refl)) p q x g e (next n p l)
+      (next n q k);
   spare_once = once;
   spare_known = known;
 }
@@ -271,7 +276,8 @@ known_low a spare less s cs n w e =
 pub stack-low : (a : ℕ) (spare less : List ℕ) (s : ℕ) (cs : List Cell) (n : ℕ) → AreOwned a spare cs n → spare ≡ less ++ s ∷ [] → s < 64
 stack-low a spare less s cs n w e = let l = known_low a spare less s cs n w e in omega (arith, l)
 
-stack_new_fit : (a : ℕ) (less : List ℕ) (s : ℕ) (c : Cell) → c ≡ record { kind = kinds.Stack; number = pos s } → s < live_stack_limit → times s less ≡ 0 → IsFit a less c c.kind
+stack_new_fit : (a : ℕ) (less : List ℕ) (s : ℕ) (c : Cell) → c ≡ record { kind = kinds.Stack; number = pos s } → s < live_stack_limit → times s less ≡ 0 →
+    IsFit a less c c.kind
 stack_new_fit a less s c e l z = subst (λ (c : Cell). IsFit a less c c.kind) (sym e) (refl, l, z)
 
 pub stack-put : (a : ℕ) (spare less : List ℕ) (s : ℕ) (cs ds : List Cell) (n : ℕ) → AreOwned a spare cs n → spare ≡ less ++ s ∷ []
@@ -333,7 +339,8 @@ one_fewer a b spare cs n w h p l kinds.Stack e f = (f.0, f.1, none (cell_at cs n
     none kinds.Lent g = ap (times (index_of (cell_at cs p))) (append-nil spare) ∙ f.2
     none kinds.Stack g =
         let d : index_of (cell_at cs p) ≢ index_of (cell_at cs n) = λ i. let z = w.stacks_once p n (omega arith) (omega arith) e g i in omega (arith, z, l) in
-        let y : one_if (nat_eq (index_of (cell_at cs p)) (index_of (cell_at cs n))) ≡ 0 = ap one_if (ne_eqb (index_of (cell_at cs p)) (index_of (cell_at cs n)) d) in
+        let y : one_if (nat_eq (index_of (cell_at cs p)) (index_of (cell_at cs n)))
+        ≡ 0 = ap one_if (ne_eqb (index_of (cell_at cs p)) (index_of (cell_at cs n)) d) in
         let x = f.2 in
         let t = times_more (index_of (cell_at cs p)) spare (index_of (cell_at cs n)) in
         omega (arith, x, t, y)

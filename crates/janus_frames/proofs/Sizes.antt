@@ -1,9 +1,11 @@
 -- The invariant of a store as its frames change.
-use Rattle.std.proofs.Common.{◌≡◌, ℕ, zero, suc, ◌+◌, ◌-◌, ◌*◌, ◌<◌, ◌≤◌, List, [], ◌∷◌, ◌++◌, length, map, take, length-append, refl, ap, ◌∙◌, sym, subst, arith, Bool, true, false}
+use Rattle.std.proofs.Common.{◌≡◌, ℕ, zero, suc, ◌+◌, ◌-◌, ◌*◌, ◌<◌, ◌≤◌, List, [], ◌∷◌, ◌++◌, length, map, take, length-append, refl, ap, ◌∙◌, sym}
+use Rattle.std.proofs.Common.{subst, arith, Bool, true, false}
 use Rattle.std.proofs.lemmas.List.{length-take-le}
 use Rattle.janus_meaning.specs.Fault.{Res, Fine, Bad, and_then, or_else}
 use Rattle.janus_meaning.specs.Syntax.{Name}
-use Rattle.janus_meaning.specs.Store.{Val, Num, Arr, Stk, Lent, Store, Bare, Slot, same_name, take, take_at, take_slot, pull, bind, fill, unbind, values_in, cleared}
+use Rattle.janus_meaning.specs.Store.{Val, Num, Arr, Stk, Lent, Store, Bare, Slot, same_name, take, take_at, take_slot, pull, bind, fill, unbind}
+use Rattle.janus_meaning.specs.Store.{values_in, cleared}
 use Rattle.janus_meaning.specs.World.{size_of, oldest}
 use Rattle.janus_meaning.proofs.Cleared.{same_size}
 use Rattle.janus_meaning.proofs.Results.{with_parts, by_fine}
@@ -64,7 +66,8 @@ else_size (Bad f) c h = refl
 
 returned_size : (c : Caller) (s : Store) → size_of (returned c s) ≡ size_of c.store
 returned_size c s =
-    else_size (fill c.args (values_in (oldest (length c.args) s)) c.store) c.store (λ t h. sym (fill_size c.args (values_in (oldest (length c.args) s)) c.store t h))
+    else_size (fill c.args (values_in (oldest (length c.args) s)) c.store) c.store
+    (λ t h. sym (fill_size c.args (values_in (oldest (length c.args) s)) c.store t h))
 
 pub outer-is : (s : Store) (cs : List Caller) → size_of (given_back s cs) ≡ outer_size (size_of s) cs
 outer-is s [] = refl
@@ -159,7 +162,8 @@ module _ (f : FramesState) (d : ℕ) (ts : List Name) (h : AreHeld f d ts) where
   }
 
   -- a name is declared
-  pub held-declared : (x y : Name) (v : Val) (us : List Name) → f.callers ≡ [] → d ≡ size_of f.slots → d + 1 + local_limit + bound_limit ≤ f.room → us ≡ ts ++ x ∷ []
+  pub held-declared : (x y : Name) (v : Val) (us : List Name) → f.callers ≡ [] → d ≡ size_of f.slots → d + 1 + local_limit + bound_limit ≤ f.room →
+      us ≡ ts ++ x ∷ []
       → HaveOneNumber us → AreHeld (with_names (Slot y v f.slots) f) (d + 1) us
   held-declared x y v us c n r u one =
       let o : outer_size (suc (size_of f.slots)) f.callers ≡ suc (size_of f.slots) = ap (outer_size (suc (size_of f.slots))) c in

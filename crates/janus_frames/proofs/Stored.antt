@@ -1,10 +1,12 @@
 -- Stores of slots: a value is taken, put and read where its function has it.
-use Rattle.std.proofs.Common.{◌≡◌, ◌≢◌, ℕ, zero, suc, ◌+◌, ◌-◌, ◌<◌, Bool, true, false, ◌||◌, ◌&&◌, nat_eq, List, [], ◌∷◌, length, map, get_or, refl, ap, ◌∙◌, sym, subst, arith, cond}
+use Rattle.std.proofs.Common.{◌≡◌, ◌≢◌, ℕ, zero, suc, ◌+◌, ◌-◌, ◌<◌, Bool, true, false, ◌||◌, ◌&&◌, nat_eq, List, [], ◌∷◌, length, map, get_or}
+use Rattle.std.proofs.Common.{refl, ap, ◌∙◌, sym, subst, arith, cond}
 use Rattle.std.proofs.lemmas.Bool.{eq-eqb, ne_eqb}
 use Rattle.janus_meaning.specs.Fault.{Fine, Broken, and_then, guard}
 use Rattle.janus_meaning.specs.Syntax.{Name}
 use Rattle.janus_meaning.specs.Store as store
-use Rattle.janus_meaning.specs.Store.{Val, Num, Arr, Stk, Lent, Store, Bare, Slot, same_name, look, look_at, read_slot, take_slot, take_at, put_slot, put_at, put, pull, fill, bind, unbind}
+use Rattle.janus_meaning.specs.Store.{Val, Num, Arr, Stk, Lent, Store, Bare, Slot, same_name, look, look_at, read_slot, take_slot, take_at}
+use Rattle.janus_meaning.specs.Store.{put_slot, put_at, put, pull, fill, bind, unbind}
 use Rattle.janus_slots.specs.Slots.{slot}
 use Rattle.janus_frames.specs.Cells.{stored, has, AreApart, AreBelow, lending, IsPresent, parameters, down}
 use Rattle.janus_frames.proofs.Among.{not-equal, equal, or_false, has-at}
@@ -150,7 +152,8 @@ moved-down f g (a ∷ xs) h =
     let z : g (length (a ∷ xs) - (0 + 1)) ≡ f a = h 0 (omega arith) in
     let e : length (a ∷ xs) - (0 + 1) ≡ length xs = omega arith in
     let y : g (length xs) ≡ f a = subst (λ k. g k ≡ f a) e z in
-    let r = moved-down f g xs (λ i l. let m : length (a ∷ xs) - (suc i + 1) ≡ length xs - (i + 1) = omega arith in subst (λ k. g k ≡ f (get_or xs i 0)) m (h (suc i) (omega arith))) in
+    let r = moved-down f g xs (λ i l. let m : length (a ∷ xs) - (suc i + 1)
+    ≡ length xs - (i + 1) = omega arith in subst (λ k. g k ≡ f (get_or xs i 0)) m (h (suc i) (omega arith))) in
     cc
 
 turned : (p q : ℕ) → nat_eq p q ≡ false → nat_eq q p ≡ false

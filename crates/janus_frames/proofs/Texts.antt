@@ -1,5 +1,6 @@
 -- Stores of slots under the texts of declared names.
-use Rattle.std.proofs.Common.{◌≡◌, ℕ, zero, suc, ◌+◌, ◌<◌, ◌≤◌, Bool, true, false, List, [], ◌∷◌, ◌++◌, length, refl, ap, ◌∙◌, sym, subst, arith, ⊎_elim, ◌⊎◌, inl, inr, length-append}
+use Rattle.std.proofs.Common.{◌≡◌, ℕ, zero, suc, ◌+◌, ◌<◌, ◌≤◌, Bool, true, false, List, [], ◌∷◌, ◌++◌, length, refl, ap, ◌∙◌, sym, subst, arith}
+use Rattle.std.proofs.Common.{⊎_elim, ◌⊎◌, inl, inr, length-append}
 use Rattle.std.specs.Prelude.{slice_get, reverse, Some, None}
 use Rattle.std.proofs.lemmas.List.{reverse-append, reverse-reverse, length-reverse}
 use Rattle.std.proofs.lemmas.Option.{slice_get_past, slice_get_within}
@@ -108,7 +109,8 @@ look_told (y ∷ ys) g zero i x l one h = absurd (omega arith)
 look_told (y ∷ ys) g (suc n) i x l one h =
     look_case x y ys g n i (same_name x y) refl (omega arith) one h (look_told ys g n i x (omega arith) (one_before y ys one))
 
-none_case : (x y : Name) (ys : List Name) (v : Val) (r : Res Val) (b : Bool) → same_name x y ≡ b → IsUnmet (reverse (y ∷ ys)) x → r ≡ Bad Broken → look_at b v r ≡ Bad Broken
+none_case : (x y : Name) (ys : List Name) (v : Val) (r : Res Val) (b : Bool) → same_name x y ≡ b → IsUnmet (reverse (y ∷ ys)) x → r ≡ Bad Broken →
+    look_at b v r ≡ Bad Broken
 none_case x y ys v r true e u h = absurd (u (length ys) (subst (IsNumbered (reverse (y ∷ ys)) (length ys)) (sym (same_name_true x y e)) (told_last y ys)))
 none_case x y ys v r false e u h = h
 

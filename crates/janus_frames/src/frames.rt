@@ -1,6 +1,7 @@
 //! The names in sight, each with its value in a cell of one frame, and the frames of the open calls around it.
 
-ghost use Rattle.std.specs.Prelude.{◌≡◌, ◌≢◌, ◌<◌, ◌≤◌, ◌+◌, ◌-◌, ℕ, ℤ, pos, List, [], ◌∷◌, ◌++◌, length, reverse, IfOk, OnOk, OnErr, IsTrue, ◌↔◌, vec_len, vec_capacity, IfSome, None, true, false, ◌^◌};
+ghost use Rattle.std.specs.Prelude.{◌≡◌, ◌≢◌, ◌<◌, ◌≤◌, ◌+◌, ◌-◌, ℕ, ℤ, pos, List, [], ◌∷◌, ◌++◌, length, reverse, IfOk, OnOk, OnErr, IsTrue, ◌↔◌};
+ghost use Rattle.std.specs.Prelude.{vec_len, vec_capacity, IfSome, None, true, false, ◌^◌};
 ghost use Rattle.janus_meaning.specs.Fault.{Fine, IndexRange, TopEmpty};
 ghost use Rattle.janus_meaning.specs.Syntax.{Name};
 ghost use Rattle.janus_meaning.specs.Limit.{live_stack_limit, value_limit};
@@ -220,7 +221,8 @@ impl Frames {
     #[inline(always)]
     pub(crate) fn set_element(&mut self, k: usize, at: i32, number: i32)
         requires { HasElementAt (look (slot k) self.old.slots) at }
-        ensures written { (l : List ℤ) → look (slot k) self.old.slots ≡ Fine (Arr l) → write (slot k) (Arr (set_element l at number)) self.old.slots ≡ Fine self.new.slots }
+        ensures written { (l : List ℤ) → look (slot k) self.old.slots ≡ Fine (Arr l) →
+            write (slot k) (Arr (set_element l at number)) self.old.slots ≡ Fine self.new.slots }
         ensures shape { HasShape self.old self.new }
     {
         let array = index(self.cells[self.base + k]);
@@ -244,7 +246,8 @@ impl Frames {
     pub(crate) fn pop(&mut self, k: usize) -> i32
         requires { IsHeldStack (look (slot k) self.old.slots) }
         ensures top { (n : ℤ) (l : List ℤ) → look (slot k) self.old.slots ≡ Fine (Stk (n ∷ l)) → result ≡ n }
-        ensures written { (n : ℤ) (l : List ℤ) → look (slot k) self.old.slots ≡ Fine (Stk (n ∷ l)) → write (slot k) (Stk l) self.old.slots ≡ Fine self.new.slots }
+        ensures written { (n : ℤ) (l : List ℤ) → look (slot k) self.old.slots ≡ Fine (Stk (n ∷ l)) →
+            write (slot k) (Stk l) self.old.slots ≡ Fine self.new.slots }
         ensures shape { HasShape self.old self.new }
     {
         let stack = index(self.cells[self.base + k]);

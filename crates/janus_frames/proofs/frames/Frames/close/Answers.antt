@@ -1,4 +1,5 @@
-use Rattle.std.proofs.Common.{◌≡◌, ◌+◌, ◌-◌, ◌<◌, ◌≤◌, ℕ, ℤ, List, [], ◌∷◌, ◌++◌, length, take, drop, ap, refl, ◌∙◌, sym, subst, arith, w32, to_z, of_z, pos, length-append}
+use Rattle.std.proofs.Common.{◌≡◌, ◌+◌, ◌-◌, ◌<◌, ◌≤◌, ℕ, ℤ, List, [], ◌∷◌, ◌++◌, length, take, drop, ap, refl, ◌∙◌, sym, subst, arith, w32, to_z}
+use Rattle.std.proofs.Common.{of_z, pos, length-append}
 use Rattle.std.specs.Prelude.{reverse, vec_capacity}
 use Rattle.std.proofs.lemmas.Int.{to_z-of_z}
 use Rattle.std.proofs.lemmas.List.{reverse-append}
@@ -56,11 +57,10 @@ returns c = λ x n r f.
     let k = num-kind (heap_of a) b n b.kind v in
     let read = read-cell a.cells.items (a.top - 1) c.index.result.now (let l = i.long in omega (arith, l, low)) c.index.ensures in
     let z : to_z w32 (of_z w32 c.index.result.now.number) ≡ c.index.result.now.number = grind (arith, to_z-of_z) in
-    let rest = stored (from (value_at (heap_of a) a.cells.items) a.base) (a.top - 1 - a.base) in
-    (
+    let rest = stored (from (value_at (heap_of a) a.cells.items) a.base) (a.top - 1 - a.base) in (
       z ∙ ap (λ (x : Cell). x.number) read ∙ k.1,
       opening.fewer-state a i own (heap_of a) same r
-      (opening.slot-rest (slot (a.top - 1 - a.base)) x (value_at (heap_of a) a.cells.items (a.top - 1)) (Num n) rest r
-      (sym (opening.fewer-slots a i own (heap_of a) same) ∙ e))
-      ∙ ap (λ (h : FramesState). with_names r h) c.self.view_is,
+          (opening.slot-rest (slot (a.top - 1 - a.base)) x (value_at (heap_of a) a.cells.items (a.top - 1)) (Num n) rest r
+          (sym (opening.fewer-slots a i own (heap_of a) same) ∙ e))
+          ∙ ap (λ (h : FramesState). with_names r h) c.self.view_is,
     )

@@ -1,4 +1,5 @@
-use Rattle.std.proofs.Common.{◌≡◌, ◌+◌, ◌-◌, ◌<◌, ◌≤◌, ℕ, ℤ, List, [], ◌∷◌, ◌++◌, length, map, take, drop, ap, refl, ◌∙◌, sym, subst, arith, w32, to_z, of_z, pos, length-append}
+use Rattle.std.proofs.Common.{◌≡◌, ◌+◌, ◌-◌, ◌<◌, ◌≤◌, ℕ, ℤ, List, [], ◌∷◌, ◌++◌, length, map, take, drop, ap, refl, ◌∙◌, sym, subst, arith, w32}
+use Rattle.std.proofs.Common.{to_z, of_z, pos, length-append}
 use Rattle.std.specs.Prelude.{reverse, vec_capacity}
 use Rattle.std.proofs.lemmas.Int.{to_z-of_z}
 use Rattle.std.proofs.lemmas.List.{reverse-append}
@@ -105,7 +106,8 @@ invariant_of-self c =
     subst (λ xs. AreMoved b.items ds a.base a.top xs) slice (subst (λ bs. AreMoved bs ds a.base a.top c.slots-slots.result.now) c.deref_mut.ensures.value
     (record { before = c.lend.ensures.before; frame = c.lend.ensures.frame; moved = c.lend.ensures.moved })) in
     let m : AreMoved cs ds a.base a.top xs =
-    leaving.moved-front cs b.items ds a.base a.top xs m1 i.frames.order ok.0 (λ p l. let o = i.long in c.reach.ensures.before p (omega (arith, o, l, a.cells.ok.0))) in
+    leaving.moved-front cs b.items ds a.base a.top xs m1 i.frames.order ok.0
+    (λ p l. let o = i.long in c.reach.ensures.before p (omega (arith, o, l, a.cells.ok.0))) in
     let whole = in-front ds (drop (length ds) b.items) b.len (c.lend.ensures.size ∙ c.deref_mut.ensures.len) in
     let z : a.top + length xs ≡ a.top + length c.slots-slots.result.now = ap (λ n. a.top + n) (sym many) in
     let room = vec_capacity b in
@@ -119,7 +121,8 @@ invariant_of-self c =
           (subst (AreFrames (value_at hp ds) a.top (a.top + length xs)) (sym calls) f));
       owned = subst (λ l. AreOwned (length a.arrays) a.stacks.spare l (a.top + length c.slots-slots.result.now)) (sym whole)
           (subst (AreOwned (length a.arrays) a.stacks.spare ds) z o);
-      counted = subst (λ l. AreCounted a.stacks.spare a.stacks.lists (state_at (value_at hp l) a.top (a.top + length c.slots-slots.result.now) (reverse c.push_reserved.new.self.items) room)) (sym whole)
+      counted = subst (λ l. AreCounted a.stacks.spare a.stacks.lists
+          (state_at (value_at hp l) a.top (a.top + length c.slots-slots.result.now) (reverse c.push_reserved.new.self.items) room)) (sym whole)
           (subst (λ q. AreCounted a.stacks.spare a.stacks.lists (state_at (value_at hp ds) a.top q (reverse c.push_reserved.new.self.items) room)) z
           (subst (λ r. AreCounted a.stacks.spare a.stacks.lists (state_at (value_at hp ds) a.top (a.top + length xs) r room)) (sym calls) n));
       long = let l = c.reach.ensures.long in omega (arith, l, many, ap length whole, c.lend.ensures.size, ap length c.deref_mut.ensures.value, b.ok.0);
@@ -148,7 +151,8 @@ returns-clause-entered c =
     subst (λ xs. AreMoved b.items ds a.base a.top xs) slice (subst (λ bs. AreMoved bs ds a.base a.top c.slots-slots.result.now) c.deref_mut.ensures.value
     (record { before = c.lend.ensures.before; frame = c.lend.ensures.frame; moved = c.lend.ensures.moved })) in
     let m : AreMoved cs ds a.base a.top xs =
-    leaving.moved-front cs b.items ds a.base a.top xs m1 i.frames.order ok.0 (λ p l. let o = i.long in c.reach.ensures.before p (omega (arith, o, l, a.cells.ok.0))) in
+    leaving.moved-front cs b.items ds a.base a.top xs m1 i.frames.order ok.0
+    (λ p l. let o = i.long in c.reach.ensures.before p (omega (arith, o, l, a.cells.ok.0))) in
     let whole = in-front ds (drop (length ds) b.items) b.len (c.lend.ensures.size ∙ c.deref_mut.ensures.len) in
     let z : a.top + length xs ≡ a.top + length c.slots-slots.result.now = ap (λ n. a.top + n) (sym many) in
     let room = vec_capacity b in
@@ -157,8 +161,12 @@ returns-clause-entered c =
     let behind = callers_of (value_at hp cs) a.base all in
     let q = a.top + length c.slots-slots.result.now in
     let ls = take b.len (ds ++ drop (length ds) b.items) in
-    let e1 = subst (λ r. Enters (map slot xs) old behind (stored (from (value_at hp ds) a.top) (a.top + length xs - a.top)) (callers_of (value_at hp ds) a.top r)) (sym calls) e in
-    let e2 = subst (λ q. Enters (map slot xs) old behind (stored (from (value_at hp ds) a.top) (q - a.top)) (callers_of (value_at hp ds) a.top (reverse c.push_reserved.new.self.items))) z e1 in
-    let e3 = subst (λ l. Enters (map slot xs) old behind (stored (from (value_at hp l) a.top) (q - a.top)) (callers_of (value_at hp l) a.top (reverse c.push_reserved.new.self.items))) (sym whole) e2 in
-    subst (λ (h : FramesState). Enters (map slot xs) h.slots h.callers (stored (from (value_at hp ls) a.top) (q - a.top)) (callers_of (value_at hp ls) a.top (reverse c.push_reserved.new.self.items)))
+    let e1 = subst (λ r. Enters (map slot xs) old behind (stored (from (value_at hp ds) a.top) (a.top + length xs - a.top))
+    (callers_of (value_at hp ds) a.top r)) (sym calls) e in
+    let e2 = subst (λ q. Enters (map slot xs) old behind (stored (from (value_at hp ds) a.top) (q - a.top))
+    (callers_of (value_at hp ds) a.top (reverse c.push_reserved.new.self.items))) z e1 in
+    let e3 = subst (λ l. Enters (map slot xs) old behind (stored (from (value_at hp l) a.top) (q - a.top))
+    (callers_of (value_at hp l) a.top (reverse c.push_reserved.new.self.items))) (sym whole) e2 in
+    subst (λ (h : FramesState). Enters (map slot xs) h.slots h.callers (stored (from (value_at hp ls) a.top) (q - a.top))
+    (callers_of (value_at hp ls) a.top (reverse c.push_reserved.new.self.items)))
     c.self.view_is e3

@@ -1,4 +1,5 @@
-use Rattle.std.proofs.Common.{◌≡◌, ◌+◌, ◌-◌, ◌<◌, ◌≤◌, ℕ, ℤ, List, [], ◌∷◌, ◌++◌, length, take, drop, ap, refl, ◌∙◌, sym, subst, arith, w32, to_z, of_z, pos, length-append}
+use Rattle.std.proofs.Common.{◌≡◌, ◌+◌, ◌-◌, ◌<◌, ◌≤◌, ℕ, ℤ, List, [], ◌∷◌, ◌++◌, length, take, drop, ap, refl, ◌∙◌, sym, subst, arith, w32, to_z}
+use Rattle.std.proofs.Common.{of_z, pos, length-append}
 use Rattle.std.specs.Prelude.{reverse, vec_capacity}
 use Rattle.std.proofs.lemmas.Int.{to_z-of_z}
 use Rattle.std.proofs.lemmas.List.{reverse-append}
@@ -172,6 +173,7 @@ returns-clause-left c =
     let there = subst (λ l. Returns (callers_of (value_at hp cs) a.base (call ∷ rest)) (stored (from (value_at hp cs) a.base) (a.top - a.base))
     (stored (from (value_at hp l) call.base) (a.base - call.base)) (callers_of (value_at hp l) call.base rest)) (sym whole) after in
     let ls = take a.cells.len (ds ++ drop (length ds) cs) in
-    subst (λ (h : FramesState). Returns h.callers h.slots (stored (from (value_at hp ls) call.base) (a.base - call.base)) (callers_of (value_at hp ls) call.base rest)) c.self.view_is
+    subst (λ (h : FramesState). Returns h.callers h.slots (stored (from (value_at hp ls) call.base) (a.base - call.base))
+    (callers_of (value_at hp ls) call.base rest)) c.self.view_is
     (subst (λ r. Returns (callers_of (value_at hp cs) a.base r) (stored (from (value_at hp cs) a.base) (a.top - a.base))
     (stored (from (value_at hp ls) call.base) (a.base - call.base)) (callers_of (value_at hp ls) call.base rest)) (sym calls) there)

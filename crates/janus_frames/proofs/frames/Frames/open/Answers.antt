@@ -1,4 +1,5 @@
-use Rattle.std.proofs.Common.{◌≡◌, ◌+◌, ◌-◌, ◌<◌, ◌≤◌, ℕ, ℤ, List, [], ◌∷◌, ◌++◌, length, take, drop, ap, refl, ◌∙◌, sym, subst, arith, w32, to_z, of_z, pos, length-append}
+use Rattle.std.proofs.Common.{◌≡◌, ◌+◌, ◌-◌, ◌<◌, ◌≤◌, ℕ, ℤ, List, [], ◌∷◌, ◌++◌, length, take, drop, ap, refl, ◌∙◌, sym, subst, arith, w32, to_z}
+use Rattle.std.proofs.Common.{of_z, pos, length-append}
 use Rattle.std.specs.Prelude.{reverse, vec_capacity}
 use Rattle.std.proofs.lemmas.Int.{to_z-of_z}
 use Rattle.std.proofs.lemmas.List.{reverse-append}
@@ -39,7 +40,8 @@ invariant_of-self c =
     let hp = heap_of a in
     let same : (q : ℕ) → q < a.top → value_at hp ds q ≡ value_at hp a.cells.items q = λ q l. ap (val_of hp) (c.put.ensures.before q l) in
     let z : to_z w32 (of_z w32 c.args.number) ≡ c.args.number = to_z-of_z w32 c.args.number c.ranges.number in
-    let there : cell_at ds a.top ≡ record { kind = kinds.Number; number = c.args.number } = c.put.ensures.there ∙ c.number_cell.ensures ∙ ap (λ n. record { kind = kinds.Number; number = n }) z in
+    let there : cell_at ds a.top ≡ record { kind = kinds.Number; number = c.args.number } = c.put.ensures.there ∙ c.number_cell.ensures
+    ∙ ap (λ n. record { kind = kinds.Number; number = n }) z in
     let room = vec_capacity c.put.new.cells in
     record {
       frames = opening.more-frames a i hp ds (Num c.args.number) room same (ap (val_of hp) there) tt c.put.ensures.room;
@@ -57,7 +59,8 @@ returns c =
     let hp = heap_of a in
     let same : (q : ℕ) → q < a.top → value_at hp ds q ≡ value_at hp a.cells.items q = λ q l. ap (val_of hp) (c.put.ensures.before q l) in
     let z : to_z w32 (of_z w32 c.args.number) ≡ c.args.number = to_z-of_z w32 c.args.number c.ranges.number in
-    let there : cell_at ds a.top ≡ record { kind = kinds.Number; number = c.args.number } = c.put.ensures.there ∙ c.number_cell.ensures ∙ ap (λ n. record { kind = kinds.Number; number = n }) z in
+    let there : cell_at ds a.top ≡ record { kind = kinds.Number; number = c.args.number } = c.put.ensures.there ∙ c.number_cell.ensures
+    ∙ ap (λ n. record { kind = kinds.Number; number = n }) z in
     let room = vec_capacity c.put.new.cells in
     opening.more-state a i hp ds (Num c.args.number) room same (ap (val_of hp) there) tt c.put.ensures.room
     ∙ ap (λ (h : FramesState). with_names (Slot (slot (size_of h.slots)) (Num c.args.number) h.slots) h) c.self.view_is

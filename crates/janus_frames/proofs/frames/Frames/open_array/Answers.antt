@@ -1,4 +1,5 @@
-use Rattle.std.proofs.Common.{◌≡◌, ◌+◌, ◌-◌, ◌<◌, ◌≤◌, ℕ, ℤ, List, [], ◌∷◌, ◌++◌, length, take, drop, ap, refl, ◌∙◌, sym, subst, arith, w32, to_z, of_z, pos, length-append}
+use Rattle.std.proofs.Common.{◌≡◌, ◌+◌, ◌-◌, ◌<◌, ◌≤◌, ℕ, ℤ, List, [], ◌∷◌, ◌++◌, length, take, drop, ap, refl, ◌∙◌, sym, subst, arith, w32, to_z}
+use Rattle.std.proofs.Common.{of_z, pos, length-append}
 use Rattle.std.specs.Prelude.{reverse, vec_capacity}
 use Rattle.std.proofs.lemmas.Int.{to_z-of_z}
 use Rattle.std.proofs.lemmas.List.{reverse-append}
@@ -36,7 +37,7 @@ invariant_of-self-2 c =
     let a = c.self.inside in
     let i = c.self.invariant in
     let ds = c.put.new.cells.items in
-    let ls = c.add-array.new.self in
+    let ls = c.add.new.self in
     let s = c.in_ok-array.array in
     let xs = c.args.items.items in
     let added : ls ≡ a.arrays ++ xs ∷ [] = c.in_ok-array.ensures.added in
@@ -64,7 +65,7 @@ returns-clause-ok c =
     let a = c.self.inside in
     let i = c.self.invariant in
     let ds = c.put.new.cells.items in
-    let ls = c.add-array.new.self in
+    let ls = c.add.new.self in
     let s = c.in_ok-array.array in
     let xs = c.args.items.items in
     let added : ls ≡ a.arrays ++ xs ∷ [] = c.in_ok-array.ensures.added in

@@ -1,4 +1,5 @@
-use Rattle.std.proofs.Common.{◌≡◌, ◌+◌, ◌-◌, ◌<◌, ◌≤◌, ℕ, ℤ, List, [], ◌∷◌, ◌++◌, length, take, drop, ap, refl, ◌∙◌, sym, subst, arith, w32, to_z, of_z, pos, length-append}
+use Rattle.std.proofs.Common.{◌≡◌, ◌+◌, ◌-◌, ◌<◌, ◌≤◌, ℕ, ℤ, List, [], ◌∷◌, ◌++◌, length, take, drop, ap, refl, ◌∙◌, sym, subst, arith, w32, to_z}
+use Rattle.std.proofs.Common.{of_z, pos, length-append}
 use Rattle.std.specs.Prelude.{reverse, vec_capacity}
 use Rattle.std.proofs.lemmas.Int.{to_z-of_z}
 use Rattle.std.proofs.lemmas.List.{reverse-append}
@@ -28,7 +29,8 @@ use Rattle.janus_frames.proofs.frames.Frames.open_stack.Goals as goal
 pub index_cell-requires : goal.index_cell-requires
 index_cell-requires c =
     let a = c.self.inside in
-    let l = stack-low (length a.arrays) a.stacks.spare c.take-stack.new.self.spare c.take-stack.result a.cells.items a.top c.self.invariant.owned c.take-stack.ensures.spare in
+    let l = stack-low (length a.arrays) a.stacks.spare c.take-stack.new.self.spare c.take-stack.result a.cells.items a.top c.self.invariant.owned
+    c.take-stack.ensures.spare in
     omega (arith, l)
 
 pub put-requires-clause-room : goal.put-requires-clause-room
@@ -46,7 +48,8 @@ invariant_of-self c =
     let s = c.take-stack.result in
     let hq : Heap = record { arrays = a.arrays; stacks = ls } in
     let same : (q : ℕ) → q < a.top → value_at hq ds q ≡ value_at (heap_of a) a.cells.items q =
-    λ q l. ap (λ ls. value_at (record { arrays = a.arrays; stacks = ls }) ds q) c.take-stack.ensures.lists ∙ ap (val_of (heap_of a)) (c.put.ensures.before q l) in
+    λ q l. ap (λ ls. value_at (record { arrays = a.arrays; stacks = ls }) ds q) c.take-stack.ensures.lists
+    ∙ ap (val_of (heap_of a)) (c.put.ensures.before q l) in
     let there : cell_at ds a.top ≡ record { kind = kinds.Stack; number = pos s } = c.put.ensures.there ∙ c.index_cell.ensures in
     let new : value_at hq ds a.top ≡ Stk [] =
     ap (val_of hq) there ∙ ap (λ ls. Stk (list_of ls s)) c.take-stack.ensures.lists ∙ ap Stk c.take-stack.ensures.empty in
@@ -73,7 +76,8 @@ returns c =
     let s = c.take-stack.result in
     let hq : Heap = record { arrays = a.arrays; stacks = ls } in
     let same : (q : ℕ) → q < a.top → value_at hq ds q ≡ value_at (heap_of a) a.cells.items q =
-    λ q l. ap (λ ls. value_at (record { arrays = a.arrays; stacks = ls }) ds q) c.take-stack.ensures.lists ∙ ap (val_of (heap_of a)) (c.put.ensures.before q l) in
+    λ q l. ap (λ ls. value_at (record { arrays = a.arrays; stacks = ls }) ds q) c.take-stack.ensures.lists
+    ∙ ap (val_of (heap_of a)) (c.put.ensures.before q l) in
     let there : cell_at ds a.top ≡ record { kind = kinds.Stack; number = pos s } = c.put.ensures.there ∙ c.index_cell.ensures in
     let new : value_at hq ds a.top ≡ Stk [] =
     ap (val_of hq) there ∙ ap (λ ls. Stk (list_of ls s)) c.take-stack.ensures.lists ∙ ap Stk c.take-stack.ensures.empty in

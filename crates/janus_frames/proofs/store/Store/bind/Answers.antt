@@ -8,7 +8,8 @@ use Rattle.janus_slots.specs.Slots.{slot, names_in, in_slots, under_names}
 use Rattle.janus_frames.specs.Calls.{CanLend, AreAlone, own_names, params_bound, given_back, names_of, slots_of}
 use Rattle.janus_frames.specs.FramesState.{FramesState, names_there, values_there, stacks_there, with_names}
 use Rattle.janus_frames.specs.Stores.{write, IsNumber, IsArray, IsStack, IsHeldStack, HasElementAt, IsFirstOnTop, rest_of}
-use Rattle.janus_frames.specs.StoreState.{StoreState, state_of, shown_store, declared_store, values_held, live_stacks, names_held, opened, with_slots, IsLike, IsWhole}
+use Rattle.janus_frames.specs.StoreState.{StoreState, state_of, shown_store, declared_store, values_held, live_stacks, names_held, opened}
+use Rattle.janus_frames.specs.StoreState.{with_slots, IsLike, IsWhole}
 use Rattle.janus_frames.specs.Kept.{AreHeld}
 use Rattle.janus_frames.specs.StoreState.{HasLocal, HasLocalRoom, HasParametersAlone, IsEntered, IsLeft, local_limit}
 use Rattle.janus_frames.proofs.Declared as declared
@@ -20,7 +21,8 @@ pub enter-requires-clause-room : goal.enter-requires-clause-room
 enter-requires-clause-room g c =
     let a = c.self.inside in
     let i = c.self.invariant in
-    let can : CanLend (names_of c.args.args.now) a.frames.slots = subst (λ (h : StoreState). CanLend (names_of c.args.args.now) h.slots) (sym c.self.view_is) c.requires.found in
+    let can : CanLend (names_of c.args.args.now) a.frames.slots = subst (λ (h : StoreState). CanLend (names_of c.args.args.now) h.slots) (sym c.self.view_is)
+    c.requires.found in
     let calls : length a.frames.callers < 8192 = subst (λ (h : StoreState). length h.callers < 8192) (sym c.self.view_is) c.requires.room.calls in
     let few = c.requires.room.params in
     let many = as-many (slots_of c.args.args.now) in
@@ -30,7 +32,8 @@ pub invariant_of-self : goal.invariant_of-self
 invariant_of-self g c =
     let a = c.self.inside in
     let i = c.self.invariant in
-    let can : CanLend (names_of c.args.args.now) a.frames.slots = subst (λ (h : StoreState). CanLend (names_of c.args.args.now) h.slots) (sym c.self.view_is) c.requires.found in
+    let can : CanLend (names_of c.args.args.now) a.frames.slots = subst (λ (h : StoreState). CanLend (names_of c.args.args.now) h.slots) (sym c.self.view_is)
+    c.requires.found in
     let calls : length a.frames.callers < 8192 = subst (λ (h : StoreState). length h.callers < 8192) (sym c.self.view_is) c.requires.room.calls in
     let few = c.requires.room.params in
     let many = as-many (slots_of c.args.args.now) in

@@ -8,7 +8,8 @@ use Rattle.janus_slots.specs.Slots.{slot, names_in, in_slots, under_names}
 use Rattle.janus_frames.specs.Calls.{CanLend, AreAlone, own_names, params_bound, given_back, names_of, slots_of}
 use Rattle.janus_frames.specs.FramesState.{FramesState, names_there, values_there, stacks_there, with_names}
 use Rattle.janus_frames.specs.Stores.{write, IsNumber, IsArray, IsStack, IsHeldStack, HasElementAt, IsFirstOnTop, rest_of}
-use Rattle.janus_frames.specs.StoreState.{StoreState, state_of, shown_store, declared_store, values_held, live_stacks, names_held, opened, with_slots, IsLike, IsWhole}
+use Rattle.janus_frames.specs.StoreState.{StoreState, state_of, shown_store, declared_store, values_held, live_stacks, names_held, opened}
+use Rattle.janus_frames.specs.StoreState.{with_slots, IsLike, IsWhole}
 use Rattle.janus_frames.specs.StoreState.{HasLocal, HasLocalRoom, HasParametersAlone, IsEntered, IsLeft, local_limit}
 use Rattle.janus_frames.proofs.Declared as declared
 use Rattle.janus_frames.proofs.Sizes as sizes
@@ -18,4 +19,5 @@ pub returns-clause-shown : goal.returns-clause-shown
 returns-clause-shown g c =
     let a = c.self.inside in
     let s = c.slots_law.ensures.shown in
-    sym (ap (λ (h : StoreState). size_of (shown_store h)) (sym c.self.view_is) ∙ declared.shown-many a.frames a.declared a.texts c.self.invariant s.0 s.1 s.2 s.3)
+    sym (ap (λ (h : StoreState). size_of (shown_store h)) (sym c.self.view_is)
+    ∙ declared.shown-many a.frames a.declared a.texts c.self.invariant s.0 s.1 s.2 s.3)

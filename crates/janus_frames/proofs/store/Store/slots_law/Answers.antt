@@ -8,7 +8,8 @@ use Rattle.janus_slots.specs.Slots.{slot, names_in, in_slots, under_names}
 use Rattle.janus_frames.specs.Calls.{CanLend, AreAlone, own_names, params_bound, given_back, names_of, slots_of}
 use Rattle.janus_frames.specs.FramesState.{FramesState, names_there, values_there, stacks_there, with_names}
 use Rattle.janus_frames.specs.Stores.{write, IsNumber, IsArray, IsStack, IsHeldStack, HasElementAt, IsFirstOnTop, rest_of}
-use Rattle.janus_frames.specs.StoreState.{StoreState, state_of, shown_store, declared_store, values_held, live_stacks, names_held, opened, with_slots, IsLike, IsWhole}
+use Rattle.janus_frames.specs.StoreState.{StoreState, state_of, shown_store, declared_store, values_held, live_stacks, names_held, opened}
+use Rattle.janus_frames.specs.StoreState.{with_slots, IsLike, IsWhole}
 use Rattle.janus_frames.specs.StoreState.{HasLocal, HasLocalRoom, HasParametersAlone, IsEntered, IsLeft, local_limit}
 use Rattle.janus_frames.proofs.Declared as declared
 use Rattle.janus_frames.proofs.Sizes as sizes
@@ -18,7 +19,8 @@ pub returns-clause-shown : goal.returns-clause-shown
 returns-clause-shown g c =
     let a = c.self.inside in
     let s = c.slots_law.ensures.shown in
-    subst (λ (h : StoreState). names_in (shown_store h) ≡ reverse h.texts) c.self.view_is (declared.told-names a.frames a.declared a.texts c.self.invariant s.0 s.1 s.2 s.3)
+    subst (λ (h : StoreState). names_in (shown_store h) ≡ reverse h.texts) c.self.view_is
+    (declared.told-names a.frames a.declared a.texts c.self.invariant s.0 s.1 s.2 s.3)
 
 pub returns-clause-unmet : goal.returns-clause-unmet
 returns-clause-unmet g c = λ x none.
@@ -31,13 +33,15 @@ pub returns-clause-slotted : goal.returns-clause-slotted
 returns-clause-slotted g c =
     let a = c.self.inside in
     let s = c.slots_law.ensures.shown in
-    subst (λ (h : StoreState). in_slots (shown_store h) ≡ declared_store h) c.self.view_is (declared.told-slots a.frames a.declared a.texts c.self.invariant s.0 s.1 s.2 s.3)
+    subst (λ (h : StoreState). in_slots (shown_store h) ≡ declared_store h) c.self.view_is
+    (declared.told-slots a.frames a.declared a.texts c.self.invariant s.0 s.1 s.2 s.3)
 
 pub returns-clause-declared : goal.returns-clause-declared
 returns-clause-declared g c =
     let a = c.self.inside in
     let s = c.slots_law.ensures.shown in
-    subst (λ (h : StoreState). in_slots (declared_store h) ≡ declared_store h) c.self.view_is (declared.declared-slots a.frames a.declared a.texts c.self.invariant s.0 s.1 s.2 s.3)
+    subst (λ (h : StoreState). in_slots (declared_store h) ≡ declared_store h) c.self.view_is
+    (declared.declared-slots a.frames a.declared a.texts c.self.invariant s.0 s.1 s.2 s.3)
 
 pub returns-clause-whole : goal.returns-clause-whole
 returns-clause-whole g c = λ all alone. declared.whole-by c.args.self.now (returns-clause-declared g c) all alone
