@@ -1,5 +1,5 @@
 -- The invariant of a store as its frames change.
-use Rattle.std.proofs.Common.{◌≡◌, ℕ, zero, suc, ◌+◌, ◌-◌, ◌*◌, ◌<◌, ◌≤◌, List, [], ◌∷◌, ◌++◌, length, map, take, length-append, refl, ap, ◌∙◌, sym}
+use Rattle.std.proofs.Common.{◌≡◌, ℕ, zero, suc, ◌+◌, ◌-◌, ◌*◌, ◌<◌, ◌≤◌, List, [], ◌∷◌, ◌++◌, length, map, take as front, length-append, refl, ap, ◌∙◌, sym}
 use Rattle.std.proofs.Common.{subst, arith, Bool, true, false}
 use Rattle.std.proofs.lemmas.List.{length-take-le}
 use Rattle.janus_meaning.specs.Fault.{Res, Fine, Bad, and_then, or_else}
@@ -180,7 +180,7 @@ module _ (f : FramesState) (d : ℕ) (ts : List Name) (h : AreHeld f d ts) where
       }
 
   -- and retired
-  pub held-retired : (x : Name) (v : Val) (s : Store) (us : List Name) → f.callers ≡ [] → d ≡ size_of f.slots → f.slots ≡ Slot x v s → us ≡ take (d - 1) ts
+  pub held-retired : (x : Name) (v : Val) (s : Store) (us : List Name) → f.callers ≡ [] → d ≡ size_of f.slots → f.slots ≡ Slot x v s → us ≡ front (d - 1) ts
       → HaveOneNumber us → AreHeld (with_names s f) (d - 1) us
   held-retired x v s us c n e u one =
       let z : size_of f.slots ≡ suc (size_of s) = ap size_of e in
