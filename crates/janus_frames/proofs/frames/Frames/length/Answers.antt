@@ -1,0 +1,74 @@
+use Rattle.std.proofs.Common.{◌≡◌, ◌+◌, ◌-◌, ◌<◌, ◌≤◌, ℕ, ℤ, List, ◌∷◌, length, set, ap, refl, ◌∙◌, sym, subst, arith, w32, to_z, of_z, pos, length-set}
+use Rattle.std.specs.Prelude.{reverse}
+use Rattle.std.proofs.lemmas.Int.{to_z-of_z}
+use Rattle.cell_pool.specs.Chains.{times}
+use Rattle.janus_meaning.specs.Fault.{Fine, TopEmpty, IndexRange}
+use Rattle.janus_meaning.specs.Limit.{live_stack_limit, value_limit}
+use Rattle.janus_meaning.specs.Store.{Val, Num, Arr, Stk, look, element, set_element}
+use Rattle.janus_meaning.specs.Value.{first}
+use Rattle.janus_meaning.specs.World.{size_of}
+use Rattle.janus_slots.specs.Slots.{slot}
+use Rattle.janus_frames.specs.Cells.{cell_at, index_of, value_at, val_as, val_of, IsPresent, IsFit, Heap}
+use Rattle.janus_frames.specs.FramesState.{FramesState, HasShape, values_there}
+use Rattle.janus_frames.specs.Inside.{frames_of, heap_of, IsKept}
+use Rattle.janus_frames.specs.Lists.{list_of}
+use Rattle.janus_frames.specs.Stacks.{Pooled, total}
+use Rattle.janus_frames.specs.Stores.{write}
+use Rattle.janus_frames.specs.Values.{read_or, kind_of}
+use Rattle.janus_frames.specs.declared.cell.Cell.{Cell}
+use Rattle.janus_frames.specs.declared.cell.Kind.TheVariants as kinds
+use Rattle.janus_frames.proofs.Changing as changing
+use Rattle.janus_frames.proofs.CellKinds.{present-any, present-kind, within-list}
+use Rattle.janus_frames.proofs.Pooled.{total_set}
+use Rattle.janus_frames.proofs.Reading.{look-there, look-inv}
+use Rattle.janus_frames.proofs.Sight.{read-cell, in-sight, name-low, name-place, name-cell, name-value, number-there, array-there, stack-there}
+use Rattle.janus_frames.proofs.frames.Frames.length.Goals as goal
+
+pub overflow_add-self-inside : goal.overflow_add-self-inside
+overflow_add-self-inside c =
+    let a = c.self.inside in
+    let i = c.self.invariant in
+    let e : look (slot c.args.k) (frames_of a).slots ≡ Fine (Stk c.requires.0) = ap (λ (h : FramesState). look (slot c.args.k) h.slots) c.self.view_is
+    ∙ c.requires.1 in
+    let l = name-cell a i c.args.k (Stk c.requires.0) e in
+    omega (arith, l, a.cells.ok.0)
+
+pub index-requires : goal.index-requires
+index-requires c =
+    let a = c.self.inside in
+    let i = c.self.invariant in
+    let e : look (slot c.args.k) (frames_of a).slots ≡ Fine (Stk c.requires.0) = ap (λ (h : FramesState). look (slot c.args.k) h.slots) c.self.view_is
+    ∙ c.requires.1 in
+    let l = name-cell a i c.args.k (Stk c.requires.0) e in
+    omega (arith, l, a.cells.ok.0)
+
+pub index-requires-2 : goal.index-requires-2
+index-requires-2 c =
+    let a = c.self.inside in
+    let i = c.self.invariant in
+    let e : look (slot c.args.k) (frames_of a).slots ≡ Fine (Stk c.requires.0) = ap (λ (h : FramesState). look (slot c.args.k) h.slots) c.self.view_is
+    ∙ c.requires.1 in
+    let l = name-cell a i c.args.k (Stk c.requires.0) e in
+    let r = read-cell a.cells.items (a.base + c.args.k) c.index.result.now l c.index.ensures in
+    subst (λ (x : Cell). pos (index_of x) ≡ x.number) (sym r) (stack-there a i c.args.k c.requires.0 e).2
+
+pub length-requires : goal.length-requires
+length-requires c =
+    let a = c.self.inside in
+    let i = c.self.invariant in
+    let e : look (slot c.args.k) (frames_of a).slots ≡ Fine (Stk c.requires.0) = ap (λ (h : FramesState). look (slot c.args.k) h.slots) c.self.view_is
+    ∙ c.requires.1 in
+    let l = name-cell a i c.args.k (Stk c.requires.0) e in
+    let r = read-cell a.cells.items (a.base + c.args.k) c.index.result.now l c.index.ensures in
+    subst (λ n. n < live_stack_limit) (sym (c.index-2.ensures ∙ ap index_of r)) (stack-there a i c.args.k c.requires.0 e).3
+
+pub returns : goal.returns
+returns c = λ m f.
+    let a = c.self.inside in
+    let i = c.self.invariant in
+    let e : look (slot c.args.k) (frames_of a).slots ≡ Fine (Stk m) = ap (λ (h : FramesState). look (slot c.args.k) h.slots) c.self.view_is ∙ f in
+    let l = name-cell a i c.args.k (Stk m) e in
+    let r = read-cell a.cells.items (a.base + c.args.k) c.index.result.now l c.index.ensures in
+    let h = (stack-there a i c.args.k m e).1 in
+    let g : list_of a.stacks.lists c.index-2.result ≡ m = ap (list_of a.stacks.lists) (c.index-2.ensures ∙ ap index_of r) ∙ h in
+    c.length.ensures ∙ ap length g

@@ -1,0 +1,47 @@
+use Rattle.std.proofs.Common.{◌≡◌, ◌+◌, ◌-◌, ◌<◌, ◌≤◌, ℕ, ℤ, List, [], ◌∷◌, length, take, ap, refl, ◌∙◌, sym, subst, arith, nat_eq}
+use Rattle.std.specs.Prelude.{reverse, slice_get, Some}
+use Rattle.janus_meaning.specs.Fault.{Fine, Bad, Broken}
+use Rattle.janus_meaning.specs.Store.{Val, Num, Arr, Stk, Slot, Store as Values, look, set_element, cleared}
+use Rattle.janus_meaning.specs.World.{size_of, listed, stacks_in}
+use Rattle.janus_names.specs.Numbers.{HaveOneNumber, IsUnmet}
+use Rattle.janus_slots.specs.Slots.{slot, names_in, in_slots, under_names}
+use Rattle.janus_frames.specs.Calls.{CanLend, AreAlone, own_names, params_bound, given_back, names_of, slots_of}
+use Rattle.janus_frames.specs.FramesState.{FramesState, names_there, values_there, stacks_there, with_names}
+use Rattle.janus_frames.specs.Stores.{write, IsNumber, IsArray, IsStack, IsHeldStack, HasElementAt, IsFirstOnTop, rest_of}
+use Rattle.janus_frames.specs.StoreState.{StoreState, state_of, shown_store, declared_store, values_held, live_stacks, names_held, opened}
+use Rattle.janus_frames.specs.StoreState.{with_slots, IsLike, IsWhole}
+use Rattle.janus_frames.specs.StoreState.{HasLocal, HasLocalRoom, HasParametersAlone, IsEntered, IsLeft, local_limit}
+use Rattle.janus_frames.proofs.Declared as declared
+use Rattle.janus_frames.proofs.Sizes as sizes
+use Rattle.janus_frames.proofs.store.Store.slots_law.Goals as goal
+
+pub returns-clause-shown : goal.returns-clause-shown
+returns-clause-shown g c =
+    let a = c.self.inside in
+    let s = c.slots_law.ensures.shown in
+    subst (λ (h : StoreState). names_in (shown_store h) ≡ reverse h.texts) c.self.view_is
+    (declared.told-names a.frames a.declared a.texts c.self.invariant s.0 s.1 s.2 s.3)
+
+pub returns-clause-unmet : goal.returns-clause-unmet
+returns-clause-unmet g c = λ x none.
+    let a = c.self.inside in
+    let s = c.slots_law.ensures.shown in
+    subst (λ (h : StoreState). IsUnmet h.texts x) c.self.view_is
+    (declared.none-text a.frames a.declared a.texts c.self.invariant s.0 s.1 s.2 s.3 x (ap (λ (h : StoreState). look x (shown_store h)) c.self.view_is ∙ none))
+
+pub returns-clause-slotted : goal.returns-clause-slotted
+returns-clause-slotted g c =
+    let a = c.self.inside in
+    let s = c.slots_law.ensures.shown in
+    subst (λ (h : StoreState). in_slots (shown_store h) ≡ declared_store h) c.self.view_is
+    (declared.told-slots a.frames a.declared a.texts c.self.invariant s.0 s.1 s.2 s.3)
+
+pub returns-clause-declared : goal.returns-clause-declared
+returns-clause-declared g c =
+    let a = c.self.inside in
+    let s = c.slots_law.ensures.shown in
+    subst (λ (h : StoreState). in_slots (declared_store h) ≡ declared_store h) c.self.view_is
+    (declared.declared-slots a.frames a.declared a.texts c.self.invariant s.0 s.1 s.2 s.3)
+
+pub returns-clause-whole : goal.returns-clause-whole
+returns-clause-whole g c = λ all alone. declared.whole-by c.args.self.now (returns-clause-declared g c) all alone

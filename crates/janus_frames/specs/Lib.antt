@@ -1,0 +1,12 @@
+pub mod Lists
+pub mod Cells
+pub mod Calls
+pub mod Stacks
+pub mod Values
+pub mod Stores
+pub mod FramesState
+pub mod Inside
+pub mod Shown
+pub mod StoreState
+pub mod Kept
+pub mod Laws

@@ -1,0 +1,57 @@
+//! The store by frames of cells: the declared names with their numbers, arrays and stacks, in the order of declaration, and above them the parameters
+//! of open calls and the open locals.
+//!
+//! **No program runs over it yet.** The machine runs over `janus_store`, whose place this crate is to take.
+//!
+//! To the layer above it promises a map: the k-th name in sight, the oldest being 0, is read and written by its number k, whatever its kind, and a
+//! write changes no other name. The name of a number is its `slot` of `janus_slots`, so what runs compares no text. A call is entered by moving the
+//! values of its arguments to its parameters, and left by moving them back, as the meaning takes and fills them: while it is open the caller's names
+//! lend those values. A move is no write: the store counts each change of a number, an element or a stack, and nothing else, in a ledger of which
+//! there is one store. A declared name is shown with the value that it has now, which is followed inwards through the arguments of the open calls.
+//! The memory of all stacks, calls, locals and parameters is taken with the store, and after that only a declared name takes memory. Which faults
+//! there are is the caller's affair: each call says what must hold, and the store offers the test.
+//! Contracts see what is in sight as a store of `janus_meaning`, and the open calls as the stores that they left behind, where just their arguments
+//! are lent.
+//!
+//! The modules, in the order in which a reader needs them:
+//! - `limit`: how many locals, calls, parameters and values a store takes memory for.
+//! - `cell`, `args`, `arguments`: a cell of a frame, and the arguments of a call.
+//! - `arrays`, `stacks`: all arrays, and all stacks that may live in one `cell_pool`, each at its index.
+//! - `value`, `stack_view`: a value as it is declared and as it is lent, and the values of a stack.
+//! - `moves`: cells that are moved from the frame of a caller to that of a call, and back.
+//! - `frames`: the frame in sight and those of the open calls around it.
+//! - `writes`: the count of the writes, and a tally beside it, which contracts alone see.
+//! - `store`: the frames with the texts of the declared names and the count of writes.
+//! - `laws`: that a write changes its name alone.
+//!
+//! The definitions, in specs/, in reading order; `slot`, `in_slots` and `under_names` are defined in `janus_slots`, and `pull`, `bind`, `unbind` and
+//! `fill` in `janus_meaning`, after the calls by reference of the Janus paper (Yokoyama, Axelsen and Glück 2008), read as an exchange of values:
+//!
+//! - `Lists`, `Cells`: cells as stores of slots, and that each array and each stack has one cell.
+//! - `Calls`: what entering and leaving a call does, and what is shown while calls are open.
+//! - `StoreState`: what a store holds, and the limits. `Stores`, `Values`: what contracts say of a name and its value. `Laws`: the law of writes.
+//! - `Stacks`, `FramesState`, `Shown`: the stacks of the pool, what frames hold, and how a name is followed inwards.
+//! - `Inside`, `Kept`: the invariants that read the fields of the code.
+#![tactic(auto)]
+
+mod args;
+mod arguments;
+mod arrays;
+mod cell;
+mod frames;
+pub mod laws;
+mod limit;
+mod moves;
+mod stack_view;
+mod stacks;
+mod store;
+mod value;
+mod writes;
+
+pub use crate::args::Args;
+pub use crate::cell::Kind;
+pub use crate::limit::CALL_LIMIT;
+pub use crate::stack_view::StackView;
+pub use crate::store::Store;
+pub use crate::value::ValueView;
+pub use crate::writes::Tally;
