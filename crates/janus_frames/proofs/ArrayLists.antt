@@ -1,5 +1,5 @@
 -- Arrays as the lists of their elements.
-use Rattle.std.proofs.Common.{◌≡◌, ◌≢◌, ℕ, zero, suc, ◌+◌, ◌<◌, ℤ, List, [], ◌∷◌, ◌++◌, length, map, take, set, get_or, refl, ap, ◌∙◌, sym, arith}
+use Rattle.std.proofs.Common.{◌≡◌, ℕ, zero, suc, ◌<◌, ℤ, List, [], ◌∷◌, ◌++◌, length, map, take, set, get_or, refl, ap, sym, arith}
 use Rattle.std.specs.Global.{Vec}
 use Rattle.janus_frames.specs.Lists.{list_of}
 

@@ -5,11 +5,11 @@ use Rattle.janus_meaning.specs.Fault.{Fine}
 use Rattle.janus_meaning.specs.Store.{Val, Lent, Store, pull, fill, bind, unbind}
 use Rattle.janus_meaning.proofs.Results.{fine_inj}
 use Rattle.janus_slots.specs.Slots.{slot}
-use Rattle.janus_frames.specs.Cells.{stored, has, AreApart, AreBelow, lending, IsPresent, parameters, down, cell_at, lent_cell, Heap, val_of, value_at, from}
+use Rattle.janus_frames.specs.Cells.{stored, has, AreApart, AreBelow, IsPresent, parameters, cell_at, lent_cell, Heap, val_of, value_at, from}
 use Rattle.janus_frames.specs.Inside.{AreLent}
 use Rattle.janus_frames.specs.declared.cell.Cell.{Cell}
 use Rattle.janus_frames.proofs.Among.{equal, below-at}
-use Rattle.janus_frames.proofs.Stored.{stored-same, pull-all, bind-all, unbind-all, moved-down, fill-all, ArePresent}
+use Rattle.janus_frames.proofs.Stored.{stored-same, pull-all, bind-all, unbind-all, moved-down, fill-all, ArePresent, lending, down}
 
 -- what `lend` does to cells
 pub record AreMoved (cs ds : List Cell) (base top : ℕ) (xs : List ℕ) : Type 0 where

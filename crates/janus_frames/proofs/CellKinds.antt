@@ -1,9 +1,9 @@
 -- Which cells have which values, and what a change to an array or a stack leaves.
-use Rattle.std.proofs.Common.{◌≡◌, ◌≢◌, ℕ, zero, suc, ◌+◌, ◌<◌, ℤ, pos, List, [], ◌∷◌, ◌++◌, length, set, take, get_or, refl, ap, ◌∙◌, sym, subst}
+use Rattle.std.proofs.Common.{◌≡◌, ◌≢◌, ℕ, zero, suc, ◌<◌, ℤ, pos, List, [], ◌∷◌, ◌++◌, length, set, take, get_or, refl, ap, ◌∙◌, subst}
 use Rattle.std.proofs.Common.{arith, get_or-set_other, get_or-set_same}
 use Rattle.cell_pool.specs.Chains.{times}
 use Rattle.janus_meaning.specs.Limit.{live_stack_limit}
-use Rattle.janus_meaning.specs.Store.{Val, Num, Arr, Stk, Lent}
+use Rattle.janus_meaning.specs.Store.{Val, Num, Arr, Stk}
 use Rattle.janus_frames.specs.Cells.{Heap, val_as, val_of, value_at, cell_at, no_cell, index_of, IsFit, IsOnce, IsPresent}
 use Rattle.janus_frames.specs.Lists.{list_of}
 use Rattle.janus_frames.specs.Values.{kind_of}

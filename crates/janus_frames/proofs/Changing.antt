@@ -1,15 +1,13 @@
 -- A name in sight of frames has another number, another element, or one value more or fewer on its stack.
-use Rattle.std.proofs.Common.{◌≡◌, ◌≢◌, ℕ, ℤ, suc, ◌+◌, ◌-◌, ◌<◌, ◌≤◌, pos, List, [], ◌∷◌, length, set, get_or, refl, ap, ◌∙◌, sym, subst, arith}
+use Rattle.std.proofs.Common.{◌≡◌, ◌≢◌, ℕ, ℤ, suc, ◌+◌, ◌-◌, ◌<◌, pos, List, [], ◌∷◌, length, set, refl, ap, ◌∙◌, sym, subst, arith}
 use Rattle.std.proofs.Common.{get_or-set_same, get_or-set_other, length-set, Bool, true, false, nat_eq, zero, negsuc}
 use Rattle.std.specs.Prelude.{reverse, vec_capacity}
-use Rattle.cell_pool.specs.Chains.{times}
 use Rattle.janus_meaning.specs.Fault.{Fine}
-use Rattle.janus_meaning.specs.Store.{Val, Num, Arr, Stk, look, cleared, cleared_val, zeros, set_element, set_nth, held_by}
+use Rattle.janus_meaning.specs.Store.{Val, Num, Arr, Stk, look, cleared_val, zeros, set_element, set_nth, held_by}
 use Rattle.janus_slots.specs.Slots.{slot}
-use Rattle.janus_frames.specs.Cells.{stored, IsPresent, from, cell_at, value_at, val_of, index_of, Heap, AreOwned, no_cell}
-use Rattle.janus_frames.specs.Lists.{list_of}
-use Rattle.janus_frames.specs.FramesState.{FramesState, HasShape}
-use Rattle.janus_frames.specs.Inside.{IsKept, frames_of, heap_of, AreFrames, AreCounted, state_at, callers_of}
+use Rattle.janus_frames.specs.Cells.{stored, IsPresent, from, cell_at, value_at, val_of, index_of, AreOwned, no_cell}
+use Rattle.janus_frames.specs.FramesState.{HasShape}
+use Rattle.janus_frames.specs.Inside.{IsKept, frames_of, heap_of, AreFrames, AreCounted, state_at}
 use Rattle.janus_frames.specs.Stacks.{total}
 use Rattle.janus_frames.specs.Stores.{write}
 use Rattle.janus_frames.specs.declared.cell.Cell.{Cell}

@@ -1,8 +1,8 @@
 -- The stacks that live and what they hold are counted, as names change, come and go, and as calls are entered and left.
-use Rattle.std.proofs.Common.{◌≡◌, ◌≢◌, ℕ, ℤ, suc, ◌+◌, ◌-◌, ◌<◌, ◌≤◌, List, [], ◌∷◌, length, refl, ap, ◌∙◌, sym, subst, arith}
+use Rattle.std.proofs.Common.{◌≡◌, ◌≢◌, ℕ, ℤ, ◌+◌, ◌-◌, ◌<◌, List, ◌∷◌, length, refl, ap, ◌∙◌, sym, arith}
 use Rattle.janus_meaning.specs.Fault.{Fine}
 use Rattle.janus_meaning.specs.Syntax.{Name}
-use Rattle.janus_meaning.specs.Store.{Val, Lent, Store, Slot, take, unbind, total, held_by, held_in}
+use Rattle.janus_meaning.specs.Store.{Val, Lent, Store, Slot, unbind, total, held_by, held_in}
 use Rattle.janus_meaning.specs.World.{stacks_in}
 use Rattle.janus_meaning.proofs.Results.{fine_inj}
 use Rattle.janus_slots.specs.Slots.{slot}

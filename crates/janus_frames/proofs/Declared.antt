@@ -1,10 +1,10 @@
 -- What is shown of a store: the declared names, with the values that are found inwards.
-use Rattle.std.proofs.Common.{◌≡◌, ℕ, ◌<◌, ◌≤◌, List, [], length, refl, ap, ◌∙◌, sym, subst, arith}
+use Rattle.std.proofs.Common.{◌≡◌, ℕ, ◌<◌, ◌≤◌, List, [], ap, ◌∙◌, sym, subst, arith}
 use Rattle.std.specs.Prelude.{reverse, slice_get, Some}
 use Rattle.std.proofs.lemmas.Option.{slice_get_within}
 use Rattle.janus_meaning.specs.Fault.{Fine, Bad, Broken}
 use Rattle.janus_meaning.specs.Syntax.{Name}
-use Rattle.janus_meaning.specs.Store.{Val, Num, Arr, Stk, Lent, Store, look, read_slot}
+use Rattle.janus_meaning.specs.Store.{Val, Store, look}
 use Rattle.janus_meaning.specs.World.{size_of, oldest, listed}
 use Rattle.janus_meaning.proofs.Results.{fine_inj}
 use Rattle.janus_meaning.proofs.Worlds.{oldest_whole}
@@ -13,12 +13,12 @@ use Rattle.janus_slots.specs.Slots.{slot, names_in, in_slots, under_names}
 use Rattle.janus_frames.specs.Calls.{Caller, given_back}
 use Rattle.janus_frames.specs.Cells.{stored, IsPresent}
 use Rattle.janus_frames.specs.FramesState.{FramesState}
-use Rattle.janus_frames.specs.Kept.{AreHeld, outer_size}
+use Rattle.janus_frames.specs.Kept.{AreHeld}
 use Rattle.janus_frames.specs.StoreState.{StoreState, IsWhole, declared_store, state_of}
 use Rattle.janus_frames.proofs.Following.{oldest-stored}
 use Rattle.janus_frames.proofs.Reading.{size-stored, look-there, read-present}
 use Rattle.janus_frames.proofs.Sizes.{outer-is}
-use Rattle.janus_frames.proofs.Texts.{shown-look, shown-none, shown-listed, shown-size, shown-names, shown-slots, stored-slots, listed-at}
+use Rattle.janus_frames.proofs.Texts.{shown-look, shown-none, shown-listed, shown-size, shown-names, shown-slots, stored-slots}
 
 module _ (fr : FramesState) (d : ℕ) (ts : List Name) (h : AreHeld fr d ts) (f : ℕ → Val) (n : ℕ) (e : given_back fr.slots fr.callers ≡ stored f n)
     (p : (k : ℕ) → k < n → IsPresent (f k)) where

@@ -5,16 +5,16 @@ use Rattle.std.specs.Prelude.{reverse}
 use Rattle.std.proofs.lemmas.List.{reverse-append, reverse-reverse}
 use Rattle.std.proofs.lemmas.Bool.{ne_eqb}
 use Rattle.janus_meaning.specs.Fault.{Fine, or_else}
-use Rattle.janus_meaning.specs.Store.{Val, Lent, Store, values_in, fill}
-use Rattle.janus_meaning.specs.World.{size_of, dropped, oldest}
+use Rattle.janus_meaning.specs.Store.{Val, values_in, fill}
+use Rattle.janus_meaning.specs.World.{dropped, oldest}
 use Rattle.janus_slots.specs.Slots.{slot}
 use Rattle.janus_frames.specs.Calls.{slots_of, names_of, returned, given_back}
-use Rattle.janus_frames.specs.Cells.{has, AreApart, AreBelow, from, stored, down, IsPresent}
+use Rattle.janus_frames.specs.Cells.{has, AreApart, from, stored, IsPresent}
 use Rattle.janus_frames.specs.Inside.{AreNested, AreLent, callers_of}
 use Rattle.janus_frames.specs.Shown.{place_in, given, through, outer_count, AreLow}
 use Rattle.janus_frames.specs.declared.frames.OpenCall.{OpenCall}
 use Rattle.janus_frames.proofs.Among.{equal, has-at, below-at}
-use Rattle.janus_frames.proofs.Stored.{fill-all}
+use Rattle.janus_frames.proofs.Stored.{fill-all, down}
 use Rattle.janus_frames.proofs.Reading.{size-stored}
 use Rattle.janus_frames.proofs.Calling.{as-many, down-at, down-length, has-some}
 

@@ -1,13 +1,13 @@
 -- Frames of cells: what stays as values change, and as a name comes or goes.
-use Rattle.std.proofs.Common.{◌≡◌, ◌≢◌, ℕ, zero, suc, ◌+◌, ◌-◌, ◌<◌, ◌≤◌, Bool, true, false, nat_eq, List, [], ◌∷◌, length, map, refl, ap, ◌∙◌, sym}
+use Rattle.std.proofs.Common.{◌≡◌, ◌≢◌, ℕ, zero, suc, ◌+◌, ◌-◌, ◌<◌, ◌≤◌, Bool, true, false, nat_eq, List, [], ◌∷◌, length, refl, ap, ◌∙◌, sym}
 use Rattle.std.proofs.Common.{subst, arith}
 use Rattle.janus_meaning.specs.Fault.{Fine}
 use Rattle.janus_meaning.specs.World.{size_of}
-use Rattle.janus_meaning.specs.Store.{Val, Store, Bare, Slot, look, cleared, cleared_val}
+use Rattle.janus_meaning.specs.Store.{Val, Store, Slot, cleared, cleared_val}
 use Rattle.janus_slots.specs.Slots.{slot}
-use Rattle.janus_frames.specs.Cells.{stored, has, IsPresent, from}
+use Rattle.janus_frames.specs.Cells.{stored, IsPresent, from}
 use Rattle.janus_frames.specs.Calls.{names_lent, names_of, slots_of}
-use Rattle.janus_frames.specs.Inside.{callers_of, AreNested, AreLent, AreFrames}
+use Rattle.janus_frames.specs.Inside.{callers_of, AreNested, AreFrames}
 use Rattle.janus_frames.specs.Stores.{write}
 use Rattle.janus_frames.specs.declared.frames.OpenCall.{OpenCall}
 use Rattle.janus_frames.proofs.Among.{not-equal, equal}

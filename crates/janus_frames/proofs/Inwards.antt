@@ -1,14 +1,14 @@
 -- The place that a name of the outermost frame is followed to.
-use Rattle.std.proofs.Common.{◌≡◌, ℕ, zero, suc, ◌+◌, ◌-◌, ◌<◌, ◌≤◌, Bool, true, false, nat_lt, ltb, List, [], ◌∷◌, refl, ap, ◌∙◌, sym, subst, arith, cond}
+use Rattle.std.proofs.Common.{◌≡◌, ℕ, ◌+◌, ◌-◌, ◌<◌, ◌≤◌, Bool, true, false, ltb, List, refl, ap, ◌∙◌, subst, arith, cond}
 use Rattle.std.specs.Prelude.{reverse}
 use Rattle.std.proofs.lemmas.Bool.{ltb-true, ltb-false}
 use Rattle.janus_meaning.specs.Fault.{Fine}
-use Rattle.janus_meaning.specs.Store.{Val, Num, Arr, Stk, Lent, look}
+use Rattle.janus_meaning.specs.Store.{Val, Lent, look}
 use Rattle.janus_meaning.specs.World.{size_of}
 use Rattle.janus_slots.specs.Slots.{slot}
 use Rattle.janus_frames.specs.Calls.{given_back}
 use Rattle.janus_frames.specs.Cells.{from, value_at, stored, IsPresent}
-use Rattle.janus_frames.specs.Inside.{IsKept, heap_of, frames_of, AreFrames, AreNested, callers_of}
+use Rattle.janus_frames.specs.Inside.{IsKept, heap_of, frames_of, AreNested}
 use Rattle.janus_frames.specs.Shown.{through, outer_count}
 use Rattle.janus_frames.specs.declared.frames.Frames.TheInside.{Inside}
 use Rattle.janus_frames.specs.declared.frames.OpenCall.{OpenCall}

@@ -1,11 +1,9 @@
 -- Frames as a call is left, and as one is entered.
-use Rattle.std.proofs.Common.{◌≡◌, ◌≢◌, ℕ, ℤ, suc, zero, ◌+◌, ◌-◌, ◌<◌, ◌≤◌, List, [], ◌∷◌, length, map, get_or, refl, ap, ◌∙◌, sym, subst, arith, cond}
+use Rattle.std.proofs.Common.{◌≡◌, ℕ, ℤ, ◌+◌, ◌-◌, ◌<◌, ◌≤◌, List, ◌∷◌, length, get_or, refl, ap, ◌∙◌, sym, subst, arith, cond}
 use Rattle.janus_meaning.specs.Fault.{Fine}
-use Rattle.janus_meaning.specs.Store.{Val, Store, pull, bind, unbind, fill}
-use Rattle.janus_slots.specs.Slots.{slot}
-use Rattle.janus_frames.specs.Cells.{stored, IsPresent, from, cell_at, value_at, Heap, AreOwned, AreBelow, AreApart, has, lent_cell, parameters, down}
-use Rattle.janus_frames.specs.Calls.{Caller, CanLend, Enters, Returns, names_of, slots_of}
-use Rattle.janus_frames.specs.FramesState.{FramesState}
+use Rattle.janus_meaning.specs.Store.{Val, Store, pull, unbind, fill}
+use Rattle.janus_frames.specs.Cells.{stored, IsPresent, from, cell_at, value_at, Heap, AreOwned, AreBelow, AreApart, has, lent_cell, parameters}
+use Rattle.janus_frames.specs.Calls.{Enters, Returns, names_of, slots_of}
 use Rattle.janus_frames.specs.Inside.{AreFrames, AreCounted, AreNested, AreLent, state_at, callers_of}
 use Rattle.janus_frames.specs.declared.cell.Cell.{Cell}
 use Rattle.janus_frames.specs.declared.frames.OpenCall.{OpenCall}
@@ -15,7 +13,7 @@ use Rattle.janus_frames.proofs.Counted.{counted-entered, counted-left}
 use Rattle.janus_frames.proofs.Holding.{nested-same, callers-same, enough}
 use Rattle.janus_frames.proofs.Owned.{moved-owned, given-owned}
 use Rattle.janus_frames.proofs.Reading.{can-lend}
-use Rattle.janus_frames.proofs.Stored.{unbind-all, ArePresent}
+use Rattle.janus_frames.proofs.Stored.{unbind-all, ArePresent, down}
 
 -- ---- a call is left
 

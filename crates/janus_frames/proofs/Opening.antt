@@ -1,16 +1,15 @@
 -- A name more in sight of frames, and one fewer.
-use Rattle.std.proofs.Common.{◌≡◌, ◌≢◌, ℕ, ℤ, suc, zero, ◌+◌, ◌-◌, ◌<◌, ◌≤◌, pos, List, [], ◌∷◌, ◌++◌, length, get_or, refl, ap, ◌∙◌, sym, subst}
+use Rattle.std.proofs.Common.{◌≡◌, ℕ, ◌+◌, ◌-◌, ◌<◌, List, [], ◌∷◌, ◌++◌, length, refl, ap, ◌∙◌, sym, subst}
 use Rattle.std.proofs.Common.{arith, length-append}
 use Rattle.std.specs.Prelude.{reverse, vec_capacity}
-use Rattle.janus_meaning.specs.Limit.{live_stack_limit}
 use Rattle.janus_meaning.specs.Syntax.{Name}
 use Rattle.janus_meaning.specs.Store.{Val, Num, Arr, Stk, Lent, Store, Slot, cleared_val, held_by}
 use Rattle.janus_meaning.specs.World.{size_of}
 use Rattle.janus_slots.specs.Slots.{slot}
-use Rattle.janus_frames.specs.Cells.{stored, IsPresent, from, cell_at, value_at, val_as, val_of, index_of, Heap, AreOwned, IsFit, stack_in}
+use Rattle.janus_frames.specs.Cells.{stored, IsPresent, from, cell_at, value_at, val_as, index_of, Heap, AreOwned, stack_in}
 use Rattle.janus_frames.specs.Lists.{list_of}
-use Rattle.janus_frames.specs.Calls.{Caller, own_names, names_of, slots_of}
-use Rattle.janus_frames.specs.FramesState.{FramesState, with_names, stacks_there}
+use Rattle.janus_frames.specs.Calls.{Caller, own_names, slots_of}
+use Rattle.janus_frames.specs.FramesState.{FramesState, with_names}
 use Rattle.janus_frames.specs.Inside.{IsKept, frames_of, heap_of, AreFrames, AreCounted, state_at, callers_of}
 use Rattle.janus_frames.specs.declared.cell.Cell.{Cell}
 use Rattle.janus_frames.specs.declared.cell.Kind.{Kind}
@@ -20,9 +19,8 @@ use Rattle.janus_frames.specs.declared.frames.OpenCall.{OpenCall}
 use Rattle.janus_frames.proofs.Calling.{as-many}
 use Rattle.janus_frames.proofs.Counted.{counted-more, counted-fewer}
 use Rattle.janus_frames.proofs.Holding.{opened, opened-callers, opened-slots, closed, closed-callers, closed-slots, IsEnough}
-use Rattle.janus_frames.proofs.CellKinds.{same-held}
 use Rattle.janus_frames.proofs.Owned.{Known, Stays, Plain, Next, Among, Last, next, known-owned}
-use Rattle.janus_frames.proofs.Sight.{all-names, in-sight}
+use Rattle.janus_frames.proofs.Sight.{in-sight}
 use Rattle.janus_frames.proofs.Totals.{one_stack}
 
 pub same-frames : (s t : Store) (cs ds : List Caller) (n m : ℕ) → s ≡ t → cs ≡ ds → n ≡ m

@@ -1,5 +1,5 @@
 -- A name in sight of frames: where its cell is, and what that holds.
-use Rattle.std.proofs.Common.{◌≡◌, ◌≢◌, ℕ, ℤ, suc, ◌+◌, ◌-◌, ◌<◌, ◌≤◌, pos, List, [], ◌∷◌, length, get_or, refl, ap, ◌∙◌, sym, subst, arith}
+use Rattle.std.proofs.Common.{◌≡◌, ℕ, ℤ, ◌+◌, ◌-◌, ◌<◌, pos, List, length, get_or, ◌∙◌, arith}
 use Rattle.std.specs.Prelude.{reverse}
 use Rattle.cell_pool.specs.Chains.{times}
 use Rattle.janus_meaning.specs.Fault.{Fine}
@@ -7,10 +7,10 @@ use Rattle.janus_meaning.specs.Limit.{live_stack_limit}
 use Rattle.janus_meaning.specs.Store.{Val, Num, Arr, Stk, look}
 use Rattle.janus_meaning.specs.World.{size_of}
 use Rattle.janus_slots.specs.Slots.{slot}
-use Rattle.janus_frames.specs.Cells.{stored, IsPresent, from, cell_at, value_at, index_of, no_cell}
+use Rattle.janus_frames.specs.Cells.{from, cell_at, value_at, index_of, no_cell}
 use Rattle.janus_frames.specs.Lists.{list_of}
-use Rattle.janus_frames.specs.FramesState.{FramesState, names_there}
-use Rattle.janus_frames.specs.Inside.{IsKept, frames_of, heap_of, AreFrames}
+use Rattle.janus_frames.specs.FramesState.{names_there}
+use Rattle.janus_frames.specs.Inside.{IsKept, frames_of, heap_of}
 use Rattle.janus_frames.specs.declared.cell.Cell.{Cell}
 use Rattle.janus_frames.specs.declared.cell.Kind.TheVariants as kinds
 use Rattle.janus_frames.specs.declared.frames.Frames.TheInside.{Inside}

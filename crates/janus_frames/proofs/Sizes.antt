@@ -1,23 +1,23 @@
 -- The invariant of a store as its frames change.
-use Rattle.std.proofs.Common.{◌≡◌, ℕ, zero, suc, ◌+◌, ◌-◌, ◌*◌, ◌<◌, ◌≤◌, List, [], ◌∷◌, ◌++◌, length, map, take as front, length-append, refl, ap, ◌∙◌, sym}
+use Rattle.std.proofs.Common.{◌≡◌, ℕ, suc, ◌+◌, ◌-◌, ◌*◌, ◌<◌, ◌≤◌, List, [], ◌∷◌, ◌++◌, length, take as front, length-append, refl, ap, ◌∙◌, sym}
 use Rattle.std.proofs.Common.{subst, arith, Bool, true, false}
 use Rattle.std.proofs.lemmas.List.{length-take-le}
 use Rattle.janus_meaning.specs.Fault.{Res, Fine, Bad, and_then, or_else}
 use Rattle.janus_meaning.specs.Syntax.{Name}
 use Rattle.janus_meaning.specs.Store.{Val, Num, Arr, Stk, Lent, Store, Bare, Slot, same_name, take, take_at, take_slot, pull, bind, fill, unbind}
-use Rattle.janus_meaning.specs.Store.{values_in, cleared}
+use Rattle.janus_meaning.specs.Store.{values_in}
 use Rattle.janus_meaning.specs.World.{size_of, oldest}
 use Rattle.janus_meaning.proofs.Cleared.{same_size}
 use Rattle.janus_meaning.proofs.Results.{with_parts, by_fine}
 use Rattle.janus_meaning.proofs.Stores.{fill-pull}
 use Rattle.janus_names.specs.Numbers.{HaveOneNumber}
 use Rattle.janus_frames.specs.Calls.{Caller, CanLend, Enters, Returns, AreAlone, returned, given_back, names_lent, params_bound, own_names, AreShort}
-use Rattle.janus_frames.specs.Cells.{parameters, stored, down}
+use Rattle.janus_frames.specs.Cells.{parameters, stored}
 use Rattle.janus_frames.specs.FramesState.{FramesState, HasShape, names_there, with_names}
 use Rattle.janus_frames.specs.Kept.{AreHeld, outer_size}
 use Rattle.janus_frames.specs.StoreState.{local_limit, call_limit, bound_limit}
 use Rattle.janus_frames.proofs.Reading.{size-stored}
-use Rattle.janus_frames.proofs.Stored.{unbind-all}
+use Rattle.janus_frames.proofs.Stored.{unbind-all, down}
 
 -- ---- sizes
 

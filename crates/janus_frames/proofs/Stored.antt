@@ -8,8 +8,17 @@ use Rattle.janus_meaning.specs.Store as store
 use Rattle.janus_meaning.specs.Store.{Val, Num, Arr, Stk, Lent, Store, Bare, Slot, same_name, look, look_at, read_slot, take_slot, take_at}
 use Rattle.janus_meaning.specs.Store.{put_slot, put_at, put, pull, fill, bind, unbind}
 use Rattle.janus_slots.specs.Slots.{slot}
-use Rattle.janus_frames.specs.Cells.{stored, has, AreApart, AreBelow, lending, IsPresent, parameters, down}
+use Rattle.janus_frames.specs.Cells.{stored, has, AreApart, AreBelow, IsPresent, parameters}
 use Rattle.janus_frames.proofs.Among.{not-equal, equal, or_false, has-at}
+
+-- the values of n names, from the newest on
+abbrev pub down : (ℕ → Val) → ℕ → List Val
+down f zero = []
+down f (suc n) = f n ∷ down f n
+
+-- these values, of which some are lent
+abbrev pub lending : List ℕ → (ℕ → Val) → ℕ → Val
+lending xs f k = cond (has xs k) Lent (f k)
 
 -- only the values of its names matter
 pub stored-same : (f g : ℕ → Val) (n : ℕ) → ((k : ℕ) → k < n → f k ≡ g k) → stored f n ≡ stored g n

@@ -1,10 +1,10 @@
 -- Stores of slots under the texts of declared names.
-use Rattle.std.proofs.Common.{◌≡◌, ℕ, zero, suc, ◌+◌, ◌<◌, ◌≤◌, Bool, true, false, List, [], ◌∷◌, ◌++◌, length, refl, ap, ◌∙◌, sym, subst, arith}
+use Rattle.std.proofs.Common.{◌≡◌, ℕ, zero, suc, ◌<◌, Bool, true, false, List, [], ◌∷◌, ◌++◌, length, refl, ap, ◌∙◌, sym, subst, arith}
 use Rattle.std.proofs.Common.{⊎_elim, ◌⊎◌, inl, inr, length-append}
 use Rattle.std.specs.Prelude.{slice_get, reverse, Some, None}
 use Rattle.std.proofs.lemmas.List.{reverse-append, reverse-reverse, length-reverse}
-use Rattle.std.proofs.lemmas.Option.{slice_get_past, slice_get_within}
-use Rattle.janus_meaning.specs.Fault.{Res, Fine, Bad, Broken}
+use Rattle.std.proofs.lemmas.Option.{slice_get_past}
+use Rattle.janus_meaning.specs.Fault.{Res, Bad, Broken}
 use Rattle.janus_meaning.specs.Syntax.{Name}
 use Rattle.janus_meaning.specs.Store.{Val, Store, Bare, Slot, look, look_at, read_slot, same_name}
 use Rattle.janus_meaning.specs.World.{size_of, listed}

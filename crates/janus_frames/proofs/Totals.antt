@@ -1,11 +1,11 @@
 -- What is counted of all names: as one value changes, and as a call is entered and left.
-use Rattle.std.proofs.Common.{◌≡◌, ℕ, zero, suc, ◌+◌, List, [], ◌∷◌, length, refl, ap, ◌∙◌, sym, arith}
+use Rattle.std.proofs.Common.{◌≡◌, ℕ, zero, ◌+◌, List, [], ◌∷◌, length, refl, ap, ◌∙◌, arith}
 use Rattle.janus_meaning.specs.Fault.{Fine}
 use Rattle.janus_meaning.specs.Syntax.{Name}
-use Rattle.janus_meaning.specs.Store.{Val, Num, Arr, Stk, Lent, Store, Bare, Slot, take, put, pull, unbind, total, held_by}
+use Rattle.janus_meaning.specs.Store.{Val, Num, Arr, Stk, Lent, Store, Bare, Slot, take, put, unbind, total, held_by}
 use Rattle.janus_meaning.specs.World.{stacks_in, stacks_with}
 use Rattle.janus_meaning.proofs.Results.{after}
-use Rattle.janus_meaning.proofs.Stores.{take_total, put_total, pull_total, fill_total, bind_total, unbind_total, total_of}
+use Rattle.janus_meaning.proofs.Stores.{take_total, put_total, pull_total, fill_total, bind_total, unbind_total}
 use Rattle.janus_frames.specs.Cells.{parameters}
 use Rattle.janus_frames.specs.Calls.{Caller, CanLend, Enters, Returns, stacks_lent, values_lent}
 use Rattle.janus_frames.specs.FramesState.{FramesState, stacks_there, values_there}

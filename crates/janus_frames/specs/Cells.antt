@@ -1,5 +1,5 @@
 -- Names in sight as cells of one frame: the k-th of them, the oldest being 0, has the slot k.
-use Rattle.std.specs.Prelude.{◌≡◌, ℕ, zero, suc, ◌+◌, ◌<◌, ◌≤◌, List, [], ◌∷◌, cond, Bool, true, false, ◌||◌, nat_eq, nat_abs, slice_index_or, pos, ℤ}
+use Rattle.std.specs.Prelude.{◌≡◌, ℕ, zero, suc, ◌+◌, ◌<◌, ◌≤◌, List, [], ◌∷◌, Bool, false, ◌||◌, nat_eq, nat_abs, slice_index_or, pos, ℤ}
 use Rattle.cell_pool.specs.Chains.{times}
 use Rattle.janus_meaning.specs.Limit.{live_stack_limit}
 use Rattle.janus_meaning.specs.Syntax.{Name}
@@ -21,11 +21,6 @@ stored f (suc n) = Slot (slot n) (f n) (stored f n)
 abbrev pub parameters : ℕ → List Name
 parameters zero = []
 parameters (suc n) = slot n ∷ parameters n
-
--- the values of n names, from the newest on
-abbrev pub down : (ℕ → Val) → ℕ → List Val
-down f zero = []
-down f (suc n) = f n ∷ down f n
 
 -- a value that is not lent
 abbrev pub IsPresent : Val → Type 0
@@ -50,10 +45,6 @@ AreApart (a ∷ xs) = (has xs a ≡ false) × AreApart xs
 abbrev pub AreBelow : ℕ → List ℕ → Type 0
 AreBelow n [] = Unit {0}
 AreBelow n (a ∷ xs) = (a < n) × AreBelow n xs
-
--- these values, of which some are lent
-abbrev pub lending : List ℕ → (ℕ → Val) → ℕ → Val
-lending xs f k = cond (has xs k) Lent (f k)
 
 -- ---- cells
 

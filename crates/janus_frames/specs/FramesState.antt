@@ -1,5 +1,5 @@
 -- What frames of cells hold: the names in sight with their values, and the open calls around them.
-use Rattle.std.specs.Prelude.{◌≡◌, ◌+◌, ℕ, List, [], length, refl}
+use Rattle.std.specs.Prelude.{◌≡◌, ◌+◌, ℕ, List, [], refl}
 use Rattle.std.specs.Coded.{Coded, code_by, coded×, coded_list, coded_ℕ}
 use Rattle.janus_meaning.specs.Codes.{store_code}
 use Rattle.janus_meaning.specs.Store.{Store, Bare, cleared, held_in}

@@ -7,7 +7,6 @@ use Rattle.janus_frames.specs.Calls.{Caller, slots_of, names_of}
 use Rattle.janus_frames.specs.FramesState.{FramesState, stacks_there, values_there}
 use Rattle.janus_frames.specs.Stacks.{total}
 use Rattle.janus_frames.specs.declared.limit.TheConstants.{CALL_LIMIT}
-use Rattle.janus_frames.specs.declared.cell.Cell.{Cell}
 use Rattle.janus_frames.specs.declared.frames.OpenCall.{OpenCall}
 use Rattle.janus_frames.specs.declared.frames.Frames.TheInside.{Inside}
 

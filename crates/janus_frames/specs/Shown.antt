@@ -1,9 +1,8 @@
 -- Which place a name of the outermost frame is found at while calls are open: its value is followed inwards through their arguments.
 use Rattle.std.specs.Prelude.{◌≡◌, ℕ, suc, ◌+◌, ◌-◌, ◌<◌, List, [], ◌∷◌, length, cond, nat_eq}
 use Rattle.janus_meaning.specs.Store.{Val, Store}
-use Rattle.janus_frames.specs.Calls.{slots_of, given_back}
+use Rattle.janus_frames.specs.Calls.{slots_of}
 use Rattle.janus_frames.specs.Cells.{has, from, stored, IsPresent}
-use Rattle.janus_frames.specs.FramesState.{FramesState}
 use Rattle.janus_frames.specs.declared.frames.OpenCall.{OpenCall}
 
 -- at which place a number stands among others

@@ -1,5 +1,5 @@
 -- How values are seen, and what is read.
-use Rattle.std.specs.Prelude.{◌≡◌, ℤ, pos, [], Option, Some, None}
+use Rattle.std.specs.Prelude.{ℤ, pos, [], Option, Some, None}
 use Rattle.janus_meaning.specs.Fault.{Fault, Res, Fine, Bad, Broken}
 use Rattle.janus_meaning.specs.Store.{Val, Num, Arr, Stk, Lent}
 use Rattle.janus_frames.specs.Stacks.{held}

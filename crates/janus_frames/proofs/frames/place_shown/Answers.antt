@@ -1,7 +1,6 @@
-use Rattle.std.proofs.Common.{◌≡◌, ◌+◌, ◌-◌, ◌<◌, ◌^◌, ℕ, suc, List, [], ◌∷◌, length, drop, get_or, ap, refl, ◌∙◌, sym, subst, arith, true, false}
+use Rattle.std.proofs.Common.{◌≡◌, ◌+◌, ◌^◌, ◌∷◌, length, drop, ap, refl, ◌∙◌, subst, arith, true, false}
 use Rattle.std.proofs.Common.{length-take-le}
 use Rattle.std.specs.Prelude.{reverse}
-use Rattle.janus_meaning.specs.Store.{Val}
 use Rattle.janus_frames.specs.Calls.{slots_of}
 use Rattle.janus_frames.specs.Cells.{from, has}
 use Rattle.janus_frames.specs.Shown.{through, place_in}

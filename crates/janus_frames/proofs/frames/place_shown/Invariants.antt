@@ -1,4 +1,4 @@
-use Rattle.std.proofs.Common.{◌≡◌, ◌<◌, ◌≤◌, ℕ, drop, length, ◌^◌}
+use Rattle.std.proofs.Common.{◌≡◌, ◌<◌, ℕ, drop, ◌^◌}
 use Rattle.std.specs.Prelude.{reverse}
 use Rattle.janus_meaning.specs.Store.{Val}
 use Rattle.janus_frames.specs.Cells.{from}

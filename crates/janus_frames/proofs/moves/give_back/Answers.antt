@@ -1,5 +1,5 @@
-use Rattle.std.proofs.Common.{◌≡◌, ◌≢◌, ◌<◌, ◌+◌, ◌-◌, length, get_or, set, arith, ◌∙◌, ap, length-set, get_or-set_same, get_or-set_other, below_more}
-use Rattle.janus_frames.specs.Cells.{cell_at, no_cell, has}
+use Rattle.std.proofs.Common.{◌≡◌, ◌≢◌, ◌<◌, ◌+◌, ◌-◌, length, get_or, set, arith, ◌∙◌, length-set, get_or-set_same, get_or-set_other, below_more}
+use Rattle.janus_frames.specs.Cells.{cell_at, no_cell}
 use Rattle.janus_frames.proofs.Among.{below-at, not-equal, apart-at, has-less}
 use Rattle.janus_frames.proofs.moves.give_back.Goals as goal
 

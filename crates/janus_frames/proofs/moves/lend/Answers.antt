@@ -1,5 +1,5 @@
-use Rattle.std.proofs.Common.{◌≡◌, ◌<◌, ◌+◌, ◌-◌, length, get_or, set, arith, ◌∙◌, ap, length-set, get_or-set_same, below_more, cond}
-use Rattle.janus_frames.specs.Cells.{cell_at, lent_cell, no_cell, has}
+use Rattle.std.proofs.Common.{◌≡◌, ◌<◌, ◌+◌, ◌-◌, length, get_or, set, arith, ◌∙◌, length-set, get_or-set_same, below_more}
+use Rattle.janus_frames.specs.Cells.{cell_at, lent_cell, no_cell}
 use Rattle.janus_frames.proofs.Among.{below-at}
 use Rattle.janus_frames.proofs.Moving.{elsewhere, lend-frame, as-before}
 use Rattle.janus_frames.proofs.moves.lend.Goals as goal

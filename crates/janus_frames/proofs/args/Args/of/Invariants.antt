@@ -1,4 +1,4 @@
-use Rattle.std.proofs.Common.{◌≡◌, ◌<◌, ◌≤◌, ℕ, length, get_or}
+use Rattle.std.proofs.Common.{◌≡◌, ◌<◌, ℕ, length, get_or}
 use Rattle.janus_frames.proofs.args.Args.of.Given as goal
 
 abbrev pub invariant-loop-i : goal.invariant-loop-i

@@ -1,4 +1,4 @@
-use Rattle.std.proofs.Common.{◌≡◌, ◌<◌, ◌+◌, ℕ, List, ℤ, length, take, ap, ◌∙◌, sym, subst, arith}
+use Rattle.std.proofs.Common.{◌≡◌, ◌<◌, List, ℤ, length, ap, ◌∙◌, sym, subst, arith}
 use Rattle.std.specs.Global.{Vec}
 use Rattle.janus_frames.specs.Lists.{list_of}
 use Rattle.janus_frames.proofs.ArrayLists.{items_in, items-long, items-front}

@@ -1,29 +1,19 @@
-use Rattle.std.proofs.Common.{◌≡◌, ◌+◌, ◌-◌, ◌<◌, ◌≤◌, ℕ, ℤ, List, [], ◌∷◌, ◌++◌, length, take, drop, ap, refl, ◌∙◌, sym, subst, arith, w32, to_z}
-use Rattle.std.proofs.Common.{of_z, pos, length-append}
-use Rattle.std.specs.Prelude.{reverse, vec_capacity}
-use Rattle.std.proofs.lemmas.Int.{to_z-of_z}
-use Rattle.std.proofs.lemmas.List.{reverse-append}
-use Rattle.janus_meaning.specs.Store.{Val, Num, Arr, Stk, Slot, held_by, cleared_val}
+use Rattle.std.proofs.Common.{◌≡◌, ◌<◌, ℕ, [], ◌∷◌, ◌++◌, length, ap, refl, ◌∙◌, arith}
+use Rattle.std.proofs.Common.{pos, length-append}
+use Rattle.std.specs.Prelude.{vec_capacity}
+use Rattle.janus_meaning.specs.Store.{Arr, Slot}
 use Rattle.janus_meaning.specs.World.{size_of}
 use Rattle.janus_slots.specs.Slots.{slot}
-use Rattle.janus_frames.specs.Cells.{cell_at, index_of, value_at, val_as, val_of, from, stored, Heap, AreOwned, IsPresent, stack_in}
-use Rattle.janus_frames.specs.Calls.{AreAlone, Returns, Enters, own_names, slots_of, names_of}
-use Rattle.janus_frames.specs.FramesState.{FramesState, names_there, with_names, stacks_there}
-use Rattle.janus_frames.specs.Inside.{frames_of, heap_of, callers_of, state_at, AreFrames, AreCounted, IsKept}
+use Rattle.janus_frames.specs.Cells.{cell_at, value_at, val_of, Heap}
+use Rattle.janus_frames.specs.FramesState.{FramesState, names_there, with_names}
+use Rattle.janus_frames.specs.Inside.{heap_of}
 use Rattle.janus_frames.specs.Lists.{list_of}
-use Rattle.janus_frames.specs.Stores.{rest_of}
-use Rattle.janus_frames.specs.declared.cell.Cell.{Cell}
 use Rattle.janus_frames.specs.declared.cell.Kind.TheVariants as kinds
-use Rattle.janus_frames.specs.declared.frames.OpenCall.{OpenCall}
-use Rattle.janus_frames.proofs.ArrayLists.{list-front, list-last}
-use Rattle.janus_frames.proofs.Calling.{AreMoved, AreGiven, as-many}
-use Rattle.janus_frames.proofs.CellKinds.{num-kind, in-front, same-held, array-same}
-use Rattle.janus_frames.proofs.Leaving as leaving
+use Rattle.janus_frames.proofs.ArrayLists.{list-last}
+use Rattle.janus_frames.proofs.CellKinds.{array-same}
 use Rattle.janus_frames.proofs.Opening as opening
-use Rattle.janus_frames.proofs.Owned.{Stays, known-owned, stack-low, stack-put, array-put, last-owned}
-use Rattle.janus_frames.proofs.Reading.{size-stored}
-use Rattle.janus_frames.proofs.Sight.{read-cell, in-sight, all-names}
-use Rattle.janus_frames.proofs.Totals.{one_stack}
+use Rattle.janus_frames.proofs.Owned.{array-put}
+use Rattle.janus_frames.proofs.Sight.{all-names}
 use Rattle.janus_frames.proofs.frames.Frames.open_array.Goals as goal
 
 pub put-requires-clause-room : goal.put-requires-clause-room

@@ -1,11 +1,11 @@
-use Rattle.std.proofs.Common.{◌≡◌, ◌+◌, ◌-◌, ◌<◌, ◌≤◌, ℕ, suc, List, [], take, ap, refl, ◌∙◌, sym, subst, arith}
+use Rattle.std.proofs.Common.{◌≡◌, ◌-◌, suc, [], take, ap, ◌∙◌, sym, subst, arith}
 use Rattle.janus_meaning.specs.Store.{Slot}
 use Rattle.janus_meaning.specs.World.{size_of}
-use Rattle.janus_frames.specs.Calls.{Caller, own_names}
+use Rattle.janus_frames.specs.Calls.{own_names}
 use Rattle.janus_frames.specs.FramesState.{FramesState, with_names}
 use Rattle.janus_frames.specs.Kept.{AreHeld}
 use Rattle.janus_frames.specs.Stores.{IsFirstOnTop, rest_of}
-use Rattle.janus_frames.specs.StoreState.{StoreState, state_of}
+use Rattle.janus_frames.specs.StoreState.{StoreState}
 use Rattle.janus_frames.proofs.Declared.{same-state}
 use Rattle.janus_frames.proofs.Sizes as sizes
 use Rattle.janus_frames.proofs.store.Store.retire.Goals as goal
