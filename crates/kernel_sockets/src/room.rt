@@ -118,6 +118,25 @@ fn is_before(sights: &[Sight], sight: Sight, found: Option<usize>) -> bool
     }
 }
 
+/// Who makes room among the places up to this one, where `found` does among those before it.
+fn found_next(
+    sights: &[Sight],
+    place: usize,
+    found: Option<usize>,
+    stays: Stays,
+    now: u64,
+) -> Option<usize>
+    requires inside { place < length sights.now }
+    requires among { MakesRoomAmong stays now sights.now place found }
+    ensures { MakesRoomAmong stays now sights.now (place + 1) result }
+{
+    let sight = sights[place];
+    if sight.may_leave(stays, now) && is_before(sights, sight, found) {
+        return Some(place);
+    }
+    found
+}
+
 /// Who makes room at these places: of the connections whose time is over the one that leaves first. One whose handshake is not over goes before a stranger
 /// that is ready, and a stranger before who showed the key; of one class the one that has been silent longest goes. Who showed the key stays while a
 /// request is under way, and `stays.owner` milliseconds from then on. None where none has to. So one that came just now has its time, and no
@@ -131,10 +150,7 @@ pub fn who_makes_room(sights: &[Sight], stays: Stays, now: u64) -> Option<usize>
 {
     let mut found: Option<usize> = None;
     for place in 0..sights.len() {
-        let sight = sights[place];
-        if sight.may_leave(stays, now) && is_before(sights, sight, found) {
-            found = Some(place);
-        }
+        found = found_next(sights, place, found, stays, now);
     }
     found
 }
