@@ -29,6 +29,7 @@ pub mod laws;
 mod message;
 mod request;
 mod send;
+mod sendable;
 mod socket;
 mod talk;
 
