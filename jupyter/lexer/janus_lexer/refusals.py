@@ -1,4 +1,4 @@
-"""What each refusal and fault asks for. Made by jupyter/refusals from the tables of docs/GUIDE.md: change it there."""
+"""What each refusal and fault asks for. Made by jupyter/refusals from the tables of docs/MESSAGES.md: change it there."""
 
 REFUSALS = {
     30: ('BadToken',
