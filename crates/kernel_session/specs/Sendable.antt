@@ -8,7 +8,7 @@ abbrev pub size_of : Octets → ℕ
 size_of m = sum_by length m.identities + 73 + length m.header + length m.parent + length m.metadata + length m.content + sum_by length m.buffers
 
 -- the content of a reply that stands in the place of one past 16 MiB
-pub too_long_content : List ℕ
+abbrev pub too_long_content : List ℕ
 too_long_content =
     codes "{\"ename\":\"TooLong\",\"evalue\":\"reply past 16777216 octets\",\"status\":\"error\",\"traceback\":[\"reply past 16777216 octets\"]}"
 

@@ -1,5 +1,5 @@
 //! Replies that a reader takes.
-ghost use Rattle.std.specs.Prelude.{◌≡◌, ◌+◌, ◌^◌, IfOk, IfErr, length, min, nat_lt, sum_by};
+ghost use Rattle.std.specs.Prelude.{◌≡◌, ◌+◌, ◌<◌, IfOk, IfErr, IfSome, IfNone, length, sum_by};
 ghost use Rattle.jupyter_msg.specs.Octets.{octets, octets_of};
 ghost use Rattle.zmtp_wire.specs.Tally.{octet_limit};
 ghost use Rattle.kernel_session.specs.Ends.{IsMidway};
@@ -17,41 +17,46 @@ const TOO_LONG: &[u8] =
 /// The octets of a message's delimiter and of its signature.
 const DELIMITER_AND_SIGNATURE: u64 = 73;
 
-/// The octets of frames together, up to the greatest number.
-fn octets_in(frames: &[Vec<u8>]) -> u64
-    ensures { result ≡ min (sum_by length (octets frames.now)) (2 ^ 64 - 1) }
+/// How much of `most` is left beside the octets of frames; none where they have more.
+fn octets_within(frames: &[Vec<u8>], most: u64) -> Option<u64>
+    ensures some { IfSome result (λ left. left + sum_by length (octets frames.now) ≡ most) }
+    ensures none { IfNone result (most < sum_by length (octets frames.now)) }
 {
-    let mut sum: u64 = 0;
+    let mut left = most;
     for frame in frames {
-        sum = sum.saturating_add(frame.len() as u64);
+        let count = frame.len() as u64;
+        if count > left {
+            return None;
+        }
+        left -= count;
     }
-    sum
+    Some(left)
 }
 
-/// Whether a message is longer than any reader takes.
-fn is_too_long(message: &Message) -> bool
-    ensures { result ≡ nat_lt octet_limit (size_of (octets_of message.now)) }
+/// How much of what a reader takes is left beside a message; none where it is longer.
+fn room_beside(message: &Message) -> Option<u64>
+    ensures some { IfSome result (λ left. left + size_of (octets_of message.now) ≡ octet_limit) }
+    ensures none { IfNone result (octet_limit < size_of (octets_of message.now)) }
 {
-    let size = octets_in(&message.identities)
-        .saturating_add(DELIMITER_AND_SIGNATURE)
-        .saturating_add(message.header.len() as u64)
-        .saturating_add(message.parent.len() as u64)
-        .saturating_add(message.metadata.len() as u64)
-        .saturating_add(message.content.len() as u64)
-        .saturating_add(octets_in(&message.buffers));
-    size > MESSAGE_OCTET_LIMIT
+    let left = octets_within(&message.identities, MESSAGE_OCTET_LIMIT)?;
+    let left = octets_within(&message.buffers, left)?;
+    left.checked_sub(DELIMITER_AND_SIGNATURE)?
+        .checked_sub(message.header.len() as u64)?
+        .checked_sub(message.parent.len() as u64)?
+        .checked_sub(message.metadata.len() as u64)?
+        .checked_sub(message.content.len() as u64)
 }
 
 /// The reply that goes out: this one, or one of its type that tells that it is longer than any reader takes.
-pub(crate) fn sendable(alloc: Global, mut reply: Message) -> Result<Message, ServeFault>
+pub(crate) fn sendable(alloc: Global, reply: Message) -> Result<Message, ServeFault>
     ensures sent { IfOk result (λ m. octets_of m ≡ sendable_of (octets_of reply)) }
     ensures midway { IfErr result IsMidway }
 {
-    if is_too_long(&reply) {
-        let Ok(content) = TOO_LONG.to_vec(alloc) else {
-            return Err(ServeFault::Memory);
-        };
-        reply.content = content;
+    if room_beside(&reply).is_some() {
+        return Ok(reply);
     }
-    Ok(reply)
+    let Ok(content) = TOO_LONG.to_vec(alloc) else {
+        return Err(ServeFault::Memory);
+    };
+    Ok(Message { content, ..reply })
 }
