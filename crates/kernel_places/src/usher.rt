@@ -68,13 +68,7 @@ pub(crate) fn usher<W: Ledger, L: HistoryName, S: Ledger, R: Wait + Clock>(
         }
         if let Some((stream, number)) = accept(rt, service, listeners.of(socket)) {
             if !door.offer(rt, stream, number) {
-                see_in(
-                    rt,
-                    service.connections(socket),
-                    door,
-                    socket,
-                    service.times,
-                );
+                see_in(rt, service.connections(socket), door, socket, service.times);
             }
         }
     }
