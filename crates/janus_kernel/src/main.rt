@@ -2,7 +2,7 @@
 //! and the two output streams.
 #![tactic(auto)]
 
-use kernel_program::{kernel_main, refuse_unread_words};
+use kernel_program::{Times, kernel_main, refuse_unread_words};
 use std::env;
 use std::io::ErrorKind;
 use std::process::ExitCode;
@@ -18,6 +18,13 @@ fn main(rt: HostRuntime) -> ExitCode {
     let Ok(words) = words.collect::<Vec<String>>(alloc) else {
         return ExitCode::from(refuse_unread_words(ErrorKind::OutOfMemory, &mut rt.stderr()));
     };
-    let status = kernel_main(&rt, alloc, &words, &mut rt.stdout(), &mut rt.stderr());
+    let status = kernel_main(
+        &rt,
+        alloc,
+        Times::USUAL,
+        &words,
+        &mut rt.stdout(),
+        &mut rt.stderr(),
+    );
     ExitCode::from(status)
 }

@@ -4,7 +4,7 @@ ghost use Rattle.std.specs.Io.{ReadsAtMost};
 ghost use Rattle.kernel_sockets.specs.declared.shares.TheConstants.{READ_OCTETS};
 
 use crate::sockets::{is_answered, is_signed};
-use crate::time::{INTERRUPTIONS, clock_of, handshake_end, milliseconds};
+use crate::time::{INTERRUPTIONS, Times, clock_of, handshake_end, milliseconds};
 use kernel_desk::Socket;
 use kernel_sockets::{
     Allowance, ConnectionInput, OWN_OCTETS, Presence, READ_OCTETS, Share, Strangers,
@@ -29,7 +29,7 @@ fn most_at_once(is_trusted: bool, room: usize) -> usize
     }
 }
 
-/// What comes on a connection, up to its end. A handshake that takes longer than ten seconds fails, and so does a stranger of whom nothing more can be held.
+/// What comes on a connection, up to its end. A handshake that takes longer than its time fails, and so does a stranger of whom nothing more can be held.
 /// It can't be let go of: [`Arrivals::end`] gives back what is counted of it.
 pub(crate) struct Arrivals<'a, R: Clock, S: Ledger> {
     rt: &'a R,
@@ -38,6 +38,7 @@ pub(crate) struct Arrivals<'a, R: Clock, S: Ledger> {
     presence: &'a Presence,
     /// The peer as it is told of here, until it is ready.
     handshake: Option<Peer>,
+    times: Times,
     /// When the handshake has to be over.
     until: Duration,
     socket: Socket,
@@ -55,6 +56,7 @@ impl<'a, R: Clock + Wait, S: Ledger> Arrivals<'a, R, S> {
         input: ConnectionInput<'a>,
         presence: &'a Presence,
         socket: Socket,
+        times: Times,
         strangers: &'a Strangers<S>,
         allowance: Allowance<S>,
     ) -> Arrivals<'a, R, S> {
@@ -64,7 +66,8 @@ impl<'a, R: Clock + Wait, S: Ledger> Arrivals<'a, R, S> {
             input,
             presence,
             handshake: Some(Peer::new(alloc, socket.role())),
-            until: handshake_end(rt),
+            times,
+            until: handshake_end(rt, times),
             socket,
             strangers,
             share: Share::new(allowance),
@@ -79,6 +82,7 @@ impl<'a, R: Clock + Wait, S: Ledger> Arrivals<'a, R, S> {
             input: _,
             presence: _,
             handshake: _,
+            times: _,
             until: _,
             socket: _,
             strangers,
@@ -152,7 +156,7 @@ impl<'a, R: Clock + Wait, S: Ledger> Arrivals<'a, R, S> {
         for _ in 0..INTERRUPTIONS {
             match self.input.read(buf) {
                 Err(error) if error.kind() == ErrorKind::Interrupted => {
-                    self.until = handshake_end(self.rt);
+                    self.until = handshake_end(self.rt, self.times);
                 }
                 answer => return answer,
             }
@@ -182,11 +186,14 @@ impl<'a, R: Clock + Wait, S: Ledger> Arrivals<'a, R, S> {
         Ok(count)
     }
 
-    /// Reads behind the handshake. Where nothing is signed who sends something is there.
+    /// Reads behind the handshake. What came before is answered when something further is read, so while it waits no request is under way. Where nothing
+    /// is signed who sends something is there.
     fn read_open(&mut self, buf: &mut [u8]) -> io::Result<usize>
         ensures bound { ReadsAtMost result buf.new }
     {
+        self.presence.rest(milliseconds(self.rt));
         let count = self.read_on(buf)?;
+        self.presence.work();
         self.count(count)?;
         if !is_signed(self.socket) {
             self.presence.hear(milliseconds(self.rt));

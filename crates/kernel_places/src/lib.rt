@@ -2,12 +2,13 @@
 //! its end and takes the next; an usher for each socket, who accepts the connections; beside them the worker that runs the cells; and how
 //! all of them come to an end.
 //!
-//! A connection whose handshake takes ten seconds fails, and so does a message that takes ten seconds to be written. Where all places of
-//! a socket are taken and another connection comes, a stranger makes room (`kernel_sockets::who_makes_room`): one whose handshake is not
-//! over, 200 milliseconds after it was let in. Where there is none, on shell and control it is the one that was let in longest ago of those
+//! How long connections have [`Times`] says. A connection whose handshake takes ten seconds fails, and so does a message that takes ten seconds to be
+//! written. Where all places of a socket are taken and another connection comes, one makes room (`kernel_sockets::who_makes_room`): one whose handshake is
+//! not over, 200 milliseconds after it was let in. Where there is none, on shell and control it is the one that was let in longest ago of those
 //! on which no signed request came that the kernel serves, if 200 milliseconds ago; on stdin, iopub and the heartbeat, where nothing is
-//! signed, the one that has been silent longest, and for a minute at least: nothing came on it, and it took nothing. Where none of the 32
-//! has to, the next one waits.
+//! signed, the one that has been silent longest, and for a minute at least: nothing came on it, and it took nothing. Where there is none of these either,
+//! it is who showed the key and has been silent longest, for ten minutes at least with no request under way: a connection whose peer is gone without a
+//! word keeps nobody out for ever. Where none of the 32 has to, the next one waits.
 //!
 //! What strangers send is counted before it is kept (`kernel_sockets::Strangers`): until a signed request was served on shell and control,
 //! until something went out on the heartbeat, and as long as the connection is there on iopub and stdin. One by which they would hold too
@@ -55,3 +56,4 @@ pub use kernel_desk::{Comms, Entry, Hall, HistoryName, Kernel, NewHistory, PARTS
 pub use places::{ALL_PLACES, Listeners, PLACES};
 pub use service::Service;
 pub use start::{Seats, serve_all};
+pub use time::Times;

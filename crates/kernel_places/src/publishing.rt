@@ -43,6 +43,7 @@ fn supply<
         input,
         presence,
         Socket::Iopub,
+        service.times,
         &service.strangers,
         allowance,
     );

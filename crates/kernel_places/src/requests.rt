@@ -35,6 +35,7 @@ fn converse<W: Ledger, L: HistoryName, S: Ledger, D: Desk, R: Wait + Clock>(
         input,
         presence,
         place.socket,
+        service.times,
         &service.strangers,
         allowance,
     );

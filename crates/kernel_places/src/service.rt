@@ -5,6 +5,7 @@ ghost use Rattle.kernel_places.specs.declared.places.TheConstants.{ALL_PLACES};
 use crate::door::Doors;
 use crate::latch::Latch;
 use crate::places::{ALL_PLACES, PLACES};
+use crate::time::Times;
 use jupyter_msg::Key;
 use kernel_desk::{Hall, HistoryName, Socket};
 use kernel_iopub::Bulletin;
@@ -27,6 +28,7 @@ pub struct Service<W: Ledger, L: HistoryName, S: Ledger> {
     pub(crate) session: String,
     pub(crate) key: Key,
     pub(crate) hall: Hall<W, L>,
+    pub(crate) times: Times,
     pub(crate) bulletin: Bulletin,
     /// The connections of shell, control, stdin and heartbeat.
     pub(crate) callers: Connections,
@@ -56,7 +58,7 @@ fn shared(alloc: Global) -> Result<(Bulletin, Connections, Connections), AllocEr
 
 impl<W: Ledger, L: HistoryName, S: Ledger> Service<W, L, S> {
     /// What the places of a kernel share, before any of them is started: its session's name, the key under which messages are signed, and
-    /// its hall; with the ledger of what strangers hold.
+    /// its hall; with how long connections have, and the ledger of what strangers hold.
     ///
     /// # Errors
     ///
@@ -66,6 +68,7 @@ impl<W: Ledger, L: HistoryName, S: Ledger> Service<W, L, S> {
         session: String,
         key: Key,
         hall: Hall<W, L>,
+        times: Times,
         strangers: Blank,
     ) -> Result<Service<W, L, S>, AllocError>
         requires name { strangers.name ≡ S.name }
@@ -79,6 +82,7 @@ impl<W: Ledger, L: HistoryName, S: Ledger> Service<W, L, S> {
                 session,
                 key,
                 hall,
+                times,
                 bulletin,
                 callers,
                 subscribers,

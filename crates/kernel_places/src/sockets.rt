@@ -1,16 +1,19 @@
 //! How each of the five sockets tells whether its peer is active.
+use crate::time::Times;
 use kernel_desk::Socket;
-use kernel_sockets::STAY_MILLISECONDS;
+use kernel_sockets::Stays;
 
-/// How long a ready connection of iopub, stdin or heartbeat may be silent before it has to make room for another one.
-const SILENCE_MILLISECONDS: u64 = 60_000;
-
-/// The milliseconds for which a ready connection of a socket on which no signed message came may be silent before it has to make room. On
-/// shell and control a signed message shows who has the key.
-pub(crate) fn silence(socket: Socket) -> u64 {
-    match socket {
-        Socket::Shell | Socket::Control => STAY_MILLISECONDS,
-        Socket::Iopub | Socket::Stdin | Socket::Heartbeat => SILENCE_MILLISECONDS,
+/// How long connections of a socket stay where another one waits. On shell and control a signed message shows who has the key, so a stranger has little
+/// time; on the others nothing is signed, and whoever is heard or takes what goes out stays.
+pub(crate) fn stays(socket: Socket, times: Times) -> Stays {
+    let stranger = match socket {
+        Socket::Shell | Socket::Control => times.stranger,
+        Socket::Iopub | Socket::Stdin | Socket::Heartbeat => times.silence,
+    };
+    Stays {
+        handshake: times.stranger,
+        stranger,
+        owner: times.owner,
     }
 }
 

@@ -1,8 +1,28 @@
 //! The times of a connection.
 use std::time::{Clock, Duration};
 
-/// How long a handshake may take, from the time at which the connection was accepted.
-const HANDSHAKE_SECONDS: u64 = 10;
+/// How long connections have, in milliseconds.
+#[derive(Clone, Copy)]
+pub struct Times {
+    /// A handshake, from when the connection was accepted.
+    pub handshake: u64,
+    /// One whose handshake is not over where another one waits, and on shell and control a stranger: from when it was let in.
+    pub stranger: u64,
+    /// A ready connection of stdin, iopub or heartbeat where another one waits: for how long nothing came on it, and it took nothing.
+    pub silence: u64,
+    /// Who showed the key where another one waits: for how long no request was under way and nothing came.
+    pub owner: u64,
+}
+
+impl Times {
+    /// Those that `janus-kernel` gives.
+    pub const USUAL: Times = Times {
+        handshake: 10_000,
+        stranger: 200,
+        silence: 60_000,
+        owner: 600_000,
+    };
+}
 
 /// The most times that a read or a write is begun anew which a signal interrupted.
 pub(crate) const INTERRUPTIONS: u32 = 1_000;
@@ -16,8 +36,8 @@ pub(crate) fn clock_of<R: Clock>(rt: &R) -> Duration {
 }
 
 /// When a handshake has to be over that begins now.
-pub(crate) fn handshake_end<R: Clock>(rt: &R) -> Duration {
-    clock_of(rt).saturating_add(Duration::from_secs(HANDSHAKE_SECONDS))
+pub(crate) fn handshake_end<R: Clock>(rt: &R, times: Times) -> Duration {
+    clock_of(rt).saturating_add(Duration::from_millis(times.handshake))
 }
 
 /// Milliseconds of the clock.

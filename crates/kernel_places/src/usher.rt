@@ -1,9 +1,9 @@
-//! The usher of a socket: it accepts connections, and has a stranger make room where all places are taken.
+//! The usher of a socket: it accepts connections, and has others make room where all places are taken.
 use crate::door::Door;
 use crate::places::{Listeners, PLACES, Place};
 use crate::service::Service;
-use crate::sockets::silence;
-use crate::time::milliseconds;
+use crate::sockets::stays;
+use crate::time::{Times, milliseconds};
 use kernel_desk::{HistoryName, Socket};
 use kernel_sockets::{Connections, Listener};
 use std::net::TcpStream;
@@ -15,7 +15,7 @@ use std::time::{Clock, Duration};
 /// How long the usher rests where no connection could be accepted.
 const REST_MILLISECONDS: u64 = 20;
 
-/// How long a connection waits for a place before a further stranger has to make room.
+/// How long a connection waits for a place before a further one has to make room.
 const WAIT_MILLISECONDS: u64 = 10;
 
 /// The next connection of a socket, with its number. `None` where none could be accepted, after a rest: no descriptor may be free for
@@ -35,12 +35,18 @@ fn accept<W: Ledger, L: HistoryName, S: Ledger, R: Wait + Clock>(
     Some((stream, number))
 }
 
-/// Has strangers make room, one after another, until a place of the socket has taken the connection that waits at the door.
-fn see_in<R: Wait + Clock>(rt: &R, connections: &Connections, door: &Door, socket: Socket) {
+/// Has connections make room, one after another, until a place of the socket has taken the one that waits at the door.
+fn see_in<R: Wait + Clock>(
+    rt: &R,
+    connections: &Connections,
+    door: &Door,
+    socket: Socket,
+    times: Times,
+) {
     let first = Place::first(socket).index;
     for _ in rt.forever() {
         let now = milliseconds(rt);
-        connections.make_room(rt, first, PLACES, now, silence(socket));
+        connections.make_room(rt, first, PLACES, stays(socket, times), now);
         if door.wait_until_free(rt, Duration::from_millis(WAIT_MILLISECONDS)) {
             return;
         }
@@ -62,7 +68,7 @@ pub(crate) fn usher<W: Ledger, L: HistoryName, S: Ledger, R: Wait + Clock>(
         }
         if let Some((stream, number)) = accept(rt, service, listeners.of(socket)) {
             if !door.offer(rt, stream, number) {
-                see_in(rt, service.connections(socket), door, socket);
+                see_in(rt, service.connections(socket), door, socket, service.times);
             }
         }
     }

@@ -13,7 +13,7 @@ use jupyter_msg::Key;
 use kernel_bell::{Bell, RINGERS};
 use kernel_places::{
     ALL_PLACES, Comms, Entry, Hall, HistoryName, Kernel, Listeners, NewHistory, PARTS_OF_POSTS,
-    PLACES, Seats, Service, serve_all,
+    PLACES, Seats, Service, Times, serve_all,
 };
 use program_words::{send_unread_words, unread_words_status, words_status};
 use rand::make_rng;
@@ -73,6 +73,7 @@ fn new_service<W: Ledger, L: HistoryName, S: Ledger, R: RandomSource>(
     posts: Blank,
     history: NewHistory<Entry>,
     strangers: Blank,
+    times: Times,
     key: Key,
 ) -> Result<(Service<W, L, S>, Seats), ProgramFault>
     requires writes { (writes.name ≡ W.name) × (writes.parts ≡ W.parts) × (1 < W.parts) }
@@ -84,7 +85,7 @@ fn new_service<W: Ledger, L: HistoryName, S: Ledger, R: RandomSource>(
 {
     let session = new_session(rt, alloc)?;
     let (hall, seats) = new_hall::<W, L>(alloc, writes, posts, history)?;
-    let service = Service::new(alloc, session, key, hall, strangers)?;
+    let service = Service::new(alloc, session, key, hall, times, strangers)?;
     Ok((service, seats))
 }
 
@@ -102,6 +103,7 @@ fn serve_new_kernel<
     posts: Blank,
     history: NewHistory<Entry>,
     strangers: Blank,
+    times: Times,
     listeners: &Listeners,
     key: Key,
     out: &mut O,
@@ -114,7 +116,7 @@ where
     requires strangers { (strangers.name ≡ S.name) × (strangers.parts ≡ S.parts) × (strangers.parts ≡ 160) }
 {
     let (service, seats) = new_service::<W, L, S, R>(
-        rt, alloc, writes, posts, history, strangers, key,
+        rt, alloc, writes, posts, history, strangers, times, key,
     )?;
     let served = serve_all(rt, &service, listeners, seats, out);
     service.discard();
@@ -140,6 +142,7 @@ fn tell_reach<E: Write>(listeners: &Listeners, ip: &str, err: &mut E) {
 fn serve_file<R, O: Write, E: Write>(
     rt: &R,
     alloc: Global,
+    times: Times,
     path: &str,
     out: &mut O,
     err: &mut E,
@@ -165,6 +168,7 @@ where
         Blank::new(PARTS_OF_POSTS),
         NewHistory::new(alloc)?,
         Blank::new(ALL_PLACES),
+        times,
         &listeners,
         key,
         out,
@@ -201,14 +205,15 @@ pub fn refuse_unread_words<E: Write>(kind: ErrorKind, err: &mut E) -> u8
     unread_words_status(kind, ProgramFault::Memory.status())
 }
 
-/// The program `janus-kernel`, over the words of its command line, of which the first is its name, and its two output streams: it serves
-/// the sockets of the connection file until a shutdown, and answers its status. 0 after a shutdown, for help and for the version; 2 for wrong words or a
+/// The program `janus-kernel`, over how long connections have, the words of its command line, of which the first is its name, and its two output
+/// streams: it serves the sockets of the connection file until a shutdown, and answers its status. 0 after a shutdown, for help and for the version; 2 for wrong words or a
 /// wrong connection file, 3 where a socket can't be bound, 1 where there is no memory at the start, each with a line to the errors. A
 /// line there also tells that the sockets are not of the loopback, and one that other users can read the connection file. A fault of the two streams is
 /// passed over.
 pub fn kernel_main<R, S: AsStr, O: Write, E: Write>(
     rt: &R,
     alloc: Global,
+    times: Times,
     words: &[S],
     out: &mut O,
     err: &mut E,
@@ -226,7 +231,7 @@ where
         Ok(path) => path,
         Err(error) => return refuse_words(&error, out, err),
     };
-    match serve_file(rt, alloc, path, out, err) {
+    match serve_file(rt, alloc, times, path, out, err) {
         Ok(()) => DONE,
         Err(fault) => {
             fault.tell(err);

@@ -3,6 +3,7 @@ pub mod Call
 pub mod Order
 pub mod Action
 pub mod Talk
+pub mod Sendable
 pub mod Session
 pub mod Parts
 pub mod Closing

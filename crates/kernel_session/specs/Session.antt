@@ -31,6 +31,7 @@ use Rattle.kernel_session.specs.declared.flow.Flow.TheVariants.{Going, Closed, W
 use Rattle.kernel_session.specs.declared.talk.DeskReply.{DeskReply}
 use Rattle.kernel_session.specs.Call.{Call, Published, Dated}
 use Rattle.kernel_session.specs.Action.{Action, sends, asks}
+use Rattle.kernel_session.specs.Sendable.{sendable}
 use Rattle.kernel_session.specs.Talk.{Heard, Talk, talk, says_of}
 
 -- ---- sockets
@@ -114,10 +115,10 @@ opened dated = record dated { next = dated.next + 1 }
 abbrev pub busy_frames : List ℕ → Request → Stamp → Frames
 busy_frames key r dated = frames_of key (broadcast_message r.header.items dated dated.next status.busy)
 
--- a reply goes out as one message
+-- a reply goes out as one message; one that no reader takes as one that tells so
 abbrev pub reply_octets : List ℕ → Option Octets → List ℕ
 reply_octets key None = []
-reply_octets key (Some m) = message_octets (frames_of key m)
+reply_octets key (Some m) = message_octets (frames_of key (sendable m))
 
 -- the broadcasts, the status idle last, and then the reply: who else listens hears of the end also where the one that asked is gone
 abbrev pub answered : List ℕ → Request → Stamp → Says → List Action

@@ -8,9 +8,10 @@
 //! some beginning of the input; and on iopub that at the end of the input the broadcasts that the desk keeps go out, as far as the
 //! peer has subscribed to them: where a write fails or memory is wanting among these, those that went out were wanted at the end of some
 //! beginning of the input. A message that is refused brings nothing, and the connection goes on; a fault of the peer ends it without
-//! a word; a shutdown ends it once it is answered.
+//! a word; a shutdown ends it once it is answered. In the place of a reply that is longer than any reader takes goes one that tells so
+//! (specs/Sendable.antt).
 //!
-//! The session is defined event by event (specs/: `Question`, `Call`, `Order`, `Action`, `Talk`, `Session`, `Closing`, `Ends`, in this order). Its
+//! The session is defined event by event (specs/: `Question`, `Call`, `Order`, `Action`, `Talk`, `Sendable`, `Session`, `Closing`, `Ends`, in this order). Its
 //! sources are RFC 23 for what octets tell, as `zmtp_peer` has it, and the Jupyter messaging page (version 5.4) for what a message asks
 //! and what is answered, as `jupyter_msg` and `kernel_reply` have it. `talk` says what each request has the desk do, `IsServed` what it
 //! brings, `IsSession` what the events bring one after the other. A desk's own relation `leads` says what it may answer, so the session
@@ -29,6 +30,7 @@ pub mod laws;
 mod message;
 mod request;
 mod send;
+mod sendable;
 mod socket;
 mod talk;
 

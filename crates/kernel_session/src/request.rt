@@ -17,6 +17,7 @@ use crate::desk::Desk;
 use crate::fault::ServeFault;
 use crate::flow::Flow;
 use crate::send::send_message;
+use crate::sendable::sendable;
 use crate::talk::{Consulted, DeskReply, consult};
 use jupyter_msg::{Key, Message, Request, RequestContent};
 use kernel_board::Broadcast;
@@ -167,7 +168,7 @@ fn outgoing(
     }
 }
 
-/// Seals a reply and writes it, if there is one.
+/// Seals a reply and writes it, if there is one; in the place of one that no reader takes it writes one that tells so.
 fn send_reply<W: Write>(
     alloc: Global,
     key: &Key,
@@ -180,6 +181,10 @@ fn send_reply<W: Write>(
 {
     let Some(reply) = reply else {
         return Ok(());
+    };
+    let reply = match sendable(alloc, reply) {
+        Ok(reply) => reply,
+        Err(fault) => return Err(fault),
     };
     let Ok(frames) = reply.into_frames(alloc, key) else {
         return Err(ServeFault::Memory);

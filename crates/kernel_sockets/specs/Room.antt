@@ -1,31 +1,39 @@
 -- Who makes room where all places of a socket are taken and another connection waits.
 use Rattle.std.specs.Prelude.{◌≡◌, ℕ, ◌+◌, ◌<◌, ◌≤◌, false, IsTrue, List, length, slice_get, Option, Some, None, if◌then◌else◌}
 use Rattle.kernel_sockets.specs.declared.room.Sight.{Sight}
-use Rattle.kernel_sockets.specs.declared.presence.TheConstants.{STAY_MILLISECONDS}
+use Rattle.kernel_sockets.specs.declared.room.Stays.{Stays}
 
--- a connection on which no message with a valid signature came
-abbrev pub IsStranger : Sight → Type 0
-IsStranger s = IsTrue s.is_taken × (s.is_trusted ≡ false)
+-- the class of a connection: 0 its handshake is ahead, 1 it is a stranger that is ready, 2 a message with a valid signature came on it
+abbrev pub rank : Sight → ℕ
+rank s = if s.is_trusted then 2 else (if s.is_ready then 1 else 0)
 
--- how many milliseconds it stays at least from when it was heard: while its handshake is ahead the same for all, and then as long as it may be silent
-abbrev pub time_of : ℕ → Sight → ℕ
-time_of silence s = if s.is_ready then silence else STAY_MILLISECONDS
+-- since when it has been silent: who showed the key since no request is under way and nothing came
+abbrev pub since_of : Sight → ℕ
+since_of s = if s.is_trusted then s.rested else s.heard
 
--- who may have to make room: a stranger whose time is over
-abbrev pub MayLeave : ℕ → ℕ → Sight → Type 0
-MayLeave now silence s = IsStranger s × (s.heard + time_of silence s ≤ now)
+-- how many milliseconds it stays at least from then on
+abbrev pub stay_of : Stays → Sight → ℕ
+stay_of stays s = if s.is_trusted then stays.owner else (if s.is_ready then stays.stranger else stays.handshake)
 
--- The first leaves no later than the second: it is not ready or the second is too, and where they don't differ in that it was heard no later.
+-- a request of who showed the key is under way
+abbrev pub IsUnderWay : Sight → Type 0
+IsUnderWay s = IsTrue s.is_trusted × (s.is_resting ≡ false)
+
+-- who may have to make room: whose time is over, and no request of who showed the key is under way
+abbrev pub MayLeave : Stays → ℕ → Sight → Type 0
+MayLeave stays now s = IsTrue s.is_taken × ¬ IsUnderWay s × (since_of s + stay_of stays s ≤ now)
+
+-- The first leaves no later than the second: its class is no higher, and in one class it has been silent no shorter.
 abbrev pub LeavesFirst : Sight → Sight → Type 0
-LeavesFirst s t = (IsTrue s.is_ready → IsTrue t.is_ready) × (s.is_ready ≡ t.is_ready → s.heard ≤ t.heard)
+LeavesFirst s t = (rank s ≤ rank t) × (rank s ≡ rank t → since_of s ≤ since_of t)
 
 -- Among the first places this one makes room: it may have to, and of those who may it leaves first. None makes room where none may have to.
-abbrev pub MakesRoomAmong : ℕ → ℕ → List Sight → ℕ → Option ℕ → Type 0
-MakesRoomAmong now silence sights first None = (k : ℕ) (s : Sight) → k < first → slice_get sights k ≡ Some s → ¬ MayLeave now silence s
-MakesRoomAmong now silence sights first (Some place) =
-    (one : Sight) × (slice_get sights place ≡ Some one) × MayLeave now silence one
-    × ((k : ℕ) (s : Sight) → k < first → slice_get sights k ≡ Some s → MayLeave now silence s → LeavesFirst one s)
+abbrev pub MakesRoomAmong : Stays → ℕ → List Sight → ℕ → Option ℕ → Type 0
+MakesRoomAmong stays now sights first None = (k : ℕ) (s : Sight) → k < first → slice_get sights k ≡ Some s → ¬ MayLeave stays now s
+MakesRoomAmong stays now sights first (Some place) =
+    (one : Sight) × (slice_get sights place ≡ Some one) × MayLeave stays now one
+    × ((k : ℕ) (s : Sight) → k < first → slice_get sights k ≡ Some s → MayLeave stays now s → LeavesFirst one s)
 
 -- of all places this one makes room, or none
-abbrev pub MakesRoom : ℕ → ℕ → List Sight → Option ℕ → Type 0
-MakesRoom now silence sights answer = MakesRoomAmong now silence sights (length sights) answer
+abbrev pub MakesRoom : Stays → ℕ → List Sight → Option ℕ → Type 0
+MakesRoom stays now sights answer = MakesRoomAmong stays now sights (length sights) answer

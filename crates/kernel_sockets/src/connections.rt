@@ -1,6 +1,7 @@
 //! The connections that are served.
 use crate::presence::Presence;
 use crate::register::{Register, Stream};
+use crate::room::Stays;
 use std::alloc::{AllocError, Global};
 use std::net::Shutdown;
 use std::sync::atomic::{AtomicBool, Ordering};
@@ -63,11 +64,11 @@ impl Connections {
         self.left.notify_all();
     }
 
-    /// Ends a stranger at one of `count` places from `first` on, if there is one that has to make room, by what is seen of the places under the lock:
+    /// Ends the connection at one of `count` places from `first` on that has to make room, if one has to, by what is seen of the places under the lock:
     /// what `Register::make_room` does of the register there. It takes no memory.
-    pub fn make_room<R: Wait>(&self, rt: &R, first: usize, count: usize, now: u64, silence: u64) {
+    pub fn make_room<R: Wait>(&self, rt: &R, first: usize, count: usize, stays: Stays, now: u64) {
         let mut register = self.register.lock(rt);
-        let _ended = register.make_room(&self.presences, first, count, now, silence);
+        let _ended = register.make_room(&self.presences, first, count, stays, now);
     }
 
     /// Lets no more connections in, and shuts those that are there: for reading, so that each is still answered, or altogether.

@@ -4,9 +4,9 @@
 //! A [`Listener`] hands out connections with no delay by Nagle's algorithm, on which a write waits ten seconds at most. [`Connections`] are
 //! those that are served at a number of places: who serves one enters it and leaves again, and who ends the kernel closes them all, so that
 //! no more come in, and reads from those that are there come to their end ([`ConnectionInput`]). Of the connection at each place a [`Presence`] tells
-//! whether it is ready, whether it is trusted and when it was heard, so that a stranger makes room where all places are taken. Who that is
-//! [`who_makes_room`] answers, by specs/Room.antt: of the strangers whose time is over one that is not ready, and else the one that was heard longest
-//! ago; nobody who showed the key. What strangers bring is counted by [`Strangers`]: each has its own share, and past their shares they bring no more
+//! whether it is ready, whether it is trusted, when it was heard and since when no request is under way, so that one makes room where all places are taken.
+//! Who that is [`who_makes_room`] answers, by specs/Room.antt: of those whose time is over one that is not ready, else a stranger, and else who showed the
+//! key and has been silent for long with no request under way; of a class the one that has been silent longest. What strangers bring is counted by [`Strangers`]: each has its own share, and past their shares they bring no more
 //! together than [`COMMON_OCTETS`]. A place has an [`Allowance`] for each connection that it serves, whose [`Share`] can't be let go of: it is given
 //! back, and the types keep that the count is the sum of what the shares have, so that one which is given back is counted no longer. The time of a
 //! message that is written begins with its first piece and stays with the others ([`Patience`]).
@@ -28,7 +28,7 @@ pub use connections::Connections;
 pub use input::ConnectionInput;
 pub use listener::Listener;
 pub use patience::{MESSAGE_MILLISECONDS, Patience};
-pub use presence::{Presence, STAY_MILLISECONDS};
+pub use presence::Presence;
 pub use register::{Register, Stream};
-pub use room::{Sight, who_makes_room};
+pub use room::{Sight, Stays, who_makes_room};
 pub use shares::{Allowance, COMMON_OCTETS, Common, OWN_OCTETS, READ_OCTETS, Share, Strangers};

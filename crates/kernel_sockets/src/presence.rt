@@ -4,9 +4,6 @@ ghost use Rattle.std.specs.Prelude.{◌≡◌};
 use crate::room::Sight;
 use std::sync::atomic::{AtomicBool, AtomicU64, Ordering};
 
-/// The milliseconds that a connection has at least before it has to make room: who comes with the key shows it sooner.
-pub const STAY_MILLISECONDS: u64 = 200;
-
 /// What is known of the connection at a place, for all who look, without a lock.
 #[derive(Drop)]
 pub struct Presence {
@@ -20,6 +17,10 @@ pub struct Presence {
     answered: AtomicU64,
     /// When it was let in, or when something came on it, in milliseconds of a clock.
     heard: AtomicU64,
+    /// It waits for what comes next: no request is under way.
+    is_resting: AtomicBool,
+    /// Since when it does.
+    rested: AtomicU64,
 }
 
 impl Presence {
@@ -31,6 +32,8 @@ impl Presence {
             is_answered: AtomicBool::new(false),
             answered: AtomicU64::new(0),
             heard: AtomicU64::new(0),
+            is_resting: AtomicBool::new(false),
+            rested: AtomicU64::new(0),
         }
     }
 
@@ -41,6 +44,19 @@ impl Presence {
         self.is_answered.store(false, Ordering::SeqCst);
         self.answered.store(0, Ordering::SeqCst);
         self.heard.store(now, Ordering::SeqCst);
+        self.is_resting.store(false, Ordering::SeqCst);
+        self.rested.store(now, Ordering::SeqCst);
+    }
+
+    /// From this time on it waits for what comes next.
+    pub fn rest(&self, now: u64) {
+        self.rested.store(now, Ordering::SeqCst);
+        self.is_resting.store(true, Ordering::SeqCst);
+    }
+
+    /// Something came on it that is looked at now.
+    pub fn work(&self) {
+        self.is_resting.store(false, Ordering::SeqCst);
     }
 
     /// Its handshake is over.
@@ -91,7 +107,9 @@ impl Presence {
             is_taken,
             is_ready: self.is_ready.load(Ordering::SeqCst),
             is_trusted: self.is_trusted.load(Ordering::SeqCst),
+            is_resting: self.is_resting.load(Ordering::SeqCst),
             heard: self.heard.load(Ordering::SeqCst),
+            rested: self.rested.load(Ordering::SeqCst),
         }
     }
 }

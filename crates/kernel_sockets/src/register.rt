@@ -5,7 +5,7 @@ ghost use Rattle.kernel_sockets.specs.Room.{MakesRoom};
 ghost use Rattle.kernel_sockets.specs.Seen.{is_taken as is_taken_of, AreSeen};
 
 use crate::presence::Presence;
-use crate::room::{Sight, who_makes_room};
+use crate::room::{Sight, Stays, who_makes_room};
 use std::alloc::{AllocError, Global};
 use std::net::{Shutdown, TcpStream};
 use std::sync::Arc;
@@ -116,20 +116,20 @@ impl Register {
         presences: &[Presence],
         first: usize,
         count: usize,
+        stays: Stays,
         now: u64,
-        silence: u64,
     ) -> Option<usize>
         ensures streams { self.new.streams.items ≡ self.old.streams.items }
         ensures closed { self.new.is_closed ≡ self.old.is_closed }
         ensures seen { AreSeen self.new.streams.items self.new.sights.items }
         ensures rule { first + count ≤ length self.old.streams.items
-            → MakesRoom now silence (slice_range self.new.sights.items first (first + count)) result }
+            → MakesRoom stays now (slice_range self.new.sights.items first (first + count)) result }
         ensures none { length self.old.streams.items < first + count → result ≡ None }
     {
         self.look(presences);
         let end = first.checked_add(count)?;
         let row = self.sights.get(first..end)?;
-        let place = who_makes_room(row, now, silence)?;
+        let place = who_makes_room(row, stays, now)?;
         self.end(first + place);
         Some(place)
     }

@@ -1,9 +1,19 @@
 //! Who makes room where all places of a socket are taken and another connection waits.
-ghost use Rattle.std.specs.Prelude.{◌≡◌, ℕ, ◌<◌, ◌≤◌, ◌↔◌, IsTrue, false, IfSome, Some, length, slice_get};
+ghost use Rattle.std.specs.Prelude.{◌≡◌, ℕ, ◌+◌, ◌<◌, ◌≤◌, ◌↔◌, IsTrue, false, IfSome, Some, length, slice_get};
 ghost use Rattle.kernel_sockets.specs.declared.room.Sight.{Sight};
-ghost use Rattle.kernel_sockets.specs.Room.{IsStranger, time_of, MayLeave, LeavesFirst, MakesRoomAmong, MakesRoom};
+ghost use Rattle.kernel_sockets.specs.declared.room.Stays.{Stays};
+ghost use Rattle.kernel_sockets.specs.Room.{rank, since_of, stay_of, IsUnderWay, MayLeave, LeavesFirst, MakesRoomAmong, MakesRoom};
 
-use crate::presence::STAY_MILLISECONDS;
+/// How many milliseconds a connection stays at least where another one waits, by what is known of it.
+#[derive(Clone, Copy)]
+pub struct Stays {
+    /// One whose handshake is not over, from when it was let in.
+    pub handshake: u64,
+    /// A stranger whose handshake is over, from when it was heard last.
+    pub stranger: u64,
+    /// Who showed the key, from when no request of theirs was under way any more and nothing came from them.
+    pub owner: u64,
+}
 
 /// What was seen of a place.
 #[derive(Clone, Copy)]
@@ -14,8 +24,12 @@ pub struct Sight {
     pub is_ready: bool,
     /// A message with a valid signature came on it.
     pub is_trusted: bool,
-    /// When it was last heard, in milliseconds.
+    /// It waits for what comes next: no request is under way.
+    pub is_resting: bool,
+    /// When a stranger was last heard, in milliseconds.
     pub heard: u64,
+    /// Since when it has rested, in milliseconds.
+    pub rested: u64,
 }
 
 impl Sight {
@@ -24,36 +38,71 @@ impl Sight {
         is_taken: false,
         is_ready: false,
         is_trusted: false,
+        is_resting: false,
         heard: 0,
+        rested: 0,
     };
 
-    /// How many milliseconds it stays at least from when it was heard.
-    fn time(self, silence: u64) -> u64
-        ensures { result ≡ time_of silence self }
+    /// Its class: those of a lower one leave first.
+    fn rank(self) -> u64
+        ensures { result ≡ rank self }
     {
-        if self.is_ready {
-            silence
+        if self.is_trusted {
+            2
+        } else if self.is_ready {
+            1
         } else {
-            STAY_MILLISECONDS
+            0
         }
     }
 
-    /// Whether it may have to make room: whether it is a stranger whose time is over.
-    fn may_leave(self, now: u64, silence: u64) -> bool
-        ensures { IsTrue result ↔ MayLeave now silence self }
+    /// Since when it has been silent, in milliseconds.
+    fn since(self) -> u64
+        ensures { result ≡ since_of self }
     {
-        let time = self.time(silence);
-        self.is_taken && !self.is_trusted && self.heard <= now && time <= now - self.heard
+        if self.is_trusted {
+            self.rested
+        } else {
+            self.heard
+        }
+    }
+
+    /// How many milliseconds it stays at least from then on.
+    fn stay(self, stays: Stays) -> u64
+        ensures { result ≡ stay_of stays self }
+    {
+        if self.is_trusted {
+            stays.owner
+        } else if self.is_ready {
+            stays.stranger
+        } else {
+            stays.handshake
+        }
+    }
+
+    /// Whether a request is under way of who showed the key.
+    fn is_under_way(self) -> bool
+        ensures { IsTrue result ↔ IsUnderWay self }
+    {
+        self.is_trusted && !self.is_resting
+    }
+
+    /// Whether it may have to make room: whether its time is over, and no request of who showed the key is under way.
+    fn may_leave(self, stays: Stays, now: u64) -> bool
+        ensures { IsTrue result ↔ MayLeave stays now self }
+    {
+        let (since, stay) = (self.since(), self.stay(stays));
+        self.is_taken && !self.is_under_way() && since <= now && stay <= now - since
     }
 
     /// Whether it leaves no later than another one.
     fn leaves_first(self, other: Sight) -> bool
         ensures { IsTrue result ↔ LeavesFirst self other }
     {
-        if self.is_ready == other.is_ready {
-            self.heard <= other.heard
+        if self.rank() == other.rank() {
+            self.since() <= other.since()
         } else {
-            other.is_ready
+            self.rank() < other.rank()
         }
     }
 }
@@ -69,19 +118,39 @@ fn is_before(sights: &[Sight], sight: Sight, found: Option<usize>) -> bool
     }
 }
 
-/// Who makes room at these places: of the connections on which no message with a valid signature came and whose time is over the one that leaves first. One
-/// whose handshake is not over goes before one that is ready, and else the one that was heard longest ago; a ready one may be silent for `silence`
-/// milliseconds. None where none has to. So who showed the key stays, whoever else is there, and one that came just now has its time.
-pub fn who_makes_room(sights: &[Sight], now: u64, silence: u64) -> Option<usize>
-    ensures rule { MakesRoom now silence sights.now result }
-    ensures stranger { IfSome result (λ place. (s : Sight) × (slice_get sights.now place ≡ Some s) × IsStranger s) }
+/// Who makes room among the places up to this one, where `found` does among those before it.
+fn found_next(
+    sights: &[Sight],
+    place: usize,
+    found: Option<usize>,
+    stays: Stays,
+    now: u64,
+) -> Option<usize>
+    requires inside { place < length sights.now }
+    requires among { MakesRoomAmong stays now sights.now place found }
+    ensures { MakesRoomAmong stays now sights.now (place + 1) result }
+{
+    let sight = sights[place];
+    if sight.may_leave(stays, now) && is_before(sights, sight, found) {
+        return Some(place);
+    }
+    found
+}
+
+/// Who makes room at these places: of the connections whose time is over the one that leaves first. One whose handshake is not over goes before a stranger
+/// that is ready, and a stranger before who showed the key; of one class the one that has been silent longest goes. Who showed the key stays while a
+/// request is under way, and `stays.owner` milliseconds from then on. None where none has to. So one that came just now has its time, and no
+/// stranger has an owner leave who was there a moment ago.
+pub fn who_makes_room(sights: &[Sight], stays: Stays, now: u64) -> Option<usize>
+    ensures rule { MakesRoom stays now sights.now result }
+    ensures owner { IfSome result (λ place. (s : Sight) × (slice_get sights.now place ≡ Some s)
+        × (IsTrue s.is_trusted → IsTrue s.is_resting × (s.rested + stays.owner ≤ now))) }
+    ensures strangers_first { IfSome result (λ place. (k : ℕ) (one other : Sight) → slice_get sights.now place ≡ Some one → IsTrue one.is_trusted
+        → slice_get sights.now k ≡ Some other → other.is_trusted ≡ false → ¬ MayLeave stays now other) }
 {
     let mut found: Option<usize> = None;
     for place in 0..sights.len() {
-        let sight = sights[place];
-        if sight.may_leave(now, silence) && is_before(sights, sight, found) {
-            found = Some(place);
-        }
+        found = found_next(sights, place, found, stays, now);
     }
     found
 }

@@ -4,8 +4,8 @@
 //! which statuses come, that an endless cell is interrupted from another connection, what comes on each socket and under which key, and that a kernel
 //! ends once a shutdown was asked for, with all its threads. Whatever connects to a kernel does so in turn by ZMTP 3.0 and by 3.1. The rows stand in
 //! the file `stdin`, the rows with their answers in the file `stdout`, in the form of `tests_rows`. A block of `3.0` or `3.1` has a kernel
-//! of its own and frontends of that version, one of `reach` has frontends of 3.1 and a kernel that listens at all addresses, and the rows of any other
-//! block need no kernel. What may stand in them is said by `with_kernel` and by `without_kernel`.
+//! of its own and frontends of that version, one of `reach` has frontends of 3.1 and a kernel that listens at all addresses, one of `brief` has
+//! frontends of 3.1 and a kernel of which an owner who is silent for 200 milliseconds makes room, and the rows of any other block need no kernel. What may stand in them is said by `with_kernel` and by `without_kernel`.
 #![tactic(auto)]
 
 mod content;
@@ -19,6 +19,7 @@ mod told;
 mod with_kernel;
 mod without_kernel;
 
+use kernel_program::Times;
 use programs::run_kernel;
 use site::{LOOPBACK, Site, make_site};
 use std::net::{Net, TcpListener, TcpStream};
@@ -30,6 +31,12 @@ use std::time::Clock;
 use std::{io, thread};
 use tests_rows::{Sheet, cut_block};
 
+/// A kernel whose owners of connections have to make room after 200 milliseconds of silence.
+const BRIEF: Times = Times {
+    owner: 200,
+    ..Times::USUAL
+};
+
 fn main(rt: HostRuntime) -> anyhow::Result<()> {
     let alloc = rt.alloc();
     let text = io::read_to_string(alloc, rt.stdin())?;
@@ -39,7 +46,7 @@ fn main(rt: HostRuntime) -> anyhow::Result<()> {
             // The kernel runs on a thread of its own, beside its frontends.
             let (ran, ()) = thread::join(
                 &rt,
-                || run_kernel(&rt, alloc, &["janus-kernel", &site.path]),
+                || run_kernel(&rt, alloc, site.times, &["janus-kernel", &site.path]),
                 || with_kernel::tell(&rt, &site, block, &mut sheet),
             );
             with_kernel::end(&rt, &site, &ran, &mut sheet);
@@ -71,10 +78,11 @@ where
     sheet.write(title);
     sheet.write("\n");
     match subject {
-        "3.0" => make_site(rt, LOOPBACK, 0, sheet),
-        "3.1" => make_site(rt, LOOPBACK, 1, sheet),
-        "reach" => make_site(rt, "0.0.0.0", 1, sheet),
-        "every" => make_site(rt, "*", 1, sheet),
+        "3.0" => make_site(rt, LOOPBACK, 0, Times::USUAL, sheet),
+        "3.1" => make_site(rt, LOOPBACK, 1, Times::USUAL, sheet),
+        "brief" => make_site(rt, LOOPBACK, 1, BRIEF, sheet),
+        "reach" => make_site(rt, "0.0.0.0", 1, Times::USUAL, sheet),
+        "every" => make_site(rt, "*", 1, Times::USUAL, sheet),
         _ => {
             without_kernel::tell(rt, calls, sheet);
             None

@@ -1,6 +1,7 @@
 //! Where a kernel listens, and its connection file.
 use crate::content::KEY;
 use crate::told::tell_error;
+use kernel_program::Times;
 use std::alloc::Global;
 use std::fs::Permissions;
 use std::io::{ErrorKind, Result};
@@ -29,6 +30,8 @@ pub(crate) struct Site {
     pub ports: [u16; 5],
     /// The minor version of ZMTP 3 that frontends speak there.
     pub minor: u8,
+    /// How long the kernel's connections have.
+    pub times: Times,
 }
 
 impl Site {
@@ -130,25 +133,37 @@ fn path_of(alloc: Global, ports: [u16; 5]) -> Result<String> {
     Ok(format!(in alloc; "kernel-{shell}.json")?)
 }
 
-/// Writes a connection file with free ports, this address and the key, for frontends of this minor version.
-fn new_site<R>(rt: &R, alloc: Global, ip: &str, minor: u8) -> Result<Site>
+/// Writes a connection file with free ports, this address and the key, for frontends of this minor version and connections that have so long.
+fn new_site<R>(rt: &R, alloc: Global, ip: &str, minor: u8, times: Times) -> Result<Site>
 where
     R: Net<Listener = TcpListener, Stream = TcpStream> + Files,
 {
     let ports = free_ports(rt, alloc)?;
     let path = path_of(alloc, ports)?;
     match write_connection(rt, alloc, &path, ip, ports, KEY) {
-        Ok(()) => Ok(Site { path, ports, minor }),
+        Ok(()) => Ok(Site {
+            path,
+            ports,
+            minor,
+            times,
+        }),
         Err(error) => Err(error),
     }
 }
 
-/// Writes a connection file with free ports, this address and the key, for frontends of this minor version; none where that fails, which is told.
-pub(crate) fn make_site<R>(rt: &R, ip: &str, minor: u8, sheet: &mut Sheet) -> Option<Site>
+/// Writes a connection file with free ports, this address and the key, for frontends of this minor version and connections that have so long; none where
+/// that fails, which is told.
+pub(crate) fn make_site<R>(
+    rt: &R,
+    ip: &str,
+    minor: u8,
+    times: Times,
+    sheet: &mut Sheet,
+) -> Option<Site>
 where
     R: Net<Listener = TcpListener, Stream = TcpStream> + Files,
 {
-    match new_site(rt, sheet.alloc(), ip, minor) {
+    match new_site(rt, sheet.alloc(), ip, minor, times) {
         Ok(site) => Some(site),
         Err(error) => {
             tell_error(&error, sheet);

@@ -8,6 +8,7 @@ use crate::programs::{ask, run_console, run_kernel};
 use crate::site::{LOOPBACK, free_ports, listen, listen_anywhere, write_connection, write_own};
 use crate::talk::place;
 use crate::told::tell_error;
+use kernel_program::Times;
 use std::fs::{self, Permissions};
 use std::io::Result;
 use std::net::{Net, TcpListener, TcpStream};
@@ -79,7 +80,7 @@ where
         + Clock
         + Sync,
 {
-    run_kernel(rt, sheet.alloc(), &["janus-kernel", PATH]).tell(usize::MAX, sheet);
+    run_kernel(rt, sheet.alloc(), Times::USUAL, &["janus-kernel", PATH]).tell(usize::MAX, sheet);
 }
 
 /// Runs both programs on the connection file.
@@ -218,7 +219,7 @@ where
         + Sync,
 {
     match program {
-        "kernel" => run_kernel(rt, sheet.alloc(), words).tell(most, sheet),
+        "kernel" => run_kernel(rt, sheet.alloc(), Times::USUAL, words).tell(most, sheet),
         "console" => run_console(rt, sheet.alloc(), words).tell(most, sheet),
         _ => run_both(rt, sheet),
     }
