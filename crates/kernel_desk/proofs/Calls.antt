@@ -63,15 +63,14 @@ is_posted desk old job given r pass same knows h =
     (posted desk job given r pass h, behind desk job given r pass knows h, refl)
 
 -- a pass that has posted, or has seen on, still knows of a shutdown
-pub still_knows : (desk : DeskState) (job : Request) (given : List WishOf) (r : Result Done PostFault) (pass : PassOf)
-    → (desk.was_shut ≡ true → has_shutdown desk.pass.notes ≡ true) → IsRun desk.pass job given r pass
-    → desk.was_shut ≡ true → has_shutdown pass.notes ≡ true
-still_knows desk job given (Ok done) pass knows h = λ shut. shut_stays desk.pass.notes pass.notes h.posted.noted (knows shut)
-still_knows desk job given (Err fault) pass knows h = λ shut. shut_stays desk.pass.notes pass.notes h.refused.noted (knows shut)
+pub still_knows : (was_shut : Bool) (old : PassOf) (job : Request) (given : List WishOf) (r : Result Done PostFault) (new : PassOf)
+    → (was_shut ≡ true → has_shutdown old.notes ≡ true) → IsRun old job given r new → was_shut ≡ true → has_shutdown new.notes ≡ true
+still_knows was_shut old job given (Ok done) new knows h = λ shut. shut_stays old.notes new.notes h.posted.noted (knows shut)
+still_knows was_shut old job given (Err fault) new knows h = λ shut. shut_stays old.notes new.notes h.refused.noted (knows shut)
 
-pub knows_on : (desk : DeskState) (pass : PassOf) → (desk.was_shut ≡ true → has_shutdown desk.pass.notes ≡ true) → HasSeen desk.pass pass
-    → desk.was_shut ≡ true → has_shutdown pass.notes ≡ true
-knows_on desk pass knows seen = λ shut. shut_stays desk.pass.notes pass.notes seen.noted (knows shut)
+pub knows_on : (was_shut : Bool) (old new : PassOf) → (was_shut ≡ true → has_shutdown old.notes ≡ true) → HasSeen old new
+    → was_shut ≡ true → has_shutdown new.notes ≡ true
+knows_on was_shut old new knows seen = λ shut. shut_stays old.notes new.notes seen.noted (knows shut)
 
 answered : (desk : DeskState) (asked : Ask) (r : Result Answer HallFault)
     → IfOk r (λ answer. (k : Machine) × (comms : List (List ℕ)) × IsLegalMachine k × (k.minutes ≡ desk.pass.front) × IsAnswer k comms asked answer)
