@@ -9,7 +9,8 @@ use Rattle.std.proofs.sync.ledger.Share.TheSendSync.{the_send as share_send}
 use Rattle.kernel_audit.proofs.CoreCrosses.{Kernel-send}
 use Rattle.kernel_audit.proofs.MachineCrosses.{Job-send, Outcome-send}
 use Rattle.kernel_audit.specs.HistoryNames as HistoryName
-use Rattle.kernel_audit.proofs.HistoryCrosses.{Keeper-send}
+use Rattle.kernel_audit.proofs.HistoryCrosses.{Keeper-send, Beside-send}
+use Rattle.kernel_audit.proofs.Crosses.{Note-send}
 use Rattle.kernel_audit.proofs.AskCrosses.{Comms-send, NamedValue-send, Wish-send}
 use Rattle.hall_state.specs.contracts.pending_result.PendingResult as PendingResult
 use Rattle.hall_state.specs.contracts.passes.Passes as Passes
@@ -24,5 +25,5 @@ module _ (L : RattleType) (n : HistoryName.Ghosts L.Denot) (l : Ledger.Ghosts L.
 
 module _ (W L : RattleType) (w : Ledger.Ghosts W.Denot) (n : HistoryName.Ghosts L.Denot) (l : Ledger.Ghosts L.Denot) where
   pub State-send : IsSend W → IsSend L → IsSend (State.the_field W L n w l).row
-  State-send s t = let a = Kernel-send W w s in let b = Passes-send L n l t in
-      search (crosses, book_send, Keeper-send, Job-send, Outcome-send, Comms-send, PendingResult-send, sendable) depth 60 fits 20000
+  State-send s t = let a = Kernel-send W w s in let b = Passes-send L n l t in let d = Beside-send L t in
+      search (crosses, book_send, Keeper-send, Note-send, Job-send, Outcome-send, Comms-send, PendingResult-send, sendable) depth 60 fits 20000

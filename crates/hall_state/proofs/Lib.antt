@@ -1,9 +1,14 @@
 pub mod Posts
-pub mod PendingResults
+pub mod Places
+pub mod Notes
 pub mod Turns
+pub mod JustEnded
+pub mod Beside
+pub mod PendingResults
 pub mod Crosses
 -- Of kernel_audit, given again.
 pub use Rattle.kernel_audit.proofs.Fronts
+pub use Rattle.kernel_audit.proofs.Noted
 pub use Rattle.kernel_audit.proofs.Crosses as AuditCrosses
 -- Of kernel_ask, given again.
 pub use Rattle.kernel_audit.proofs.AskCrosses

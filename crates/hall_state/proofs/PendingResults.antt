@@ -1,15 +1,24 @@
 -- What is told once, and what is settled.
-use Rattle.std.proofs.Common.{◌≡◌, ℕ, ◌-◌, ◌<◌, ◌≤◌, List, [], Option, None, Some, IfSome, IfNone, length, get_or, slice_get, slice_set, refl, ap, ◌∙◌, sym}
-use Rattle.std.proofs.Common.{subst, arith}
+use Rattle.std.proofs.Common.{◌≡◌, ℕ, ◌-◌, ◌<◌, ◌≤◌, suc, List, [], ◌∷◌, Option, None, Some, IfSome, IfNone, length, get_or, slice_get, slice_set, true, refl}
+use Rattle.std.proofs.Common.{ap, ◌∙◌, sym, subst, arith, ⊎_elim, vec_len, vec_capacity}
+use Rattle.std.proofs.lemmas.Grind.{not_there}
 use Rattle.std.proofs.lemmas.List.{set-get_or}
 use Rattle.std.proofs.lemmas.Option.{slice_get-get_or, get_or_from_slice_get, slice_get_within}
-use Rattle.kernel_audit.specs.Minutes.{Entry}
+use Rattle.kernel_audit.specs.Minutes.{Entry, Posted, Ended, ended_in}
+use Rattle.kernel_audit.specs.Runs.{Machine}
+use Rattle.kernel_audit.specs.State.{Idle}
+use Rattle.kernel_audit.specs.EndedAt.{StandsAtEnd}
+use Rattle.kernel_audit.specs.outcome.Outcome.{Outcome}
 use Rattle.kernel_audit.specs.done.Done.{Done}
 use Rattle.hall_state.specs.declared.pending_result.PendingResult.{PendingResult}
 use Rattle.hall_state.specs.declared.pending_result.LastEnd.{LastEnd}
-use Rattle.hall_state.specs.PendingResults.{IsTold, IsSettled, Settles, SettlesEntry, SettlesLast}
-use Rattle.kernel_audit.specs.Minutes.{Posted, Ended}
-use Rattle.hall_state.specs.LastEnds.{IsLastEnd, EndsNoNumber, last_of, number_in}
+use Rattle.hall_state.specs.JustEnded.{HasJustEnded}
+use Rattle.hall_state.specs.PendingResults.{IsTold, IsSettled, IsBehind, HasNoEnd, SettlesLast}
+use Rattle.hall_state.specs.LastEnds.{IsLastEnd, EndsNoNumber, StandsAt, IsEndAt, last_of, number_in}
+use Rattle.hall_state.proofs.Places.{last_added, below_or}
+use Rattle.hall_state.proofs.Beside.{last_index, last_outcome}
+
+-- ---- what is told
 
 -- what a telling leaves of one, beside what it tells
 pub record IsLeft (kept left : PendingResult) : Type 0 where
@@ -17,18 +26,38 @@ pub record IsLeft (kept left : PendingResult) : Type 0 where
   pub ended : left.ended ≡ kept.ended
   pub wishes : left.wishes ≡ kept.wishes
 
-pub told : (es : List PendingResult) (i n : ℕ) (x left : PendingResult) (r : Option Done) → i < length es → i ≡ n - 1 → IsLeft (get_or es i x) left →
-    IfSome r (λ d. d.shown ≡ (get_or es i x).shown) → IfSome r (λ d. d.values ≡ (get_or es i x).values) → IfSome r (λ d. left.shown ≡ None) →
-    IfSome r (λ d. left.values.items ≡ []) → IfSome r (λ d. IsTold es n d (slice_set es i left))
-told es i n x left None low same rest shown values none empty = tt
-told es i n x left (Some d) low same rest shown values none empty = record {
+-- what is taken of it
+pub record IsTaken (minutes : List Entry) (kept left : PendingResult) (d : Done) : Type 0 where
+  pub stands : (place : ℕ) × (kept.ended ≡ Some place) × StandsAt minutes place d
+  pub shown : d.shown ≡ kept.shown
+  pub values : d.values ≡ kept.values
+  pub none_shown : left.shown ≡ None
+  pub no_values : left.values.items ≡ []
+  pub told : left.is_told ≡ true
+
+pub taken : (minutes : List Entry) (kept left : PendingResult) (r : Option Done)
+    → IfSome r (λ d. (place : ℕ) × (kept.ended ≡ Some place) × StandsAt minutes place d) → IfSome r (λ d. d.shown ≡ kept.shown)
+    → IfSome r (λ d. d.values ≡ kept.values) → IfSome r (λ d. left.shown ≡ None) → IfSome r (λ d. left.values.items ≡ [])
+    → IfSome r (λ d. left.is_told ≡ true) → IfSome r (IsTaken minutes kept left)
+taken minutes kept left None stands shown values none empty told = tt
+taken minutes kept left (Some d) stands shown values none empty told =
+    record { stands = stands; shown = shown; values = values; none_shown = none; no_values = empty; told = told }
+
+pub told : (minutes : List Entry) (es : List PendingResult) (i n : ℕ) (x left : PendingResult) (r : Option Done) → i < length es → i ≡ n - 1
+    → IsLeft (get_or es i x) left → IfSome r (IsTaken minutes (get_or es i x) left) → IfSome r (λ d. IsTold minutes es n d (slice_set es i left))
+told minutes es i n x left None low same rest t = tt
+told minutes es i n x left (Some d) low same rest t = record {
   kept = get_or es i x;
   left = left;
   there = subst (λ (j : ℕ). slice_get es j ≡ Some (get_or es i x)) same (slice_get-get_or es i x low);
-  shown = shown;
-  values = values;
-  none_shown = none;
-  no_values = empty;
+  place = t.stands.0;
+  was = t.stands.1;
+  stands = t.stands.2;
+  shown = t.shown;
+  values = t.values;
+  none_shown = t.none_shown;
+  no_values = t.no_values;
+  told = t.told;
   posted = rest.posted;
   ended = rest.ended;
   wishes = rest.wishes;
@@ -41,30 +70,83 @@ pub untold : (es : List PendingResult) (i : ℕ) (x left : PendingResult) (r : O
 untold es i x left None same = ap (λ (e : PendingResult). slice_set es i e) same ∙ set-get_or es i x
 untold es i x left (Some d) same = tt
 
--- an end of this number stands last, so there is one settled entry
-last : (entries : List Entry) (old new : List PendingResult) (end : LastEnd) → IsLastEnd entries end → Settles old end.index end.place new →
-    SettlesLast entries old new
-last entries old new end is s =
-    subst (λ o. SettlesEntry o old (length entries - 1) new) (sym is.last) (subst (λ (p : ℕ). Settles old end.index p new) is.place s)
+-- and nothing was taken down of an end
+pub unended : (minutes : List Entry) (es : List PendingResult) (i n : ℕ) (x : PendingResult) (r : Option Done) → i ≡ n - 1
+    → IfNone r ((place : ℕ) → (get_or es i x).ended ≡ Some place → IsEndAt minutes place n → ⊥) → IfNone r (HasNoEnd minutes es n)
+unended minutes es i n x None at h = λ some e there place ended end.
+    let same : get_or es i x ≡ e = get_or_from_slice_get es i e x (subst (λ (j : ℕ). slice_get es j ≡ Some e) (sym at) there) in
+    h place (subst (λ (y : PendingResult). y.ended ≡ Some place) (sym same) ended) end
+unended minutes es i n x (Some d) at h = tt
+
+-- of no number, and of one past all, nothing was
+pub none_past : (minutes : List Entry) (es : List PendingResult) (i n : ℕ) → i ≡ n - 1 → length es ≤ i → HasNoEnd minutes es n
+none_past minutes es i n at far = λ some e there place ended end.
+    let low : n - 1 < length es = slice_get_within es (n - 1) e there in absurd (omega (arith, low, at, far))
+
+pub none_zero : (minutes : List Entry) (es : List PendingResult) (n : ℕ) → n ≡ 0 → HasNoEnd minutes es n
+none_zero minutes es n is = λ some e there place ended end. absurd (omega (arith, some, is))
+
+-- ---- what is settled
+
+-- the end of a job that has just ended has a number
+pub has_number : (m : Machine) (es : List PendingResult) → IsBehind m es → EndsNoNumber (last_of m.minutes) → ⊥
+has_number m es b h =
+    let entry : Entry = Ended (suc (ended_in b.0)) b.2.outcome b.2.count b.2.node in
+    let last : last_of m.minutes ≡ Some entry = subst (λ (l : List Entry). last_of l ≡ Some entry) (sym b.2.written) (last_added b.0 entry) in
+    let no_number : suc (ended_in b.0) ≡ 0 = subst EndsNoNumber last h in
+    omega (arith, no_number)
+
+pub within : (m : Machine) (es : List PendingResult) (end : LastEnd) → IsBehind m es → IsLastEnd m.minutes end → end.index < length es
+within m es end b is =
+    let index : end.index ≡ ended_in b.0 = last_index b.0 m end.index end.outcome is.count is.node b.2 is.last in
+    ⊎_elim (λ l. l) (λ ge. absurd (not_there b.3 (λ a. omega (arith, index, b.4, a.many, ge)))) (below_or end.index (length es))
+
+-- there is room for values, and none stands there
+pub record HasRoom (e : PendingResult) : Type 0 where
+  pub empty : e.values.items ≡ []
+  pub room : vec_len e.wishes ≤ vec_capacity e.values
+
+are_none : {A : Type 0} (xs : List A) → ((xs ≡ [] → ⊥) → ⊥) → xs ≡ []
+are_none [] h = refl
+are_none (x ∷ xs) h = absurd (h (λ e. cc e))
+
+pub waits : (m : Machine) (es : List PendingResult) (end : LastEnd) (x : PendingResult) → IsBehind m es → IsLastEnd m.minutes end →
+    HasRoom (get_or es end.index x)
+waits m es end x b is =
+    let index : end.index ≡ ended_in b.0 = last_index b.0 m end.index end.outcome is.count is.node b.2 is.last in
+    let e : PendingResult = get_or es end.index x in
+    let there : slice_get es end.index ≡ Some e = slice_get-get_or es end.index x (within m es end b is) in record {
+      empty = are_none e.values.items (λ some. not_there b.3 (λ a. some (a.waiting end.index e there (omega (arith, index))).empty));
+      room = ⊎_elim
+          (λ l. absurd (not_there b.3 (λ a. let r = (a.waiting end.index e there (omega (arith, index))).room in omega (arith, l, r))))
+          (λ le. le)
+          (below_or (vec_capacity e.values) (vec_len e.wishes));
+    }
+
+pub stands : (m : Machine) (es : List PendingResult) (end : LastEnd) → IsBehind m es → IsLastEnd m.minutes end → StandsAtEnd end.outcome m.state.past
+stands m es end b is =
+    subst (λ (o : Outcome). StandsAtEnd o m.state.past) (last_outcome b.0 m (suc end.index) end.outcome is.count is.node b.2 is.last) b.2.stands
+
+pub is_idle : (m : Machine) (es : List PendingResult) → IsBehind m es → m.state.job ≡ Idle
+is_idle m es b = b.2.idle
 
 -- the one with the end's index is settled
-pub settled : (entries : List Entry) (old : List PendingResult) (end : LastEnd) (x left : PendingResult) → IsLastEnd entries end → end.index < length old →
-    IsSettled (get_or old end.index x) end.place left → SettlesLast entries old (slice_set old end.index left)
-settled entries old end x left is low s =
-    last entries old (slice_set old end.index left) end is
-    record {
-      within = λ e at. (left, refl, subst (λ (k : PendingResult). IsSettled k end.place left) (get_or_from_slice_get old end.index e x at) s);
-      beyond = λ far. absurd (omega arith);
-    }
+pub settles : (m : Machine) (es : List PendingResult) (end : LastEnd) (x left : PendingResult) → IsLastEnd m.minutes end → end.index < length es →
+    IsSettled (get_or es end.index x) end.place m.state.past end.outcome left → SettlesLast m es (slice_set es end.index left)
+settles m es end x left is low s = record {
+  index = end.index;
+  outcome = end.outcome;
+  count = is.count;
+  node = is.node;
+  last = is.last;
+  kept = get_or es end.index x;
+  left = left;
+  there = slice_get-get_or es end.index x low;
+  settled = subst (λ (p : ℕ). IsSettled (get_or es end.index x) p m.state.past end.outcome left) is.place s;
+  others = refl;
+}
 
--- there is none with the end's index
-pub unsettled : (entries : List Entry) (old : List PendingResult) (end : LastEnd) → IsLastEnd entries end → length old ≤ end.index → SettlesLast entries old old
-unsettled entries old end is far =
-    last entries old old end is
-    record {
-      within = λ e at. let low = slice_get_within old end.index e at in absurd (omega arith);
-      beyond = λ _. refl;
-    }
+-- ---- numbers
 
 -- the number of the end that stands last
 pub numbered : (entries : List Entry) (end : LastEnd) → IsLastEnd entries end → end.number ≡ number_in (last_of entries)

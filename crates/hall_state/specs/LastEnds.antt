@@ -1,6 +1,8 @@
 -- How the end that stands last in the minutes is read.
 use Rattle.std.specs.Prelude.{◌≡◌, ℕ, ◌-◌, List, Option, None, Some, length, slice_get, zero, suc}
 use Rattle.kernel_audit.specs.Minutes.{Entry, Posted, Ended}
+use Rattle.kernel_audit.specs.outcome.Outcome.{Outcome}
+use Rattle.kernel_audit.specs.done.Done.{Done}
 use Rattle.hall_state.specs.declared.pending_result.LastEnd.{LastEnd}
 
 -- the entry that stands last
@@ -26,3 +28,15 @@ abbrev pub number_in : Option Entry → ℕ
 number_in None = 0
 number_in (Some (Posted lane job)) = 0
 number_in (Some (Ended number o count node)) = number
+
+-- the end that is told stands at this place
+abbrev pub StandsAt : List Entry → ℕ → Done → Type 0
+StandsAt entries place d = slice_get entries place ≡ Some (Ended d.number d.outcome d.count d.node)
+
+-- an end of the job with this number stands at this place
+abbrev pub IsEndAt : List Entry → ℕ → ℕ → Type 0
+IsEndAt entries place n = (o : Outcome) × (count : ℕ) × (node : ℕ) × (slice_get entries place ≡ Some (Ended n o count node))
+
+-- no job with this number has ended
+abbrev pub EndsNowhere : List Entry → ℕ → Type 0
+EndsNowhere entries n = (place : ℕ) → IsEndAt entries place n → ⊥

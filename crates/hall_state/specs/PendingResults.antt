@@ -1,62 +1,130 @@
 -- What stands beside the posts: their wishes until they end, and what is made as a job ends, to be told once.
-use Rattle.std.specs.Prelude.{◌≡◌, ℕ, ◌-◌, ◌≤◌, Bool, true, false, List, [], Option, None, Some, length, slice_get, slice_set, zero, suc}
-use Rattle.kernel_audit.specs.Minutes.{Entry, Posted, Ended}
+use Rattle.std.specs.Prelude.{◌≡◌, ◌⊎◌, ℕ, ◌-◌, ◌<◌, ◌≤◌, Bool, true, false, List, [], Option, None, Some, length, get_or, slice_get, slice_set}
+use Rattle.std.specs.Prelude.{suc, option_map, string_bytes, vec_len, vec_capacity}
+use mathlib.Core.List.{IsPrefix}
+use Rattle.kernel_audit.specs.Minutes.{Entry, Ended, posted_in, ended_in}
+use Rattle.kernel_audit.specs.Runs.{Machine}
+use Rattle.kernel_audit.specs.State.{Past, Idle}
+use Rattle.kernel_audit.specs.LegalMinutes.{IsLegalMachine}
+use Rattle.kernel_audit.specs.Shown.{IsShownOfNode}
+use Rattle.kernel_audit.specs.Evaluation.{AreValuesAfter}
+use Rattle.kernel_audit.specs.outcome.Outcome.{Outcome}
 use Rattle.kernel_audit.specs.outcome.Begun.{Begun}
 use Rattle.kernel_audit.specs.outcome.Begun.TheVariants as begun
 use Rattle.kernel_audit.specs.outcome.Sliced.{Sliced}
 use Rattle.kernel_audit.specs.outcome.Sliced.TheVariants as sliced
 use Rattle.kernel_audit.specs.done.Done.{Done}
+use Rattle.kernel_audit.specs.done.NamedValue.{NamedValue}
 use Rattle.kernel_audit.specs.Wishes.{WishOf}
+use Rattle.hall_state.specs.JustEnded.{HasJustEnded}
+use Rattle.hall_state.specs.LastEnds.{last_of, StandsAt, IsEndAt}
 use Rattle.hall_state.specs.declared.pending_result.PendingResult.{PendingResult}
 use Rattle.hall_state.specs.declared.turn.Turn.{Turn}
 use Rattle.hall_state.specs.declared.turn.Turn.TheVariants.{Cut, Began, Worn}
 
--- of a post at this place of the minutes, with these wishes, which has not ended; nothing was made yet
-pub record IsNewPending (place : ℕ) (given : List WishOf) (e : PendingResult) : Type 0 where
-  pub posted : e.posted ≡ place
+-- ---- what is made
+
+-- The shown text and the values of these wishes are those of this past, in which a job ended so; or there was no memory for the shown text.
+pub record AreMadeIn (s : Past) (o : Outcome) (given : List WishOf) (shown : Option (List ℕ)) (values : List NamedValue) : Type 0 where
+  pub is_shown : IsShownOfNode o s shown ⊎ (shown ≡ None)
+  pub are_values : AreValuesAfter o s given values
+
+-- They were made as the job of this number ended so: in the past of a legal machine, whose minutes are a beginning of these and end with the job's end.
+pub record WereMade (minutes : List Entry) (n : ℕ) (o : Outcome) (given : List WishOf) (shown : Option (List ℕ)) (values : List NamedValue) : Type 0 where
+  pub machine : Machine
+  pub legal : IsLegalMachine machine
+  pub idle : machine.state.job ≡ Idle
+  pub before : IsPrefix machine.minutes minutes
+  pub count : ℕ
+  pub node : ℕ
+  pub last : last_of machine.minutes ≡ Some (Ended n o count node)
+  pub made : AreMadeIn machine.state.past o given shown values
+
+-- ---- beside one post
+
+-- its job has not ended: the wishes are kept, and there is room for their values
+pub record IsWaiting (given : List WishOf) (e : PendingResult) : Type 0 where
   pub ended : e.ended ≡ None
   pub wishes : e.wishes.items ≡ given
-  pub shown : e.shown ≡ None
-  pub values : e.values.items ≡ []
+  pub empty : e.values.items ≡ []
+  pub room : vec_len e.wishes ≤ vec_capacity e.values
 
--- what is told of this number has the shown text and the values that were kept for it, of which nothing is kept any more; all else is as it was
-pub record IsTold (old : List PendingResult) (n : ℕ) (d : Done) (new : List PendingResult) : Type 0 where
+-- it is of a post at this place of the minutes, with these wishes, whose job has not ended
+pub record IsNewPending (place : ℕ) (given : List WishOf) (e : PendingResult) : Type 0 where
+  pub posted : e.posted ≡ place
+  pub waiting : IsWaiting given e
+
+-- the job has ended at this place of the minutes, and so, in this past: its wishes are spent on what was made
+pub record IsSettled (old : PendingResult) (place : ℕ) (s : Past) (o : Outcome) (new : PendingResult) : Type 0 where
+  pub posted : new.posted ≡ old.posted
+  pub ended : new.ended ≡ Some place
+  pub untold : new.is_told ≡ false
+  pub made : AreMadeIn s o old.wishes.items (option_map string_bytes new.shown) new.values.items
+
+-- its job has this number and has ended: its end stands in the minutes, and what was made is kept until it is told
+pub record HasSettled (minutes : List Entry) (number : ℕ) (given : List WishOf) (e : PendingResult) : Type 0 where
+  pub place : ℕ
+  pub outcome : Outcome
+  pub count : ℕ
+  pub node : ℕ
+  pub ended : e.ended ≡ Some place
+  pub there : slice_get minutes place ≡ Some (Ended number outcome count node)
+  pub made : e.is_told ≡ false → WereMade minutes number outcome given (option_map string_bytes e.shown) e.values.items
+
+-- ---- beside all posts
+
+-- one stands beside each post: the first that have ended are settled, and the others wait. The wishes are those that were posted, in the order of the posts.
+pub record AreBeside (minutes : List Entry) (wished : List (List WishOf)) (es : List PendingResult) : Type 0 where
+  pub many : length es ≡ posted_in minutes
+  pub wishes : length wished ≡ posted_in minutes
+  pub settled : (i : ℕ) (e : PendingResult) → slice_get es i ≡ Some e → i < ended_in minutes → HasSettled minutes (suc i) (get_or wished i []) e
+  pub waiting : (i : ℕ) (e : PendingResult) → slice_get es i ≡ Some e → ended_in minutes ≤ i → IsWaiting (get_or wished i []) e
+
+-- a job has just ended in this machine, and what stands beside the posts is that of before
+abbrev pub IsBehind : Machine → List PendingResult → Type 0
+IsBehind m es =
+    (before : List Entry) × (wished : List (List WishOf)) × HasJustEnded before m × ∥ AreBeside before wished es ∥₁ × (ended_in before < posted_in before)
+
+-- what is told of this number is the end where it was taken down, with the shown text and the values that were kept for it, of which nothing is kept any
+-- more; all else is as it was
+pub record IsTold (minutes : List Entry) (old : List PendingResult) (n : ℕ) (d : Done) (new : List PendingResult) : Type 0 where
   pub kept : PendingResult
   pub left : PendingResult
   pub there : slice_get old (n - 1) ≡ Some kept
+  pub place : ℕ
+  pub was : kept.ended ≡ Some place
+  pub stands : StandsAt minutes place d
   pub shown : d.shown ≡ kept.shown
   pub values : d.values ≡ kept.values
   pub none_shown : left.shown ≡ None
   pub no_values : left.values.items ≡ []
+  pub told : left.is_told ≡ true
   pub posted : left.posted ≡ kept.posted
   pub ended : left.ended ≡ kept.ended
   pub wishes : left.wishes ≡ kept.wishes
   pub others : new ≡ slice_set old (n - 1) left
 
--- the job has ended at this place of the minutes, and its wishes are spent
-pub record IsSettled (old : PendingResult) (place : ℕ) (new : PendingResult) : Type 0 where
-  pub posted : new.posted ≡ old.posted
-  pub ended : new.ended ≡ Some place
-  pub wishes : new.wishes.items ≡ []
+-- nobody was told yet of what was made for this number
+abbrev pub IsUntold : List PendingResult → ℕ → Type 0
+IsUntold es n = (e : PendingResult) → slice_get es (n - 1) ≡ Some e → e.is_told ≡ false
 
--- the one at this index, if there is one, is settled at this place, and all others are as they were
-pub record Settles (old : List PendingResult) (index place : ℕ) (new : List PendingResult) : Type 0 where
-  pub within : (e : PendingResult) → slice_get old index ≡ Some e → (left : PendingResult) × (new ≡ slice_set old index left) × IsSettled e place left
-  pub beyond : length old ≤ index → new ≡ old
+-- nothing was taken down of an end of this number that stands in the minutes
+abbrev pub HasNoEnd : List Entry → List PendingResult → ℕ → Type 0
+HasNoEnd minutes es n =
+    0 < n → (e : PendingResult) → slice_get es (n - 1) ≡ Some e → (place : ℕ) → e.ended ≡ Some place → IsEndAt minutes place n → ⊥
 
--- the jobs are numbered from 1
-abbrev pub SettlesNumber : ℕ → List PendingResult → ℕ → List PendingResult → Type 0
-SettlesNumber zero old place new = new ≡ old
-SettlesNumber (suc index) old place new = Settles old index place new
-
-abbrev pub SettlesEntry : Option Entry → List PendingResult → ℕ → List PendingResult → Type 0
-SettlesEntry None old place new = new ≡ old
-SettlesEntry (Some (Posted lane job)) old place new = new ≡ old
-SettlesEntry (Some (Ended number o count node)) old place new = SettlesNumber number old place new
-
--- the job whose end stands last in the minutes is settled there, and all others are as they were
-abbrev pub SettlesLast : List Entry → List PendingResult → List PendingResult → Type 0
-SettlesLast entries old new = SettlesEntry (slice_get entries (length entries - 1)) old (length entries - 1) new
+-- The job that has just ended in this machine is settled, at the place of its end, and all others are as they were.
+pub record SettlesLast (m : Machine) (old new : List PendingResult) : Type 0 where
+  pub index : ℕ
+  pub outcome : Outcome
+  pub count : ℕ
+  pub node : ℕ
+  pub last : last_of m.minutes ≡ Some (Ended (suc index) outcome count node)
+  pub kept : PendingResult
+  pub left : PendingResult
+  pub there : slice_get old index ≡ Some kept
+  pub settled : IsSettled kept (length m.minutes - 1) m.state.past outcome left
+  pub others : new ≡ slice_set old index left
 
 -- whether a turn ended a job
 abbrev pub ends_job : Turn → Bool

@@ -1,6 +1,5 @@
 -- One turn of the runner: what it is of the lent kernel and of the runner's seat.
-use Rattle.std.specs.Prelude.{◌≡◌, ℕ, Bool, true, false, List, [], ◌∷◌, ◌++◌}
-use Rattle.kernel_audit.specs.Minutes.{Entry}
+use Rattle.std.specs.Prelude.{◌≡◌, ℕ}
 use Rattle.kernel_audit.specs.Runs.{Machine, phase_of, IsBegin, IsSliceOf}
 use Rattle.kernel_audit.specs.outcome.Phase.{Phase}
 use Rattle.kernel_audit.specs.outcome.Phase.TheVariants.{Idle, Queued, Border, Inside}
@@ -29,8 +28,3 @@ IsTurnAt Idle k r n t k' r' = IsBeginning k t k' r r'
 
 abbrev pub IsTurn : Machine → RunnerOf → ℕ → Turn → Machine → RunnerOf → Type 0
 IsTurn k r n t k' r' = IsTurnAt (phase_of k.state.job k.queue) k r n t k' r'
-
--- what a turn writes into the minutes: one entry where it ends a job, else none
-abbrev pub Writes : Bool → List Entry → List Entry → Type 0
-Writes true old new = (entry : Entry) × (new ≡ old ++ entry ∷ [])
-Writes false old new = new ≡ old

@@ -1,10 +1,11 @@
-//! How the history follows the minutes.
-ghost use Rattle.std.specs.Prelude.{◌≡◌, ◌++◌, ◌∷◌, [], All, map};
+//! How the history follows the minutes, and what is noted beside them.
+ghost use Rattle.std.specs.Prelude.{◌≡◌, ◌++◌, ◌∷◌, [], All, map, true};
 ghost use mathlib.Core.List.{IsPrefix};
 ghost use Rattle.kernel_audit.specs.Minutes as minutes;
+ghost use Rattle.kernel_audit.specs.Notes.{wished_in, has_shutdown};
 ghost use Rattle.kernel_audit.specs.Written.{entry_of};
 
-use kernel_audit::{Entry, HistoryName, Keeper, Kernel, Pass};
+use kernel_audit::{Beside, Entry, HistoryName, Keeper, Kernel, Note, Pass, Wish};
 use std::sync::ledger::{Book, Ledger};
 
 /// Adds the entry to the history that the kernel wrote last.
@@ -16,15 +17,41 @@ pub(crate) fn follow<W: Ledger, L: HistoryName>(history: &mut Keeper<Entry, L>, 
     history.extend(&minutes[minutes.len() - 1]);
 }
 
+/// Notes the wishes of a post, and gives them back.
+pub(crate) fn note_wishes<L: HistoryName>(
+    notes: &mut Keeper<Note, Beside<L>>,
+    wishes: Vec<Wish>,
+) -> Vec<Wish>
+    ensures wishes { result ≡ wishes }
+    ensures noted { wished_in notes.new ≡ wished_in notes.old ++ wishes.items ∷ [] }
+    ensures shut { has_shutdown notes.new ≡ has_shutdown notes.old }
+{
+    let note = Note::Posted(wishes);
+    notes.extend(&note);
+    match note {
+        Note::Posted(wishes) => wishes,
+        Note::Shut => unreachable!(),
+    }
+}
+
+/// Notes a shutdown.
+pub(crate) fn note_shutdown<L: HistoryName>(notes: &mut Keeper<Note, Beside<L>>)
+    ensures noted { wished_in notes.new ≡ wished_in notes.old }
+    ensures shut { has_shutdown notes.new ≡ true }
+{
+    notes.extend(&Note::Shut);
+}
+
 /// Shows all of the history to passes, which end with it.
 pub(crate) fn show_all<L: HistoryName>(
     passes: Vec<Pass<L>>,
     book: &mut Book<L>,
     history: &mut Keeper<Entry, L>,
+    notes: &mut Keeper<Note, Beside<L>>,
 )
     ensures { All (λ p. IsPrefix p.front (map entry_of history.old)) passes.items }
 {
     for mut pass in passes {
-        pass.see(book, history);
+        pass.see(book, history, notes);
     }
 }

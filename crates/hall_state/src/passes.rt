@@ -5,7 +5,7 @@ ghost use Rattle.kernel_audit.specs.Written.{entry_of};
 ghost use Rattle.hall_state.specs.declared.limit.TheConstants.{PASSES, PARTS_OF_POSTS};
 
 use crate::limit::PASSES;
-use kernel_audit::{Entry, HistoryName, Keeper, Pass};
+use kernel_audit::{Beside, Entry, HistoryName, Keeper, Note, Pass};
 use std::marker::Model;
 use std::sync::ledger::Share;
 
@@ -37,19 +37,24 @@ impl<L: HistoryName> Passes<L> {
         Passes { given: 0, rest }
     }
 
-    /// One more pass, with no posts, on the next lane, which has seen all of the history; `None` where all are given.
-    pub fn next(&mut self, history: &mut Keeper<Entry, L>) -> Option<Pass<L>>
-        ensures pass { IfSome result (λ p. p ≡ pass_of (self.old + 1) 0 (map entry_of history.old)) }
+    /// One more pass, with no posts, on the next lane, which has seen all of the history and of the notes; `None` where all are given.
+    pub fn next(
+        &mut self,
+        history: &mut Keeper<Entry, L>,
+        notes: &mut Keeper<Note, Beside<L>>,
+    ) -> Option<Pass<L>>
+        ensures pass { IfSome result (λ p. p ≡ pass_of (self.old + 1) 0 (map entry_of history.old) notes.old) }
         ensures lane { IfSome result (λ p. (1 ≤ p.lane) × (p.lane ≤ PASSES)) }
         ensures some { IfSome result (λ p. self.new ≡ self.old + 1) }
         ensures none { IfNone result ((self.old ≡ PASSES) × (self.new ≡ self.old)) }
         ensures history { history.new ≡ history.old }
+        ensures notes { notes.new ≡ notes.old }
     {
         if self.given >= PASSES {
             return None;
         }
         let share = self.rest.split_off(1, 0);
         self.given += 1;
-        Some(Pass::new(self.given, share, history.front()))
+        Some(Pass::new(self.given, share, history.front(), notes.front()))
     }
 }

@@ -1,15 +1,14 @@
 //! What is made for a job that ends, to be fetched by the first wait for it.
-ghost use Rattle.std.specs.Prelude.{◌≡◌, ◌-◌, [], IfSome, IfNone, IfOk, None, map, suc};
+ghost use Rattle.std.specs.Prelude.{◌≡◌, ◌-◌, ◌≤◌, ℕ, [], IfSome, IfNone, None, Some, map, slice_get, suc, true, false, vec_len, vec_capacity};
 ghost use Rattle.kernel_audit.specs.State.{Idle};
 ghost use Rattle.kernel_audit.specs.Written.{entry_of};
+ghost use Rattle.kernel_audit.specs.EndedAt.{StandsAtEnd};
 ghost use Rattle.kernel_audit.specs.Ends.{HasEnd};
-ghost use Rattle.hall_state.specs.PendingResults.{IsNewPending, IsTold, IsSettled, SettlesLast};
-ghost use Rattle.hall_state.specs.LastEnds.{IsLastEnd, EndsNoNumber, last_of, number_in};
+ghost use Rattle.hall_state.specs.PendingResults.{IsNewPending, IsTold, IsSettled, SettlesLast, IsBehind, IsUntold, HasNoEnd};
+ghost use Rattle.hall_state.specs.LastEnds.{IsLastEnd, EndsNoNumber, StandsAt, IsEndAt, last_of, number_in};
 
-use kernel_audit::{
-    Done, Entry, Kernel, NamedValue, Outcome, Wish, is_settled, shown_of_node, stands_at_end,
-};
-use std::alloc::{AllocError, Global};
+use kernel_audit::{Done, Entry, Kernel, NamedValue, Outcome, Wish, shown_after, values_after};
+use std::alloc::Global;
 use std::mem;
 use std::sync::ledger::Ledger;
 
@@ -19,31 +18,31 @@ use std::sync::ledger::Ledger;
 pub struct PendingResult {
     posted: usize,
     ended: Option<usize>,
+    is_told: bool,
     wishes: Vec<Wish>,
     shown: Option<String>,
+    /// Until the job has ended, the room for them.
     values: Vec<NamedValue>,
 }
 
 impl PendingResult {
-    /// For a post at this place of the minutes. The memory for the values is taken here: the only error is want of it.
-    pub(crate) fn new(
-        alloc: Global,
-        posted: usize,
-        wishes: Vec<Wish>,
-    ) -> Result<PendingResult, AllocError>
-        ensures { IfOk result (IsNewPending posted wishes.items) }
+    /// For a post at this place of the minutes, with room for the values of its wishes.
+    pub(crate) fn new(posted: usize, wishes: Vec<Wish>, room: Vec<NamedValue>) -> PendingResult
+        requires empty { room.items ≡ [] }
+        requires room { vec_len wishes ≤ vec_capacity room }
+        ensures { IsNewPending posted wishes.items result }
     {
-        let values = Vec::with_capacity(alloc, wishes.len())?;
-        Ok(PendingResult {
+        PendingResult {
             posted,
             ended: None,
+            is_told: false,
             wishes,
             shown: None,
-            values,
-        })
+            values: room,
+        }
     }
 
-    /// Takes down that the job has ended, at this place of the minutes, and makes the shown text and the values. A shown text that
+    /// Takes down that the job has ended so, at this place of the minutes, and makes the shown text and the values. A shown text that
     /// finds no memory is left out, and a value that finds none says so.
     fn settle<W: Ledger>(
         &mut self,
@@ -52,31 +51,35 @@ impl PendingResult {
         place: usize,
         outcome: &Outcome,
     )
-        ensures { IsSettled self.old place self.new }
+        requires idle { kernel.now.machine.state.job ≡ Idle }
+        requires still { StandsAtEnd outcome.now kernel.now.machine.state.past }
+        requires empty { self.old.values.items ≡ [] }
+        requires room { vec_len self.old.wishes ≤ vec_capacity self.old.values }
+        ensures { IsSettled self.old place kernel.now.machine.state.past outcome.now self.new }
     {
-        self.ended = Some(place);
         let wishes = mem::replace(&mut self.wishes, Vec::new(alloc));
-        if !is_settled(kernel) || !stands_at_end(kernel, outcome) {
-            return;
-        }
-        self.shown = shown_of_node(alloc, kernel, outcome).unwrap_or(None);
-        if let Outcome::Ran(_, _) = *outcome {
-            add_values(alloc, kernel, wishes, &mut self.values);
-        }
+        let room = mem::replace(&mut self.values, Vec::new(alloc));
+        self.ended = Some(place);
+        self.is_told = false;
+        self.shown = shown_after(alloc, kernel, outcome);
+        self.values = values_after(alloc, kernel, outcome, wishes, room);
     }
 
     /// What came of the job of this number, if its end stands where it was taken down. What was made for it goes along.
     fn done(&mut self, alloc: Global, minutes: &[Entry], wanted: u64) -> Option<Done>
         ensures number { IfSome result (λ d. d.number ≡ wanted) }
         ensures end { IfSome result (HasEnd (map entry_of minutes.now)) }
+        ensures there { IfSome result (λ d. (place : ℕ) × (self.old.ended ≡ Some place) × StandsAt (map entry_of minutes.now) place d) }
         ensures shown { IfSome result (λ d. d.shown ≡ self.old.shown) }
         ensures values { IfSome result (λ d. d.values ≡ self.old.values) }
         ensures none_shown { IfSome result (λ d. self.new.shown ≡ None) }
         ensures no_values { IfSome result (λ d. self.new.values.items ≡ []) }
+        ensures told { IfSome result (λ d. self.new.is_told ≡ true) }
         ensures posted { self.new.posted ≡ self.old.posted }
         ensures ended { self.new.ended ≡ self.old.ended }
         ensures wishes { self.new.wishes ≡ self.old.wishes }
         ensures none { IfNone result (self.new ≡ self.old) }
+        ensures unended { IfNone result ((place : ℕ) → self.old.ended ≡ Some place → IsEndAt (map entry_of minutes.now) place wanted → ⊥) }
     {
         let place = self.ended?;
         let Entry::Ended {
@@ -91,6 +94,7 @@ impl PendingResult {
         if *number != wanted {
             return None;
         }
+        self.is_told = true;
         Some(Done {
             number: *number,
             outcome: *outcome,
@@ -102,30 +106,17 @@ impl PendingResult {
     }
 }
 
-/// Adds the values of the wishes in the world of the position. The room was made with the post.
-fn add_values<W: Ledger>(
-    alloc: Global,
-    kernel: &Kernel<W>,
-    wishes: Vec<Wish>,
-    values: &mut Vec<NamedValue>,
-)
-    requires { kernel.now.machine.state.job ≡ Idle }
-{
-    for wish in wishes {
-        let _ = values.push(wish.evaluate(alloc, kernel));
-    }
-}
-
-/// Takes down the end that stands last in the minutes.
+/// Takes down the end that stands last in the minutes, of the job that has just ended.
 pub(crate) fn settle_last<W: Ledger>(
     alloc: Global,
     kernel: &Kernel<W>,
     pending_results: &mut [PendingResult],
 )
-    ensures { SettlesLast kernel.now.machine.minutes pending_results.old pending_results.new }
+    requires { IsBehind kernel.now.machine pending_results.old }
+    ensures { SettlesLast kernel.now.machine pending_results.old pending_results.new }
 {
     let Some(end) = last_end(kernel.minutes()) else {
-        return;
+        unreachable!()
     };
     let LastEnd {
         index,
@@ -133,9 +124,7 @@ pub(crate) fn settle_last<W: Ledger>(
         outcome,
         ..
     } = end;
-    if index < pending_results.len() {
-        pending_results[index].settle(alloc, kernel, place, &outcome);
-    }
+    pending_results[index].settle(alloc, kernel, place, &outcome);
 }
 
 /// Of the end that stands last in the minutes: its number, where the pending_result of its post stands, its place, and what came of the job.
@@ -188,6 +177,19 @@ fn index_of(number: u64) -> Option<usize>
     number.checked_sub(1).map(|index| index as usize)
 }
 
+/// Whether nothing is to be told of the job of this number that was not told already.
+fn was_told(pending_results: &[PendingResult], number: u64) -> bool
+    ensures { result ≡ false → IsUntold pending_results.now number }
+{
+    let Some(index) = index_of(number) else {
+        return true;
+    };
+    match pending_results.get(index) {
+        Some(pending_result) => pending_result.is_told,
+        None => true,
+    }
+}
+
 /// What came of the job of this number, if it has ended.
 pub(crate) fn fetch<W: Ledger>(
     alloc: Global,
@@ -197,12 +199,32 @@ pub(crate) fn fetch<W: Ledger>(
 ) -> Option<Done>
     ensures number { IfSome result (λ d. d.number ≡ number) }
     ensures end { IfSome result (HasEnd kernel.now.machine.minutes) }
-    ensures told { IfSome result (λ d. IsTold pending_results.old number d pending_results.new) }
+    ensures told { IfSome result (λ d. IsTold kernel.now.machine.minutes pending_results.old number d pending_results.new) }
     ensures none { IfNone result (pending_results.new ≡ pending_results.old) }
+    ensures unended { IfNone result (HasNoEnd kernel.now.machine.minutes pending_results.old number) }
 {
     let index = index_of(number)?;
     if index >= pending_results.len() {
         return None;
     }
     pending_results[index].done(alloc, kernel.minutes(), number)
+}
+
+/// `fetch`, where nobody was told yet of what was made for this number; else `None`.
+pub(crate) fn fetch_first<W: Ledger>(
+    alloc: Global,
+    kernel: &Kernel<W>,
+    pending_results: &mut [PendingResult],
+    number: u64,
+) -> Option<Done>
+    ensures number { IfSome result (λ d. d.number ≡ number) }
+    ensures end { IfSome result (HasEnd kernel.now.machine.minutes) }
+    ensures told { IfSome result (λ d. IsTold kernel.now.machine.minutes pending_results.old number d pending_results.new) }
+    ensures untold { IfSome result (λ d. IsUntold pending_results.old number) }
+    ensures none { IfNone result (pending_results.new ≡ pending_results.old) }
+{
+    if was_told(pending_results, number) {
+        return None;
+    }
+    fetch(alloc, kernel, pending_results, number)
 }

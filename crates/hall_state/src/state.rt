@@ -1,5 +1,6 @@
 //! What lies under the hall's lock.
-ghost use Rattle.std.specs.Prelude.{◌≡◌, ◌+◌, ◌-◌, ◌^◌, ◌<◌, ◌≤◌, ◌↔◌, IsTrue, [], ◌∷◌, ◌++◌, IfOk, IfErr, OnErr, IfSome, IfNone, All, suc, length, map, true};
+ghost use Rattle.std.specs.Prelude.{◌≡◌, ◌+◌, ◌-◌, ◌^◌, ◌<◌, ◌≤◌, ◌↔◌, IsTrue, [], ◌∷◌, ◌++◌, IfOk, IfErr, OnErr, IfSome, IfNone, All, suc, length, map};
+ghost use Rattle.std.specs.Prelude.{true, false, get_or, option_map, string_bytes};
 ghost use mathlib.Core.List.{IsPrefix};
 ghost use Rattle.std.specs.Bool.{OnTrue, OnFalse};
 ghost use Rattle.kernel_audit.specs.Request.{request_of};
@@ -10,29 +11,32 @@ ghost use Rattle.kernel_audit.specs.outcome.Phase.TheVariants.{Idle};
 ghost use Rattle.kernel_audit.specs.Answer.{IsAnswer};
 ghost use Rattle.kernel_audit.specs.CommChanges.{IsChange};
 ghost use Rattle.kernel_audit.specs.Written.{entry_of};
+ghost use Rattle.kernel_audit.specs.Notes.{wished_in, has_shutdown};
 ghost use Rattle.kernel_audit.specs.Passes.{pass_of, HasSeen, HasPosted};
 ghost use Rattle.hall_state.specs.Turns.{IsTurn};
-ghost use Rattle.hall_state.specs.PendingResults.{IsNewPending, IsTold, SettlesLast, ends_job};
-ghost use Rattle.hall_state.specs.LastEnds.{last_of, number_in};
+ghost use Rattle.hall_state.specs.PendingResults.{IsNewPending, IsTold, SettlesLast, AreBeside, WereMade, ends_job};
+ghost use Rattle.hall_state.specs.LastEnds.{EndsNowhere, last_of, number_in};
 ghost use Rattle.hall_state.specs.declared.limit.TheConstants.{PASSES, PARTS_OF_POSTS};
 ghost use Rattle.hall_state.specs.declared.pending_result.PendingResult.{PendingResult};
 ghost use Rattle.kernel_audit.specs.Ends.{HasEnd};
 ghost use Rattle.kernel_audit.specs.Audit.{Audited, IsAuditFault};
 
-use crate::history::{follow, show_all};
+use crate::history::{follow, note_shutdown, note_wishes, show_all};
 use crate::minutes::Minutes;
 use crate::passes::Passes;
-use crate::pending_result::{PendingResult, fetch, last_number, settle_last};
+use crate::pending_result::{PendingResult, fetch, fetch_first, last_number, settle_last};
 use crate::turn::{Turn, turn_on};
 use kernel_audit::{
-    Answer, Ask, AuditFault, CommChange, Comms, Done, Entry, HallFault, HistoryName, Job, Keeper,
-    Kernel, NewHistory, Pass, Phase, PostFault, Ticket, Wish, ask_on, audit, comm_on,
+    Answer, Ask, AuditFault, Beside, CommChange, Comms, Done, Entry, HallFault, HistoryName, Job,
+    Keeper, Kernel, NewHistory, Note, Pass, Phase, PostFault, Ticket, Wish, ask_on, audit, comm_on,
 };
 use kernel_bell::{Bell, RunnerSeat};
 use std::alloc::Global;
 use std::sync::ledger::{Book, Ledger, Share};
 
-/// The lock's value. Its type keeps that the book is the number of posts in the minutes, and that the minutes are the history.
+/// The lock's value. Its type keeps that the book is the number of posts in the minutes, that the minutes are the history, that a shutdown is noted
+/// where the kernel closes, and that one pending result stands beside each post, of the wishes that are noted of it: those of the jobs that have ended
+/// are settled, and the others wait.
 #[derive(Drop)]
 pub struct State<W: Ledger, L: HistoryName> {
     kernel: Kernel<W>,
@@ -42,12 +46,15 @@ pub struct State<W: Ledger, L: HistoryName> {
     alloc: Global,
     book: Book<L>,
     history: Keeper<Entry, L>,
+    notes: Keeper<Note, Beside<L>>,
     pub ghost counted: { book.total ≡ posted_in kernel.machine.minutes },
     pub ghost told: { map entry_of history ≡ kernel.machine.minutes },
+    pub ghost closes: { has_shutdown notes ≡ kernel.machine.closing },
+    pub ghost beside: { ∥ AreBeside kernel.machine.minutes (wished_in notes) pending_results.items ∥₁ },
 }
 
 impl<W: Ledger, L: HistoryName> State<W, L> {
-    /// Around a kernel with no minutes, with the book of its posts and all shares in it, and the history that its minutes become.
+    /// Around an open kernel with no minutes, with the book of its posts and all shares in it, the history that its minutes become, and that of the notes.
     pub fn new(
         alloc: Global,
         kernel: Kernel<W>,
@@ -55,12 +62,15 @@ impl<W: Ledger, L: HistoryName> State<W, L> {
         book: Book<L>,
         rest: Share<L>,
         history: NewHistory<Entry>,
+        notes: NewHistory<Note>,
     ) -> State<W, L>
         requires fresh { kernel.machine.minutes ≡ [] }
+        requires open { kernel.machine.closing ≡ false }
         requires book { book.total ≡ 0 }
         requires parts { rest.parts ≡ PARTS_OF_POSTS }
         requires amount { rest.amount ≡ 0 }
         requires history { history ≡ L.history }
+        requires notes { notes ≡ L.beside }
         ensures kernel { result.kernel ≡ kernel }
         ensures comms { result.comms ≡ comms }
     {
@@ -72,6 +82,7 @@ impl<W: Ledger, L: HistoryName> State<W, L> {
             alloc,
             book,
             history: history.keeper(),
+            notes: notes.keeper(),
         }
     }
 
@@ -85,11 +96,12 @@ impl<W: Ledger, L: HistoryName> State<W, L> {
     ) -> Result<u64, PostFault>
         ensures number { IfOk result (λ n. n ≡ suc (posted_in self.old.kernel.machine.minutes)) }
         ensures posted { IfOk result (λ n. self.new.kernel.machine ≡ posted self.old.kernel.machine pass.old.lane (request_of job)) }
-        ensures stands { IfOk result (λ n. HasPosted pass.old (request_of job) n pass.new) }
+        ensures stands { IfOk result (λ n. HasPosted pass.old (request_of job) wishes.items n pass.new) }
         ensures refusal { IfErr result (IsRefusal self.old.kernel.machine) }
         ensures kernel { OnErr result (self.new.kernel.machine ≡ self.old.kernel.machine) }
         ensures pass { OnErr result (HasSeen pass.old pass.new) }
         ensures front { pass.new.front ≡ self.new.kernel.machine.minutes }
+        ensures closing { has_shutdown pass.new.notes ≡ self.old.kernel.machine.closing }
         ensures comms { self.new.comms ≡ self.old.comms }
         ensures pending_result { IfOk result
             (λ n. (e : PendingResult) × IsNewPending (length self.old.kernel.machine.minutes) wishes.items e
@@ -119,6 +131,7 @@ impl<W: Ledger, L: HistoryName> State<W, L> {
         ensures refusal { IsRefusal self.old.kernel.machine result }
         ensures pass { HasSeen pass.old pass.new }
         ensures front { pass.new.front ≡ self.old.kernel.machine.minutes }
+        ensures closing { has_shutdown pass.new.notes ≡ self.old.kernel.machine.closing }
         ensures kernel { self.new.kernel ≡ self.old.kernel }
         ensures legal { IsLegalMachine self.old.kernel.machine }
     {
@@ -126,10 +139,13 @@ impl<W: Ledger, L: HistoryName> State<W, L> {
         self.kernel.post_fault().unwrap_or(PostFault::Memory)
     }
 
-    /// Shows the minutes to a pass. What it had seen is a beginning of them, and all its posts are among them.
+    /// Shows the minutes to a pass, and the notes beside them. What it had seen is a beginning of them, and all its posts are among them.
     pub fn see(&mut self, pass: &mut Pass<L>)
         ensures seen { HasSeen pass.old pass.new }
         ensures front { pass.new.front ≡ self.old.kernel.machine.minutes }
+        ensures notes { pass.new.notes ≡ self.old.notes }
+        ensures same_notes { self.new.notes ≡ self.old.notes }
+        ensures closing { has_shutdown pass.new.notes ≡ self.old.kernel.machine.closing }
         ensures own { pass.new.posts ≤ posted_in self.old.kernel.machine.minutes }
         ensures legal { IsLegalMachine self.old.kernel.machine }
         ensures kernel { self.new.kernel ≡ self.old.kernel }
@@ -137,16 +153,23 @@ impl<W: Ledger, L: HistoryName> State<W, L> {
         ensures pending_results { self.new.pending_results ≡ self.old.pending_results }
     {
         show_legal(&self.kernel);
-        let State { book, history, .. } = self;
-        pass.see(book, history);
+        let State {
+            book,
+            history,
+            notes,
+            ..
+        } = self;
+        pass.see(book, history, notes);
     }
 
     /// Queues a job, which only want of memory refuses.
     fn queue(&mut self, pass: &mut Pass<L>, job: Job, wishes: Vec<Wish>) -> Result<u64, PostFault>
         requires ready { IsReady self.old.kernel.machine }
+        ensures serves { self.old.kernel.machine.closing ≡ false }
         ensures number { IfOk result (λ n. n ≡ suc (posted_in self.old.kernel.machine.minutes)) }
         ensures posted { IfOk result (λ n. self.new.kernel.machine ≡ posted self.old.kernel.machine pass.old.lane (request_of job)) }
-        ensures counted { IfOk result (λ n. pass.new ≡ pass_of pass.old.lane (pass.old.posts + 1) pass.old.front) }
+        ensures counted { IfOk result (λ n. pass.new ≡ pass_of pass.old.lane (pass.old.posts + 1) pass.old.front pass.old.notes) }
+        ensures wished { IfOk result (λ n. wished_in self.new.notes ≡ wished_in self.old.notes ++ wishes.items ∷ []) }
         ensures refusal { IfErr result (IsRefusal self.old.kernel.machine) }
         ensures kernel { OnErr result (self.new.kernel.machine ≡ self.old.kernel.machine) }
         ensures pass { OnErr result (pass.new ≡ pass.old) }
@@ -162,17 +185,21 @@ impl<W: Ledger, L: HistoryName> State<W, L> {
             alloc,
             book,
             history,
+            notes,
             ..
         } = self;
-        let Ok(pending_result) = PendingResult::new(*alloc, kernel.minutes().len(), wishes) else {
+        show_legal(kernel);
+        let Ok(room) = Vec::with_capacity(*alloc, wishes.len()) else {
             return Err(PostFault::Memory);
         };
         if pending_results.reserve(1).is_err() {
             return Err(PostFault::Memory);
         }
+        let place = kernel.minutes().len();
         let number = kernel.post(pass.lane(), job)?;
         follow(history, kernel);
-        pending_results.push_reserved(pending_result);
+        let wishes = note_wishes(notes, wishes);
+        pending_results.push_reserved(PendingResult::new(place, wishes, room));
         pass.count(book);
         Ok(number)
     }
@@ -184,7 +211,7 @@ impl<W: Ledger, L: HistoryName> State<W, L> {
         ensures turn { IsTurn self.old.kernel.machine runner.old m result self.new.kernel.machine runner.new }
         ensures legal { IsLegalMachine self.old.kernel.machine }
         ensures comms { self.new.comms ≡ self.old.comms }
-        ensures settled { OnTrue (ends_job result) (SettlesLast self.new.kernel.machine.minutes self.old.pending_results.items self.new.pending_results.items) }
+        ensures settled { OnTrue (ends_job result) (SettlesLast self.new.kernel.machine self.old.pending_results.items self.new.pending_results.items) }
         ensures pending_results { OnFalse (ends_job result) (self.new.pending_results.items ≡ self.old.pending_results.items) }
     {
         show_legal(&self.kernel);
@@ -196,23 +223,33 @@ impl<W: Ledger, L: HistoryName> State<W, L> {
         let turn = turn_on(kernel, bell, runner, m);
         if turn.is_end() {
             follow(history, kernel);
+            show_legal(&self.kernel);
             settle_last(self.alloc, &self.kernel, &mut self.pending_results);
         }
         turn
     }
 
-    /// What came of the job of this number, if it has ended. What was made as it ended is told once.
-    pub fn done(&mut self, number: u64) -> Option<Done>
+    /// What came of the job of this number; `None` where it has not ended, or where the first alone is to be told and was told already. What was made
+    /// as it ended is told once: of the wishes that are noted of its post.
+    pub fn done(&mut self, number: u64, is_first: bool) -> Option<Done>
         ensures number { IfSome result (λ d. d.number ≡ number) }
         ensures end { IfSome result (HasEnd self.old.kernel.machine.minutes) }
-        ensures told { IfSome result (λ d. IsTold self.old.pending_results.items number d self.new.pending_results.items) }
+        ensures told { IfSome result (λ d. IsTold self.old.kernel.machine.minutes self.old.pending_results.items number d self.new.pending_results.items) }
         ensures none { IfNone result (self.new.pending_results.items ≡ self.old.pending_results.items) }
+        ensures unended { IfNone result (is_first ≡ false → EndsNowhere self.old.kernel.machine.minutes number) }
+        ensures made { IfSome result (λ d. is_first ≡ true → ∥ WereMade self.old.kernel.machine.minutes d.number d.outcome
+            (get_or (wished_in self.old.notes) (number - 1) []) (option_map string_bytes d.shown) d.values.items ∥₁) }
+        ensures notes { self.new.notes ≡ self.old.notes }
         ensures legal { IsLegalMachine self.old.kernel.machine }
         ensures kernel { self.new.kernel ≡ self.old.kernel }
         ensures comms { self.new.comms ≡ self.old.comms }
     {
         show_legal(&self.kernel);
-        fetch(self.alloc, &self.kernel, &mut self.pending_results, number)
+        if is_first {
+            fetch_first(self.alloc, &self.kernel, &mut self.pending_results, number)
+        } else {
+            fetch(self.alloc, &self.kernel, &mut self.pending_results, number)
+        }
     }
 
     /// The number of the job whose end stands last in the minutes; 0 where no end does.
@@ -224,7 +261,7 @@ impl<W: Ledger, L: HistoryName> State<W, L> {
 
     /// A new pass, with no posts, which has seen the minutes; `None` where all are given.
     pub fn pass(&mut self) -> Option<Pass<L>>
-        ensures pass { IfSome result (λ p. p ≡ pass_of (self.old.passes + 1) 0 self.old.kernel.machine.minutes) }
+        ensures pass { IfSome result (λ p. p ≡ pass_of (self.old.passes + 1) 0 self.old.kernel.machine.minutes self.old.notes) }
         ensures lane { IfSome result (λ p. (1 ≤ p.lane) × (p.lane ≤ PASSES)) }
         ensures given { IfSome result (λ p. self.new.passes ≡ self.old.passes + 1) }
         ensures none { IfNone result (self.old.passes ≡ PASSES) }
@@ -237,9 +274,10 @@ impl<W: Ledger, L: HistoryName> State<W, L> {
         let State {
             passes,
             history,
+            notes,
             ..
         } = self;
-        passes.next(history)
+        passes.next(history, notes)
     }
 
     /// How many minutes there are.
@@ -290,14 +328,16 @@ impl<W: Ledger, L: HistoryName> State<W, L> {
         comm_on(comms, change)
     }
 
-    /// Refuses later posts.
+    /// Refuses later posts, which is noted.
     pub fn shut(&mut self)
         ensures shut { self.new.kernel.machine ≡ shut self.old.kernel.machine }
+        ensures noted { has_shutdown self.new.notes ≡ true }
         ensures comms { self.new.comms ≡ self.old.comms }
         ensures pending_results { self.new.pending_results ≡ self.old.pending_results }
     {
-        let State { kernel, .. } = self;
+        let State { kernel, notes, .. } = self;
         kernel.shut();
+        note_shutdown(notes);
     }
 
     /// Compares the minutes with what the frontends came away with. All of it is spent, the kernel too where something is missing or
@@ -321,10 +361,11 @@ impl<W: Ledger, L: HistoryName> State<W, L> {
             kernel,
             mut book,
             mut history,
+            mut notes,
             ..
         } = self;
         let audited = audit(kernel.minutes(), &passes, &mut tickets, &mut dones);
-        show_all(passes, &mut book, &mut history);
+        show_all(passes, &mut book, &mut history, &mut notes);
         match audited {
             Ok(()) => Ok(Minutes { kernel }),
             Err(fault) => {

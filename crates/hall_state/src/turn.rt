@@ -2,7 +2,8 @@
 ghost use Rattle.std.specs.Prelude.{◌≡◌, ◌-◌, ◌^◌, ◌<◌};
 ghost use Rattle.kernel_audit.specs.Minutes.{posted_in};
 ghost use Rattle.hall_state.specs.PendingResults.{ends_job};
-ghost use Rattle.hall_state.specs.Turns.{IsTurn, Writes};
+ghost use Rattle.hall_state.specs.JustEnded.{EndsOrWrites};
+ghost use Rattle.hall_state.specs.Turns.{IsTurn};
 
 use kernel_audit::{Begun, Kernel, Phase, Sliced};
 use kernel_bell::{Bell, RunnerSeat};
@@ -42,8 +43,9 @@ pub fn turn_on<W: Ledger>(
     requires own { runner.old.bell ≡ bell.now }
     requires room { runner.old.knows.serial < 2 ^ 64 - 1 }
     ensures turn { IsTurn kernel.old.machine runner.old m result kernel.new.machine runner.new }
-    ensures writes { Writes (ends_job result) kernel.old.machine.minutes kernel.new.machine.minutes }
+    ensures ends { EndsOrWrites (ends_job result) kernel.old.machine.minutes kernel.new.machine }
     ensures posts { posted_in kernel.new.machine.minutes ≡ posted_in kernel.old.machine.minutes }
+    ensures closing { kernel.new.machine.closing ≡ kernel.old.machine.closing }
 {
     match kernel.phase() {
         Phase::Inside => {

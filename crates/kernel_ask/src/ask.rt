@@ -18,7 +18,7 @@ use crate::answer::{Answer, Ask, Completion, Content, HallFault};
 use crate::comms::Comms;
 use crate::completion::completion_of;
 use crate::done::ExpFault;
-use crate::evaluation::evaluation_of;
+use crate::evaluation::{evaluation_of, names_here};
 use crate::input_history::history_of;
 use crate::inputs::{HistoryAsk, Input};
 use crate::inspection::inspection_of;
@@ -78,7 +78,8 @@ pub fn evaluate<L: Ledger>(alloc: Global, kernel: &Kernel<L>, text: &str) -> Res
     ensures { IsEvaluated (here kernel.now.machine.state.past).store text.now result }
 {
     let read = parse_exp(alloc, text);
-    evaluation_of(alloc, kernel.store(), &read)
+    let names = names_here(alloc, kernel);
+    evaluation_of(alloc, kernel.store(), &names, &read)
 }
 
 /// What is shown of a job that is over: the value texts of the declared names that the cell names, in the order of declaration and parted by LF,

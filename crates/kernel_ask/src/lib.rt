@@ -9,7 +9,8 @@
 //!
 //! In reading order: `answer` (questions and answers), `ask` (the answers over a lent kernel), and each of them: `cursor`, `matches` and
 //! `completion`, `inspection`, `judgement`, `inputs`, `tail` and `input_history`, `standing` (the state). Then what is told of a job that ended:
-//! `done`, `shown`, `wish` and `evaluation`, `lines`. `comms` and `comm_change` are the open comms, `limit` what several crates test, `laws` the laws.
+//! `done`, `shown`, `wish` and `evaluation`, `ending` (what is made as it ends), `lines`. `comms` and `comm_change` are the open comms, `limit` what
+//! several crates test, `laws` the laws.
 //!
 //! It gives again what the layers above cite of `kernel_text` and of `kernel_core`, so that most of them name this crate alone.
 #![tactic(auto)]
@@ -21,6 +22,7 @@ mod comms;
 mod completion;
 mod cursor;
 mod done;
+mod ending;
 mod evaluation;
 mod input_history;
 mod inputs;
@@ -40,6 +42,7 @@ pub use crate::ask::{ask_on, complete, evaluate, history, inspect, judge, shown_
 pub use crate::comm_change::{CommChange, comm_on};
 pub use crate::comms::Comms;
 pub use crate::done::{Done, ExpFault, NamedValue};
+pub use crate::ending::{shown_after, values_after};
 pub use crate::inputs::{HistoryAsk, Input};
 pub use crate::judgement::{Completeness, is_complete};
 pub use crate::limit::COMM_LIMIT;

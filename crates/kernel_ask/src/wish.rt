@@ -1,11 +1,14 @@
 //! User expressions, each of which is read from its text once.
-ghost use Rattle.std.specs.Prelude.{◌≡◌, string_bytes};
+ghost use Rattle.std.specs.Prelude.{◌≡◌, IfSome, string_bytes};
+ghost use Rattle.janus_meaning.specs.Shape.{shape_of};
+ghost use Rattle.janus_check.specs.Names.{shape_in};
 ghost use Rattle.kernel_text.specs.State.{Idle, here};
 ghost use Rattle.kernel_ask.specs.Evaluation.{IsEvaluated};
 ghost use Rattle.kernel_ask.specs.Wishes.{wish_of};
 
 use crate::done::NamedValue;
 use crate::evaluation::evaluation_of;
+use janus_check::Env;
 use janus_syntax::tree::Exp;
 use janus_syntax::{SyntaxFault, parse_exp};
 use kernel_text::Kernel;
@@ -44,14 +47,20 @@ impl Wish {
         Wish { name, text, exp }
     }
 
-    /// The value of the expression in the world of the position, or why it has none, under the name. No job is open.
-    pub fn evaluate<L: Ledger>(self, alloc: Global, kernel: &Kernel<L>) -> NamedValue
-        requires { kernel.now.machine.state.job ≡ Idle }
+    /// The value of the expression in the world of the position, or why it has none, under the name. No job is open, and the declared names are lent.
+    pub(crate) fn evaluate<L: Ledger>(
+        self,
+        alloc: Global,
+        kernel: &Kernel<L>,
+        names: &Option<Env>,
+    ) -> NamedValue
+        requires idle { kernel.now.machine.state.job ≡ Idle }
+        requires names { IfSome names.now (λ env. shape_in env.names ≡ shape_of (here kernel.now.machine.state.past).store) }
         ensures name { string_bytes result.name ≡ self.name }
         ensures value { IsEvaluated (here kernel.now.machine.state.past).store self.exp result.value }
     {
         let Wish { name, exp, .. } = self;
-        let value = evaluation_of(alloc, kernel.store(), &exp);
+        let value = evaluation_of(alloc, kernel.store(), names, &exp);
         NamedValue { name, value }
     }
 }

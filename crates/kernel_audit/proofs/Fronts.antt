@@ -4,7 +4,9 @@ use mathlib.Core.List.{IsPrefix, map-append}
 use Rattle.kernel_ask.specs.Request.{Request}
 use Rattle.kernel_ask.specs.Minutes.{Entry, Post, Posted, posts_of, posted_in, IsNumberOf}
 use Rattle.kernel_ask.proofs.Posts.{posts-append}
+use Rattle.kernel_ask.specs.Wishes.{WishOf}
 use Rattle.kernel_audit.specs.Passes.{PassOf, AreLegal, HasSeen, HasPosted}
+use Rattle.kernel_audit.proofs.Noted.{wished_stays}
 
 pub prefix_map : {A B : Type 0} (f : A → B) (xs ys : List A) → IsPrefix xs ys → IsPrefix (map f xs) (map f ys)
 prefix_map f xs ys p = (map f p.0, sym (map-append f xs p.0) ∙ ap (map f) p.1)
@@ -27,12 +29,15 @@ pub number_of_last : (xs : List Entry) (lane : ℕ) (job : Request)
 number_of_last xs lane job = (posts_of xs, [], posts-append xs (Posted lane job ∷ []), refl)
 
 -- who has posted and sees on has still posted
-pub posted_on : (old mid new : PassOf) (job : Request) (number : ℕ) → HasPosted old job number mid → HasSeen mid new → AreLegal new.front
-    → HasPosted old job number new
-posted_on old mid new job number p s legal = record {
+pub posted_on : (old mid new : PassOf) (job : Request) (given : List WishOf) (number : ℕ) → HasPosted old job given number mid → HasSeen mid new
+    → AreLegal new.front → HasPosted old job given number new
+posted_on old mid new job given number p s legal = record {
   lane = s.lane ∙ p.lane;
   posts = s.posts ∙ p.posts;
   onward = prefix_trans old.front mid.front new.front p.onward s.onward;
+  noted = prefix_trans old.notes mid.notes new.notes p.noted s.noted;
+  serves = p.serves;
   legal = legal;
+  wished = wished_stays mid.notes new.notes number given s.noted p.wished;
   posted = number_stays mid.front new.front number (record { lane = old.lane; job = job }) s.onward p.posted;
 }

@@ -4,6 +4,7 @@ pub mod Numbered
 pub mod InOrder
 pub mod Orders
 pub mod Tickets
+pub mod Noted
 pub mod Fronts
 pub mod Crosses
 -- Of shared_history, given again.

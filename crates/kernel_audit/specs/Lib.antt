@@ -1,3 +1,4 @@
+pub mod Notes
 pub mod Passes
 pub mod Ends
 pub mod Audit
@@ -12,6 +13,9 @@ pub use Rattle.kernel_ask.specs.declared.answer
 pub use Rattle.kernel_ask.specs.declared.done
 pub use Rattle.kernel_ask.specs.CommChanges
 pub use Rattle.kernel_ask.specs.Wishes
+pub use Rattle.kernel_ask.specs.EndedAt
+pub use Rattle.kernel_ask.specs.Shown
+pub use Rattle.kernel_ask.specs.Evaluation
 -- Of kernel_core, given again.
 pub use Rattle.kernel_ask.specs.Runs
 pub use Rattle.kernel_ask.specs.LegalMinutes

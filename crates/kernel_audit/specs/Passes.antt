@@ -1,39 +1,51 @@
 -- What contracts see of a pass, what it sees and posts, and the tickets of its posts.
-use Rattle.std.specs.Prelude.{◌≡◌, ℕ, ◌+◌, List}
+use Rattle.std.specs.Prelude.{◌≡◌, ℕ, ◌+◌, ◌-◌, false, List, Some, slice_get}
 use mathlib.Core.List.{IsPrefix}
 use Rattle.kernel_ask.specs.Minutes.{Entry, IsNumberOf}
 use Rattle.kernel_ask.specs.Request.{Request}
 use Rattle.kernel_ask.specs.Runs.{Machine}
 use Rattle.kernel_ask.specs.LegalMinutes.{IsLegalMachine}
 use Rattle.kernel_ask.specs.post.Job.{Job}
+use Rattle.kernel_ask.specs.Wishes.{WishOf}
 use Rattle.kernel_audit.specs.declared.pass.Ticket.{Ticket}
+use Rattle.kernel_audit.specs.declared.note.Note.{Note}
+use Rattle.kernel_audit.specs.Notes.{wished_in, has_shutdown}
 
--- a frontend's lane, how many posts it made, and the beginning of the minutes that it has seen
+-- a frontend's lane, how many posts it made, and the beginnings of the minutes and of the notes beside them that it has seen
 pub record PassOf : Type 0 where
   pub lane : ℕ
   pub posts : ℕ
   pub front : List Entry
+  pub notes : List Note
 
-abbrev pub pass_of : ℕ → ℕ → List Entry → PassOf
-pass_of lane posts front = record { lane = lane; posts = posts; front = front }
+abbrev pub pass_of : ℕ → ℕ → List Entry → List Note → PassOf
+pass_of lane posts front notes = record { lane = lane; posts = posts; front = front; notes = notes }
 
 -- these are the minutes of a legal kernel
 abbrev pub AreLegal : List Entry → Type 0
 AreLegal entries = (k : Machine) × IsLegalMachine k × (k.minutes ≡ entries)
 
--- the pass has seen on: what it had seen is a beginning of what it has seen now; else it is as it was
+-- the pass has seen on: what it had seen are beginnings of what it has seen now; else it is as it was
 pub record HasSeen (old new : PassOf) : Type 0 where
   pub lane : new.lane ≡ old.lane
   pub posts : new.posts ≡ old.posts
   pub onward : IsPrefix old.front new.front
+  pub noted : IsPrefix old.notes new.notes
 
--- the pass has posted this job, and counted it. What it has seen now are the minutes of a legal kernel: what it had seen is a beginning of them,
--- and its post stands there, with its lane and this job, at this number
-pub record HasPosted (old : PassOf) (job : Request) (number : ℕ) (new : PassOf) : Type 0 where
+-- these wishes are noted of the post with this number
+abbrev pub IsWished : List Note → ℕ → List WishOf → Type 0
+IsWished notes number given = slice_get (wished_in notes) (number - 1) ≡ Some given
+
+-- the pass has posted this job, and counted it; it had seen no shutdown. What it has seen now are the minutes of a legal kernel: what it had seen is a
+-- beginning of them, and its post stands there, with its lane and this job, at this number, under which its wishes are noted
+pub record HasPosted (old : PassOf) (job : Request) (given : List WishOf) (number : ℕ) (new : PassOf) : Type 0 where
   pub lane : new.lane ≡ old.lane
   pub posts : new.posts ≡ old.posts + 1
   pub onward : IsPrefix old.front new.front
+  pub noted : IsPrefix old.notes new.notes
+  pub serves : has_shutdown old.notes ≡ false
   pub legal : AreLegal new.front
+  pub wished : IsWished new.notes number given
   pub posted : IsNumberOf new.front number (record { lane = old.lane; job = job })
 
 -- the ticket of a pass's next post: its lane, which of its posts it is, the number and the job

@@ -3,7 +3,8 @@
 //! A frontend has a pass, which counts its posts, a ticket for each post that was taken, and what it was told of the ends of jobs. To the
 //! layer above the audit promises that it passes exactly what the minutes hold, and that what it finds missing or untrue is so. A pass
 //! holds one part of a ledger, whose book the owner of the minutes keeps, so that no pass counts a post that the book hasn't; and it holds what it
-//! has seen of the minutes, which are one history, so that what one sees now begins with all that it had seen.
+//! has seen of the minutes, which are one history, so that what one sees now begins with all that it had seen; so it is with what is noted beside
+//! them, the wishes of the posts and a shutdown.
 //!
 //! It gives the names of `kernel_ask`, of the kernel below it and of the history again that the hall cites.
 #![tactic(auto)]
@@ -11,6 +12,7 @@
 mod comparison;
 mod fault;
 mod mark;
+mod note;
 mod order;
 mod pass;
 mod same;
@@ -20,7 +22,8 @@ pub use fault::AuditFault;
 pub use kernel_ask::{
     Answer, Ask, Begun, CellText, CommChange, Comms, Content, Done, Entry, HallFault, Job, Kernel,
     NamedValue, Outcome, Phase, PostFault, Refusal, STEPS_OF_A_SLICE, Sliced, Wish, ask_on,
-    comm_on, is_settled, judge, shown_of_node, stands_at_end,
+    comm_on, judge, shown_after, values_after,
 };
+pub use note::Note;
 pub use pass::{Pass, Ticket};
-pub use shared_history::{HistoryName, Keeper, NewHistory};
+pub use shared_history::{Beside, HistoryName, Keeper, NewHistory};

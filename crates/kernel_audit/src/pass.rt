@@ -4,19 +4,21 @@ ghost use mathlib.Core.List.{IsPrefix};
 ghost use Rattle.kernel_ask.specs.Written.{entry_of};
 ghost use Rattle.kernel_audit.specs.Passes.{pass_of};
 
+use crate::note::Note;
 use kernel_ask::{Entry, Job};
-use shared_history::{Front, HistoryName, Keeper};
+use shared_history::{Beside, Front, HistoryName, Keeper};
 use std::marker::Model;
 use std::sync::ledger::{Book, Share};
 
-/// A frontend's pass: its lane, how many posts it made, which its share of the ledger counts too, and the beginning of the minutes that it has
-/// seen. The type parameter names the ledger and the history, so that a pass fits its own hall alone.
+/// A frontend's pass: its lane, how many posts it made, which its share of the ledger counts too, and the beginnings of the minutes and of the notes
+/// beside them that it has seen. The type parameter names the ledger and the histories, so that a pass fits its own hall alone.
 #[derive(Drop)]
 pub struct Pass<L: HistoryName> {
     lane: u32,
     posts: u64,
     share: Share<L>,
     front: Front<Entry, L>,
+    notes: Front<Note, Beside<L>>,
 }
 
 impl<L: HistoryName> Model for Pass<L> {
@@ -26,59 +28,68 @@ impl<L: HistoryName> Model for Pass<L> {
 
     ghost Value = { PassOf };
 
-    ghost view = { λ p. pass_of p.lane p.posts (map entry_of p.front) };
+    ghost view = { λ p. pass_of p.lane p.posts (map entry_of p.front) p.notes };
 
     ghost invariant = { λ p. (p.share.parts ≡ 1) × (p.share.amount ≡ p.posts) };
 }
 
 impl<L: HistoryName> Pass<L> {
-    /// A pass on this lane, with no posts, around one part of the ledger. It has seen what the front has.
-    pub fn new(lane: u32, share: Share<L>, front: Front<Entry, L>) -> Pass<L>
+    /// A pass on this lane, with no posts, around one part of the ledger. It has seen what the fronts have.
+    pub fn new(
+        lane: u32,
+        share: Share<L>,
+        front: Front<Entry, L>,
+        notes: Front<Note, Beside<L>>,
+    ) -> Pass<L>
         requires part { share.parts ≡ 1 }
         requires empty { share.amount ≡ 0 }
-        ensures { result ≡ pass_of lane 0 (map entry_of front) }
+        ensures { result ≡ pass_of lane 0 (map entry_of front) notes }
     {
         Pass {
             lane,
             posts: 0,
             share,
             front,
+            notes,
         }
     }
 
     /// Counts one more post, in the ledger's book too.
     pub fn count(&mut self, book: &mut Book<L>)
         requires room { book.old.total < 2 ^ 64 - 1 }
-        ensures pass { self.new ≡ pass_of self.old.lane (self.old.posts + 1) self.old.front }
+        ensures pass { self.new ≡ pass_of self.old.lane (self.old.posts + 1) self.old.front self.old.notes }
         ensures book { book.new.total ≡ book.old.total + 1 }
     {
-        let Pass {
-            lane: _,
-            posts,
-            share,
-            front: _,
-        } = self;
+        let Pass { posts, share, .. } = self;
         book.audit(share);
         book.add(share, 1);
         *posts += 1;
     }
 
-    /// Sees all entries of the history. Those that it had seen are a beginning of them, and the book has counted its posts.
-    pub fn see(&mut self, book: &mut Book<L>, history: &mut Keeper<Entry, L>)
-        ensures pass { self.new ≡ pass_of self.old.lane self.old.posts (map entry_of history.old) }
+    /// Sees all entries of the history, and all notes. Those that it had seen are beginnings of them, and the book has counted its posts.
+    pub fn see(
+        &mut self,
+        book: &mut Book<L>,
+        history: &mut Keeper<Entry, L>,
+        notes: &mut Keeper<Note, Beside<L>>,
+    )
+        ensures pass { self.new ≡ pass_of self.old.lane self.old.posts (map entry_of history.old) notes.old }
         ensures onward { IsPrefix self.old.front self.new.front }
+        ensures noted { IsPrefix self.old.notes self.new.notes }
         ensures counted { self.new.posts ≤ book.old.total }
         ensures book { book.new.total ≡ book.old.total }
         ensures history { history.new ≡ history.old }
+        ensures notes { notes.new ≡ notes.old }
     {
         let Pass {
-            lane: _,
-            posts: _,
             share,
             front,
+            notes: noted,
+            ..
         } = self;
         book.audit(share);
         front.see(history);
+        noted.see(notes);
     }
 
     /// The number of the frontend that posts with it.

@@ -1,5 +1,5 @@
 -- What the hall says of a call, as the desk's relation has it.
-use Rattle.std.proofs.Common.{◌≡◌, ℕ, ◌≤◌, Bool, List, Result, Ok, Err, IfOk, IfErr, OnErr, refl, sym, subst}
+use Rattle.std.proofs.Common.{◌≡◌, ◌∙◌, ℕ, ◌≤◌, Bool, true, true≢false, List, Result, Ok, Err, IfOk, IfErr, OnErr, refl, sym, ap, subst}
 use Rattle.kernel_hall.specs.Runs.{Machine, IsRefusal}
 use Rattle.kernel_hall.specs.LegalMinutes.{IsLegalMachine}
 use Rattle.kernel_hall.specs.Minutes.{Entry, posted_in}
@@ -8,52 +8,90 @@ use Rattle.kernel_hall.specs.Passes.{PassOf, HasSeen, HasPosted}
 use Rattle.kernel_hall.specs.Ends.{HasEnd}
 use Rattle.kernel_hall.specs.Answer.{IsAnswer}
 use Rattle.kernel_hall.specs.post.PostFault.{PostFault}
+use Rattle.kernel_hall.specs.post.PostFault.TheVariants.{Closing, MinutesFull, QueueFull, Memory}
+use Rattle.kernel_hall.specs.Wishes.{WishOf}
+use Rattle.kernel_hall.specs.Notes.{has_shutdown}
+use Rattle.kernel_hall.specs.Refused.{IsRefused}
+use Rattle.kernel_hall.proofs.Noted.{shut_stays}
 use Rattle.kernel_hall.specs.answer.Ask.{Ask}
 use Rattle.kernel_hall.specs.answer.Answer.{Answer}
 use Rattle.kernel_hall.specs.answer.HallFault.{HallFault}
-use Rattle.kernel_hall.specs.answer.HallFault.TheVariants.{Memory}
+use Rattle.kernel_hall.specs.answer.HallFault.TheVariants.{Memory as NoMemory}
 use Rattle.kernel_hall.specs.done.Done.{Done}
-use Rattle.kernel_session.specs.Question.{question_of}
-use Rattle.kernel_desk.specs.HallDesk.{DeskState, OnlyPass, IsPosted, IsAnswered, IsChanged}
+use Rattle.kernel_session.specs.Question.{question_of, wishes_of}
+use Rattle.kernel_desk.specs.HallDesk.{DeskState, OnlyPass, TellsMade, IsPosted, RefusesBehindShutdown, IsAnswered, IsChanged}
 
 -- a call of the hall leaves the desk with this pass, all else as it was
 abbrev pub with_pass : DeskState → PassOf → DeskState
 with_pass desk pass = record desk { pass = pass }
 
-posted : (desk : DeskState) (job : Request) (r : Result Done PostFault) (pass : PassOf)
-    → IfOk r (λ done. HasPosted desk.pass job done.number pass) → IfOk r (λ done. HasEnd pass.front done) → OnErr r (HasSeen desk.pass pass)
-    → IfErr r (λ fault. (k : Machine) × IsLegalMachine k × (k.minutes ≡ pass.front) × IsRefusal k fault) → IsPosted desk job r (with_pass desk pass)
-posted desk job (Ok done) pass stands end seen refusal = (stands, end)
-posted desk job (Err fault) pass stands end seen refusal = (seen, refusal)
+-- a kernel that closes refuses as closing
+closing : (k : Machine) (fault : PostFault) → k.closing ≡ true → IsRefusal k fault → fault ≡ Closing
+closing k Closing shut is = refl
+closing k MinutesFull shut is = absurd (true≢false (sym shut ∙ is.0))
+closing k QueueFull shut is = absurd (true≢false (sym shut ∙ is.0))
+closing k Memory shut is = absurd (true≢false (sym shut ∙ is.serves))
 
-pub is_posted : (desk old : DeskState) (job : Request) (r : Result Done PostFault) (pass : PassOf) → desk ≡ old
-    → IfOk r (λ done. HasPosted desk.pass job done.number pass) → IfOk r (λ done. HasEnd pass.front done) → OnErr r (HasSeen desk.pass pass)
-    → IfErr r (λ fault. (k : Machine) × IsLegalMachine k × (k.minutes ≡ pass.front) × IsRefusal k fault)
-    → IsPosted old job r (with_pass desk pass) × OnlyPass old (with_pass desk pass)
-is_posted desk old job r pass same stands end seen refusal =
-    subst (λ (d : DeskState). IsPosted d job r (with_pass desk pass) × OnlyPass d (with_pass desk pass)) same
-    (posted desk job r pass stands end seen refusal, refl)
+-- so does one that closes where the pass has seen a shutdown
+refuses : (old new : PassOf) (fault : PostFault) → has_shutdown old.notes ≡ true → HasSeen old new → IsRefused new fault → fault ≡ Closing
+refuses old new fault shut seen r = closing r.0 fault (sym r.3 ∙ shut_stays old.notes new.notes seen.noted shut) r.4
+
+-- what a call of the hall says of a job that is run
+pub record IsRun (old : PassOf) (job : Request) (given : List WishOf) (r : Result Done PostFault) (new : PassOf) : Type 0 where
+  pub posted : IfOk r (λ done. HasPosted old job given done.number new)
+  pub end : IfOk r (λ done. HasEnd new.front done)
+  pub made : IfOk r (λ done. TellsMade new.front given done)
+  pub refused : OnErr r (HasSeen old new)
+  pub refusal : IfErr r (IsRefused new)
+
+posted : (desk : DeskState) (job : Request) (given : List WishOf) (r : Result Done PostFault) (pass : PassOf) → IsRun desk.pass job given r pass
+    → IsPosted desk job (wishes_of given) r (with_pass desk pass)
+posted desk job given (Ok done) pass h = (given, refl, h.posted, h.end, h.made)
+posted desk job given (Err fault) pass h = (h.refused, h.refusal)
+
+behind : (desk : DeskState) (job : Request) (given : List WishOf) (r : Result Done PostFault) (pass : PassOf)
+    → (desk.was_shut ≡ true → has_shutdown desk.pass.notes ≡ true) → IsRun desk.pass job given r pass → RefusesBehindShutdown desk r
+behind desk job given (Ok done) pass knows h = λ shut. absurd (true≢false (sym (knows shut) ∙ h.posted.serves))
+behind desk job given (Err fault) pass knows h = λ shut.
+    ap (λ (f : PostFault). Err f) (refuses desk.pass pass fault (knows shut) h.refused h.refusal)
+
+pub is_posted : (desk old : DeskState) (job : Request) (given : List WishOf) (r : Result Done PostFault) (pass : PassOf) → desk ≡ old
+    → (desk.was_shut ≡ true → has_shutdown desk.pass.notes ≡ true) → IsRun desk.pass job given r pass
+    → IsPosted old job (wishes_of given) r (with_pass desk pass) × RefusesBehindShutdown old r × OnlyPass old (with_pass desk pass)
+is_posted desk old job given r pass same knows h =
+    subst (λ (d : DeskState). IsPosted d job (wishes_of given) r (with_pass desk pass) × RefusesBehindShutdown d r × OnlyPass d (with_pass desk pass)) same
+    (posted desk job given r pass h, behind desk job given r pass knows h, refl)
+
+-- a pass that has posted, or has seen on, still knows of a shutdown
+pub still_knows : (was_shut : Bool) (old : PassOf) (job : Request) (given : List WishOf) (r : Result Done PostFault) (new : PassOf)
+    → (was_shut ≡ true → has_shutdown old.notes ≡ true) → IsRun old job given r new → was_shut ≡ true → has_shutdown new.notes ≡ true
+still_knows was_shut old job given (Ok done) new knows h = λ shut. shut_stays old.notes new.notes h.posted.noted (knows shut)
+still_knows was_shut old job given (Err fault) new knows h = λ shut. shut_stays old.notes new.notes h.refused.noted (knows shut)
+
+pub knows_on : (was_shut : Bool) (old new : PassOf) → (was_shut ≡ true → has_shutdown old.notes ≡ true) → HasSeen old new
+    → was_shut ≡ true → has_shutdown new.notes ≡ true
+knows_on was_shut old new knows seen = λ shut. shut_stays old.notes new.notes seen.noted (knows shut)
 
 answered : (desk : DeskState) (asked : Ask) (r : Result Answer HallFault)
     → IfOk r (λ answer. (k : Machine) × (comms : List (List ℕ)) × IsLegalMachine k × (k.minutes ≡ desk.pass.front) × IsAnswer k comms asked answer)
-    → desk.pass.posts ≤ posted_in desk.pass.front → IfErr r (λ fault. fault ≡ Memory) → IsAnswered (question_of asked) r desk
+    → desk.pass.posts ≤ posted_in desk.pass.front → IfErr r (λ fault. fault ≡ NoMemory) → IsAnswered (question_of asked) r desk
 answered desk asked (Ok answer) (k, comms, legal, seen, is) own memory =
     (asked, refl, k, comms, legal, seen, subst (λ (entries : List Entry). desk.pass.posts ≤ posted_in entries) (sym seen) own, is)
 answered desk asked (Err fault) is own memory = memory
 
 pub is_answered : (desk old : DeskState) (asked : Ask) (r : Result Answer HallFault) (pass : PassOf) → desk ≡ old
     → IfOk r (λ answer. (k : Machine) × (comms : List (List ℕ)) × IsLegalMachine k × (k.minutes ≡ pass.front) × IsAnswer k comms asked answer)
-    → pass.posts ≤ posted_in pass.front → IfErr r (λ fault. fault ≡ Memory) → HasSeen desk.pass pass
+    → pass.posts ≤ posted_in pass.front → IfErr r (λ fault. fault ≡ NoMemory) → HasSeen desk.pass pass
     → IsAnswered (question_of asked) r (with_pass desk pass) × HasSeen old.pass pass × OnlyPass old (with_pass desk pass)
 is_answered desk old asked r pass same is own memory seen =
     subst (λ (d : DeskState). IsAnswered (question_of asked) r (with_pass desk pass) × HasSeen d.pass pass × OnlyPass d (with_pass desk pass)) same
     (answered (with_pass desk pass) asked r is own memory, seen, refl)
 
-changed : (r : Result Bool HallFault) → IfErr r (λ fault. fault ≡ Memory) → IsChanged r
+changed : (r : Result Bool HallFault) → IfErr r (λ fault. fault ≡ NoMemory) → IsChanged r
 changed (Ok told) memory = tt
 changed (Err fault) memory = memory
 
-pub is_changed : (desk old : DeskState) (r : Result Bool HallFault) (pass : PassOf) → desk ≡ old → IfErr r (λ fault. fault ≡ Memory)
+pub is_changed : (desk old : DeskState) (r : Result Bool HallFault) (pass : PassOf) → desk ≡ old → IfErr r (λ fault. fault ≡ NoMemory)
     → HasSeen desk.pass pass → IsChanged r × HasSeen old.pass pass × OnlyPass old (with_pass desk pass)
 is_changed desk old r pass same memory seen =
     subst (λ (d : DeskState). IsChanged r × HasSeen d.pass pass × OnlyPass d (with_pass desk pass)) same (changed r memory, seen, refl)

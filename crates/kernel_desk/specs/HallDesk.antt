@@ -1,9 +1,13 @@
 -- What a desk before a hall holds, and what each call leads to. What lies under the hall's lock when a call takes it is named by its minutes, which the pass
 -- has seen then: they are a beginning of the one history of all desks.
-use Rattle.std.specs.Prelude.{◌≡◌, ℕ, ◌+◌, ◌≤◌, ◌<◌, Bool, true, List, [], ◌++◌, ◌⊎◌, Result, Ok, Err, length}
-use Rattle.kernel_hall.specs.Runs.{Machine, IsRefusal}
+use Rattle.std.specs.Prelude.{◌≡◌, ℕ, ◌+◌, ◌≤◌, ◌<◌, Bool, true, List, [], ◌++◌, ◌⊎◌, Result, Ok, Err, length, option_map, string_bytes}
+use Rattle.kernel_hall.specs.Runs.{Machine}
 use Rattle.kernel_hall.specs.LegalMinutes.{IsLegalMachine}
 use Rattle.kernel_hall.specs.post.PostFault.{PostFault}
+use Rattle.kernel_hall.specs.post.PostFault.TheVariants.{Closing}
+use Rattle.kernel_hall.specs.Wishes.{WishOf}
+use Rattle.kernel_hall.specs.PendingResults.{WereMade}
+use Rattle.kernel_hall.specs.Refused.{IsRefused}
 use Rattle.kernel_hall.specs.Answer.{IsAnswer}
 use Rattle.kernel_hall.specs.answer.Ask.{Ask}
 use Rattle.kernel_hall.specs.answer.Answer.{Answer}
@@ -11,7 +15,7 @@ use Rattle.kernel_hall.specs.answer.HallFault.{HallFault}
 use Rattle.kernel_hall.specs.answer.HallFault.TheVariants.{Memory}
 use Rattle.kernel_hall.specs.done.Done.{Done}
 use Rattle.kernel_hall.specs.Ends.{HasEnd}
-use Rattle.kernel_hall.specs.Minutes.{posted_in}
+use Rattle.kernel_hall.specs.Minutes.{Entry, posted_in}
 use Rattle.kernel_hall.specs.Request.{Request}
 use Rattle.kernel_hall.specs.Passes.{PassOf, HasSeen, HasPosted}
 use Rattle.kernel_bell.specs.Seats.{RingerOf, ringer_seat, IsNeverLater}
@@ -19,7 +23,7 @@ use Rattle.kernel_bell.specs.Views.{after_look, after_raise}
 use Rattle.kernel_board.specs.Frames.{Frames}
 use Rattle.kernel_board.specs.Log.{Log, IsLog, oldest_of}
 use Rattle.kernel_board.specs.Reads.{batch_from}
-use Rattle.kernel_session.specs.Question.{Question, question_of}
+use Rattle.kernel_session.specs.Question.{Question, question_of, Wishes, wishes_of}
 use Rattle.kernel_session.specs.Call.{Call, Posted, Asked, Changed, Rang, Shut, Published, Kept, Dated}
 use Rattle.stamp_texts.specs.Date.{IsDate}
 
@@ -47,11 +51,21 @@ pub data AreRead (from : ℕ) : List Frames → ℕ → Type 0 where
 abbrev pub OnlyPass : DeskState → DeskState → Type 0
 OnlyPass old new = new ≡ record old { pass = new.pass }
 
--- The post of the job stands in the minutes that the pass has seen now, and so does the end that is told, under the number of that post. A refused one changes
--- nothing, and is refused by the kernel whose minutes the pass has seen now.
-abbrev pub IsPosted : DeskState → Request → Result Done PostFault → DeskState → Type 0
-IsPosted old job (Ok done) new = HasPosted old.pass job done.number new.pass × HasEnd new.pass.front done
-IsPosted old job (Err fault) new = HasSeen old.pass new.pass × ((k : Machine) × IsLegalMachine k × (k.minutes ≡ new.pass.front) × IsRefusal k fault)
+-- the shown text and the values that are told are those that were made as the job ended, of these wishes
+abbrev pub TellsMade : List Entry → List WishOf → Done → Type 0
+TellsMade minutes given done = ∥ WereMade minutes done.number done.outcome given (option_map string_bytes done.shown) done.values.items ∥₁
+
+-- The post of the job, with its wishes, stands in the minutes that the pass has seen now, and so does the end that is told, under the number of that post,
+-- with what was made then. A refused one changes nothing, and is refused by the kernel whose minutes the pass has seen now.
+abbrev pub IsPosted : DeskState → Request → Wishes → Result Done PostFault → DeskState → Type 0
+IsPosted old job wishes (Ok done) new =
+    (given : List WishOf) × (wishes_of given ≡ wishes) × HasPosted old.pass job given done.number new.pass × HasEnd new.pass.front done
+    × TellsMade new.pass.front given done
+IsPosted old job wishes (Err fault) new = HasSeen old.pass new.pass × IsRefused new.pass fault
+
+-- behind its own shutdown each job is refused as closing
+abbrev pub RefusesBehindShutdown : DeskState → Result Done PostFault → Type 0
+RefusesBehindShutdown old told = old.was_shut ≡ true → told ≡ Err Closing
 
 -- a question is answered of the kernel whose minutes the pass has seen now, with all its own posts; a refusal is want of memory
 abbrev pub IsAnswered : Question → Result Answer HallFault → DeskState → Type 0
@@ -74,11 +88,11 @@ pub record IsRung (old new : RingerOf) : Type 0 where
 
 -- THE DESK BEFORE A HALL: what each call may answer, and what the desk holds after it. The date set is that of some instant, or the one before.
 abbrev pub hall_desk_leads : DeskState → Call → DeskState → Type 0
-hall_desk_leads old (Posted job wishes told) new = IsPosted old job told new × OnlyPass old new
+hall_desk_leads old (Posted job wishes told) new = IsPosted old job wishes told new × RefusesBehindShutdown old told × OnlyPass old new
 hall_desk_leads old (Asked q told) new = IsAnswered q told new × HasSeen old.pass new.pass × OnlyPass old new
 hall_desk_leads old (Changed change told) new = IsChanged told × HasSeen old.pass new.pass × OnlyPass old new
 hall_desk_leads old Rang new = (seat : RingerOf) × IsRung old.seat seat × (new ≡ record old { seat = seat })
-hall_desk_leads old Shut new = new ≡ record old { was_shut = true }
+hall_desk_leads old Shut new = HasSeen old.pass new.pass × (new ≡ record old { pass = new.pass; was_shut = true })
 hall_desk_leads old (Published b) new = new ≡ old
 hall_desk_leads old (Kept bs) new = (place : ℕ) × AreRead old.place bs place × (new ≡ record old { place = place })
 hall_desk_leads old (Dated before after) new = (IsDate after ⊎ (after ≡ before)) × (new ≡ old)

@@ -34,14 +34,15 @@ pub struct HallDesk<'a, W: Ledger, L: HistoryName, R: Wait + Clock> {
 }
 
 impl<'a, W: Ledger, L: HistoryName, R: Wait + Clock> Model for HallDesk<'a, W, L, R> {
-    ghost use Rattle.std.specs.Prelude.{◌≡◌};
+    ghost use Rattle.std.specs.Prelude.{◌≡◌, true};
+    ghost use Rattle.kernel_hall.specs.Notes.{has_shutdown};
     ghost use Rattle.kernel_desk.specs.HallDesk.{DeskState};
 
     ghost Value = { DeskState };
 
     ghost view = { λ d. record { pass = d.pass; seat = d.seat; place = d.place.number; was_shut = d.was_shut } };
 
-    ghost invariant = { λ d. d.seat.bell ≡ d.hall.now };
+    ghost invariant = { λ d. (d.seat.bell ≡ d.hall.now) × (d.was_shut ≡ true → has_shutdown d.pass.notes ≡ true) };
 }
 
 impl<'a, W: Ledger, L: HistoryName, R: Wait + Clock> HallDesk<'a, W, L, R> {
@@ -148,8 +149,15 @@ impl<W: Ledger, L: HistoryName, R: Wait + Clock> Desk for HallDesk<'_, W, L, R> 
     }
 
     fn shut(&mut self) {
-        self.was_shut = true;
-        self.hall.shut(self.rt);
+        let HallDesk {
+            rt,
+            hall,
+            pass,
+            was_shut,
+            ..
+        } = self;
+        *was_shut = true;
+        hall.shut_by(*rt, pass);
     }
 
     fn publish(&mut self, broadcast: Broadcast) {

@@ -3,7 +3,8 @@
 //! [`HallDesk`] is the desk of one connection at a time before a hall: it holds a pass of the hall and a ringer's seat of the hall's bell. To the
 //! layer above it promises, of each call, what can be said exactly of what it holds (the pass and how many posts it made, the seat, the place on the
 //! board, whether a shutdown came), and of the kernel under the hall's lock that its minutes are those that the pass has seen then, which begin with
-//! all that it had seen: the job that was posted and its end stand there under one number, an answer is that kernel's. [`QuietDesk`] is the desk of
+//! all that it had seen: the job that was posted and its end stand there under one number, what is told of it is what was made as it ended, of the
+//! wishes that came with it, and an answer is that kernel's; behind its own shutdown each job is refused as closing. [`QuietDesk`] is the desk of
 //! connections at which nothing is asked.
 //!
 //! No contract says that a waiting thread wakes.
@@ -16,8 +17,8 @@ mod quiet;
 
 pub use hall_desk::HallDesk;
 pub use kernel_hall::{
-    Comms, Done, Entry, Gate, Hall, HistoryName, Job, Kernel, Moment, NewHistory, PARTS_OF_POSTS,
-    PostFault, work,
+    Ask, Comms, Content, Done, Entry, Gate, Hall, HistoryName, Job, Kernel, Moment, NewHistory,
+    Note, PARTS_OF_POSTS, Pass, PostFault, work,
 };
 pub use kernel_session::{Desk, Socket, serve};
 pub use quiet::QuietDesk;

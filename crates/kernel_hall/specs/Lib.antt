@@ -1,4 +1,5 @@
--- The hall has no definitions of its own: those of what lies under its lock, passed on.
+pub mod Refused
+-- The definitions of what lies under its lock, passed on.
 pub use Rattle.hall_state.specs.HistoryNames
 pub use Rattle.hall_state.specs.Turns
 pub use Rattle.hall_state.specs.PendingResults
@@ -6,10 +7,14 @@ pub use Rattle.hall_state.specs.declared.limit
 -- Of kernel_audit, given again.
 pub use Rattle.hall_state.specs.Ends
 pub use Rattle.hall_state.specs.Passes
+pub use Rattle.hall_state.specs.Notes
 -- Of kernel_ask, given again.
 pub use Rattle.hall_state.specs.Answer
 pub use Rattle.hall_state.specs.answer
 pub use Rattle.hall_state.specs.done
+pub use Rattle.hall_state.specs.Wishes
+pub use Rattle.hall_state.specs.Shown
+pub use Rattle.hall_state.specs.Evaluation
 -- Of kernel_core, given again.
 pub use Rattle.hall_state.specs.Minutes
 pub use Rattle.hall_state.specs.Request

@@ -1,15 +1,18 @@
 //! The hall that threads share.
-ghost use Rattle.std.specs.Prelude.{◌≡◌, ℕ, ◌+◌, ◌-◌, ◌^◌, ◌≤◌, ◌↔◌, ◌⊎◌, [], List, IfOk, IfErr, OnErr, All};
+ghost use Rattle.std.specs.Prelude.{◌≡◌, ℕ, ◌+◌, ◌-◌, ◌^◌, ◌≤◌, ◌↔◌, ◌⊎◌, [], List, IfOk, IfErr, OnErr, All, true, false, get_or, option_map, string_bytes};
 ghost use mathlib.Core.List.{IsPrefix};
-ghost use Rattle.hall_state.specs.Runs.{Machine, IsRefusal};
+ghost use Rattle.hall_state.specs.Runs.{Machine};
 ghost use Rattle.hall_state.specs.LegalMinutes.{IsLegalMachine};
 ghost use Rattle.hall_state.specs.Answer.{IsAnswer};
 ghost use Rattle.hall_state.specs.Minutes.{posted_in};
 ghost use Rattle.hall_state.specs.Request.{request_of};
+ghost use Rattle.hall_state.specs.Notes.{wished_in, has_shutdown};
 ghost use Rattle.hall_state.specs.Passes.{ticket_of, AreLegal, HasSeen, HasPosted};
+ghost use Rattle.hall_state.specs.PendingResults.{WereMade};
 ghost use Rattle.hall_state.specs.Turns.{IsTurn};
 ghost use Rattle.hall_state.specs.declared.limit.TheConstants.{PASSES, PARTS_OF_POSTS};
 ghost use Rattle.hall_state.specs.Ends.{HasEnd};
+ghost use Rattle.kernel_hall.specs.Refused.{IsRefused};
 ghost use Rattle.hall_state.specs.Audit.{Audited, IsAuditFault};
 
 use crate::ends::Ends;
@@ -17,7 +20,7 @@ use crate::entrance::Entrance;
 use crate::spin::{LOOKS_FOR_POST, watch};
 use hall_state::{
     Answer, Ask, AuditFault, CommChange, Comms, Done, Entry, HallFault, HistoryName, Job, Kernel,
-    Minutes, NewHistory, Pass, PostFault, State, Ticket, Turn, Wish, judge,
+    Minutes, NewHistory, Note, Pass, PostFault, State, Ticket, Turn, Wish, judge,
 };
 use kernel_bell::{Bell, RunnerSeat};
 use std::alloc::Global;
@@ -49,12 +52,13 @@ impl<W: Ledger, L: HistoryName> Model for Hall<W, L> {
 }
 
 impl<W: Ledger, L: HistoryName> Hall<W, L> {
-    /// A hall round a kernel with no minutes. It takes no memory. The posts are counted in the ledger that is opened by this blank, and its minutes
-    /// become this history.
+    /// A hall round an open kernel with no minutes. It takes no memory. The posts are counted in the ledger that is opened by this blank, its minutes
+    /// become this history, and what is noted beside them the other one.
     pub fn new(
         alloc: Global,
         blank: Blank,
         history: NewHistory<Entry>,
+        notes: NewHistory<Note>,
         kernel: Kernel<W>,
         comms: Comms,
         bell: Bell,
@@ -62,11 +66,13 @@ impl<W: Ledger, L: HistoryName> Hall<W, L> {
         requires name { blank.name ≡ L.name }
         requires parts { (blank.parts ≡ PARTS_OF_POSTS) × (blank.parts ≡ L.parts) }
         requires history { history ≡ L.history }
+        requires notes { notes ≡ L.beside }
         requires fresh { kernel.machine.minutes ≡ [] }
+        requires open { kernel.machine.closing ≡ false }
         ensures { result ≡ bell }
     {
         let (book, rest) = blank.open::<L>();
-        let state = State::new(alloc, kernel, comms, book, rest, history);
+        let state = State::new(alloc, kernel, comms, book, rest, history, notes);
         Hall {
             state: Mutex::new(state),
             entrance: Entrance::new(),
@@ -96,8 +102,9 @@ impl<W: Ledger, L: HistoryName> Hall<W, L> {
         }
     }
 
-    /// Posts a job. The pass comes back, and has counted it. Its post stands in the minutes that it has seen now, with the ticket's number. A refused
-    /// post drops the job and the wishes; the refusal is that of the kernel whose minutes the pass has seen now.
+    /// Posts a job. The pass comes back, and has counted it. Its post stands in the minutes that it has seen now, with the ticket's number, and its wishes
+    /// are noted under it. A refused post drops the job and the wishes; the refusal is that of the kernel whose minutes the pass has seen now, which
+    /// closes where the pass has seen a shutdown.
     pub fn post<R: Wait>(
         &self,
         rt: &R,
@@ -106,9 +113,9 @@ impl<W: Ledger, L: HistoryName> Hall<W, L> {
         wishes: Vec<Wish>,
     ) -> Result<(Ticket, Pass<L>), (PostFault, Pass<L>)>
         ensures ticket { IfOk result (λ r. r.0 ≡ ticket_of pass r.0.number job) }
-        ensures posted { IfOk result (λ r. HasPosted pass (request_of job) r.0.number r.1) }
+        ensures posted { IfOk result (λ r. HasPosted pass (request_of job) wishes.items r.0.number r.1) }
         ensures refused { IfErr result (λ r. HasSeen pass r.1) }
-        ensures refusal { IfErr result (λ r. (k : Machine) × IsLegalMachine k × (k.minutes ≡ r.1.front) × IsRefusal k r.0) }
+        ensures refusal { IfErr result (λ r. IsRefused r.1 r.0) }
     {
         let Ok(copy) = job.try_clone() else {
             let fault = self.entrance.enter(rt, &self.state).refuse(&mut pass);
@@ -136,9 +143,9 @@ impl<W: Ledger, L: HistoryName> Hall<W, L> {
         job: Job,
         wishes: Vec<Wish>,
     ) -> Result<u64, PostFault>
-        ensures posted { IfOk result (λ n. HasPosted pass.old (request_of job) n pass.new) }
+        ensures posted { IfOk result (λ n. HasPosted pass.old (request_of job) wishes.items n pass.new) }
         ensures refused { OnErr result (HasSeen pass.old pass.new) }
-        ensures refusal { IfErr result (λ f. (k : Machine) × IsLegalMachine k × (k.minutes ≡ pass.new.front) × IsRefusal k f) }
+        ensures refusal { IfErr result (IsRefused pass.new) }
     {
         let number = self
             .entrance
@@ -178,12 +185,12 @@ impl<W: Ledger, L: HistoryName> Hall<W, L> {
         ensures seen { HasSeen pass.old pass.new }
         ensures legal { AreLegal pass.new.front }
     {
-        self.end_of(rt, pass, ticket.number)
+        self.end_of(rt, pass, ticket.number, false)
     }
 
     /// `post` and `wait` in one, for who keeps no ticket: posts a job, waits until it has ended, and answers what came of it. Post and end stand in the
-    /// minutes that the pass has seen now. A refused post drops the job and the wishes; the refusal is that of the kernel whose minutes the pass
-    /// has seen now.
+    /// minutes that the pass has seen now; the shown text and the values of these wishes are those of the kernel as the job ended. A refused post drops
+    /// the job and the wishes; the refusal is that of the kernel whose minutes the pass has seen now, which closes where the pass has seen a shutdown.
     pub fn run<R: Wait>(
         &self,
         rt: &R,
@@ -191,25 +198,30 @@ impl<W: Ledger, L: HistoryName> Hall<W, L> {
         job: Job,
         wishes: Vec<Wish>,
     ) -> Result<Done, PostFault>
-        ensures posted { IfOk result (λ done. HasPosted pass.old (request_of job) done.number pass.new) }
+        ensures posted { IfOk result (λ done. HasPosted pass.old (request_of job) wishes.items done.number pass.new) }
         ensures end { IfOk result (λ done. HasEnd pass.new.front done) }
+        ensures made { IfOk result
+            (λ done. ∥ WereMade pass.new.front done.number done.outcome wishes.items (option_map string_bytes done.shown) done.values.items ∥₁) }
         ensures refused { OnErr result (HasSeen pass.old pass.new) }
-        ensures refusal { IfErr result (λ f. (k : Machine) × IsLegalMachine k × (k.minutes ≡ pass.new.front) × IsRefusal k f) }
+        ensures refusal { IfErr result (IsRefused pass.new) }
     {
         let number = self.send(rt, pass, job, wishes)?;
-        Ok(self.end_of(rt, pass, number))
+        Ok(self.end_of(rt, pass, number, true))
     }
 
-    /// Waits until the job of this number has ended, whose end the pass has seen then.
-    fn end_of<R: Wait>(&self, rt: &R, pass: &mut Pass<L>, number: u64) -> Done
+    /// Waits until the job of this number has ended, whose end the pass has seen then. Where it asks as the first, what was made as the job ended goes
+    /// along, of the wishes that are noted of its post; nobody else waits for a job that is run so, or it would wait on.
+    fn end_of<R: Wait>(&self, rt: &R, pass: &mut Pass<L>, number: u64, is_first: bool) -> Done
         ensures number { result.number ≡ number }
         ensures end { HasEnd pass.new.front result }
         ensures seen { HasSeen pass.old pass.new }
         ensures legal { AreLegal pass.new.front }
+        ensures made { is_first ≡ true → ∥ WereMade pass.new.front result.number result.outcome
+            (get_or (wished_in pass.new.notes) (number - 1) []) (option_map string_bytes result.shown) result.values.items ∥₁ }
     {
         let seen = self.ended.wakings(number);
         let mut state = self.entrance.enter(rt, &self.state);
-        if let Some(done) = state.done(number) {
+        if let Some(done) = state.done(number, is_first) {
             state.see(pass);
             return done;
         }
@@ -217,7 +229,7 @@ impl<W: Ledger, L: HistoryName> Hall<W, L> {
         self.ended.watch(number, seen);
         let mut state = self.entrance.enter(rt, &self.state);
         for _ in rt.forever() {
-            if let Some(done) = state.done(number) {
+            if let Some(done) = state.done(number, is_first) {
                 state.see(pass);
                 return done;
             }
@@ -273,6 +285,19 @@ impl<W: Ledger, L: HistoryName> Hall<W, L> {
     /// From now on each post is refused, and each job that is taken. It interrupts nothing, and takes no memory.
     pub fn shut<R: Wait>(&self, rt: &R) {
         self.entrance.enter(rt, &self.state).shut();
+        self.moved.notify_all();
+    }
+
+    /// `shut` for a frontend, whose pass has seen the shutdown then: so each later post of it is refused as `Closing`.
+    pub fn shut_by<R: Wait>(&self, rt: &R, pass: &mut Pass<L>)
+        ensures seen { HasSeen pass.old pass.new }
+        ensures shut { has_shutdown pass.new.notes ≡ true }
+        ensures legal { AreLegal pass.new.front }
+    {
+        let mut state = self.entrance.enter(rt, &self.state);
+        state.shut();
+        state.see(pass);
+        drop(state);
         self.moved.notify_all();
     }
 

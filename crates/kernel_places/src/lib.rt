@@ -52,7 +52,7 @@ mod time;
 mod usher;
 mod worker;
 
-pub use kernel_desk::{Comms, Entry, Hall, HistoryName, Kernel, NewHistory, PARTS_OF_POSTS};
+pub use kernel_desk::{Comms, Entry, Hall, HistoryName, Kernel, NewHistory, Note, PARTS_OF_POSTS};
 pub use places::{ALL_PLACES, Listeners, PLACES};
 pub use service::Service;
 pub use start::{Seats, serve_all};

@@ -12,8 +12,8 @@ use clap::error::ErrorKind as ClapErrorKind;
 use jupyter_msg::Key;
 use kernel_bell::{Bell, RINGERS};
 use kernel_places::{
-    ALL_PLACES, Comms, Entry, Hall, HistoryName, Kernel, Listeners, NewHistory, PARTS_OF_POSTS,
-    PLACES, Seats, Service, Times, serve_all,
+    ALL_PLACES, Comms, Entry, Hall, HistoryName, Kernel, Listeners, NewHistory, Note,
+    PARTS_OF_POSTS, PLACES, Seats, Service, Times, serve_all,
 };
 use program_words::{send_unread_words, unread_words_status, words_status};
 use rand::make_rng;
@@ -52,16 +52,26 @@ fn new_hall<W: Ledger, L: HistoryName>(
     writes: Blank,
     posts: Blank,
     history: NewHistory<Entry>,
+    notes: NewHistory<Note>,
 ) -> Result<(Hall<W, L>, Seats), AllocError>
     requires writes { (writes.name ≡ W.name) × (writes.parts ≡ W.parts) × (1 < W.parts) }
     requires posts { (posts.name ≡ L.name) × (posts.parts ≡ PARTS_OF_POSTS) × (posts.parts ≡ L.parts) }
     requires history { history ≡ L.history }
+    requires notes { notes ≡ L.beside }
     ensures runner { IfOk result (λ made. made.1.runner.bell ≡ made.0) }
     ensures ringers { IfOk result (λ made. All (λ seat. seat.bell ≡ made.0) made.1.ringers.items) }
 {
     let (bell, runner, ringers) = Bell::new(alloc, RINGERS)?;
     let kernel = Kernel::<W>::new(alloc, writes)?;
-    let hall = Hall::<W, L>::new(alloc, posts, history, kernel, Comms::new(alloc), bell);
+    let hall = Hall::<W, L>::new(
+        alloc,
+        posts,
+        history,
+        notes,
+        kernel,
+        Comms::new(alloc),
+        bell,
+    );
     Ok((hall, Seats { runner, ringers }))
 }
 
@@ -72,6 +82,7 @@ fn new_service<W: Ledger, L: HistoryName, S: Ledger, R: RandomSource>(
     writes: Blank,
     posts: Blank,
     history: NewHistory<Entry>,
+    notes: NewHistory<Note>,
     strangers: Blank,
     times: Times,
     key: Key,
@@ -79,12 +90,13 @@ fn new_service<W: Ledger, L: HistoryName, S: Ledger, R: RandomSource>(
     requires writes { (writes.name ≡ W.name) × (writes.parts ≡ W.parts) × (1 < W.parts) }
     requires posts { (posts.name ≡ L.name) × (posts.parts ≡ PARTS_OF_POSTS) × (posts.parts ≡ L.parts) }
     requires history { history ≡ L.history }
+    requires notes { notes ≡ L.beside }
     requires strangers { (strangers.name ≡ S.name) × (strangers.parts ≡ S.parts) × (strangers.parts ≡ 160) }
     ensures runner { IfOk result (λ made. made.1.runner.bell ≡ made.0.hall) }
     ensures ringers { IfOk result (λ made. All (λ seat. seat.bell ≡ made.0.hall) made.1.ringers.items) }
 {
     let session = new_session(rt, alloc)?;
-    let (hall, seats) = new_hall::<W, L>(alloc, writes, posts, history)?;
+    let (hall, seats) = new_hall::<W, L>(alloc, writes, posts, history, notes)?;
     let service = Service::new(alloc, session, key, hall, times, strangers)?;
     Ok((service, seats))
 }
@@ -102,6 +114,7 @@ fn serve_new_kernel<
     writes: Blank,
     posts: Blank,
     history: NewHistory<Entry>,
+    notes: NewHistory<Note>,
     strangers: Blank,
     times: Times,
     listeners: &Listeners,
@@ -113,10 +126,11 @@ where
     requires writes { (writes.name ≡ W.name) × (writes.parts ≡ W.parts) × (1 < W.parts) }
     requires posts { (posts.name ≡ L.name) × (posts.parts ≡ PARTS_OF_POSTS) × (posts.parts ≡ L.parts) }
     requires history { history ≡ L.history }
+    requires notes { notes ≡ L.beside }
     requires strangers { (strangers.name ≡ S.name) × (strangers.parts ≡ S.parts) × (strangers.parts ≡ 160) }
 {
     let (service, seats) = new_service::<W, L, S, R>(
-        rt, alloc, writes, posts, history, strangers, times, key,
+        rt, alloc, writes, posts, history, notes, strangers, times, key,
     )?;
     let served = serve_all(rt, &service, listeners, seats, out);
     service.discard();
@@ -166,6 +180,7 @@ where
         alloc,
         Blank::new(2),
         Blank::new(PARTS_OF_POSTS),
+        NewHistory::new(alloc)?,
         NewHistory::new(alloc)?,
         Blank::new(ALL_PLACES),
         times,

@@ -28,6 +28,6 @@ pub use crate::comms::{COMM_TARGET, asks_target};
 pub use kernel_ask::{
     Answer, Ask, Begun, CellText, CommChange, Comms, Completeness, Content, Done, HallFault,
     HistoryAsk, Job, Kernel, NamedValue, Outcome, PostFault, Refusal, Sliced, TravelEnd, Wish,
-    ask_on, is_settled, shown_of_node, stands_at_end,
+    ask_on, is_settled, shown_of_node, stands_at_end, values_after,
 };
 pub use kernel_message::{Outgoing, Publication, Stamp};

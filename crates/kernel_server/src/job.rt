@@ -1,35 +1,21 @@
 //! A job, and what is told of it.
-ghost use Rattle.std.specs.Prelude.{◌≡◌, ◌⊎◌, ◌≤◌, [], None, IfOk, IfErr, OnErr, option_map, string_bytes, vec_len, vec_capacity};
+ghost use Rattle.std.specs.Prelude.{◌≡◌, ◌≤◌, [], IfOk, IfErr, OnErr, vec_len, vec_capacity};
 ghost use Rattle.kernel_core.specs.Request.{Request, request_of};
 ghost use Rattle.kernel_core.specs.Runs.{IsRefusal};
 ghost use Rattle.kernel_core.specs.State.{Idle};
 ghost use Rattle.kernel_ask.specs.EndedAt.{StandsAtEnd};
-ghost use Rattle.kernel_ask.specs.Shown.{IsShownOfNode};
 ghost use Rattle.kernel_session.specs.Question.{wishes_of};
 ghost use Rattle.kernel_server.specs.Jobs.{IsDone, IsMadeBy, IsToldOf};
 
 use crate::finish::run_out;
 use crate::slice::Slice;
-use crate::values::values_after;
 use kernel_ask::laws::shown_is_of_text_law;
-use kernel_ask::{Done, NamedValue, Wish, shown_of_node};
+use kernel_ask::{Done, NamedValue, Wish, shown_after, values_after};
 use kernel_core::laws::jobs_end_law;
 use kernel_core::{Job, Kernel, Outcome, PostFault};
 use std::alloc::Global;
 use std::collections::VecDeque;
 use std::sync::ledger::Ledger;
-
-/// What is shown of a job that has ended; nothing where there is no memory for it.
-fn shown_of<L: Ledger>(alloc: Global, kernel: &Kernel<L>, outcome: &Outcome) -> Option<String>
-    requires idle { kernel.now.machine.state.job ≡ Idle }
-    requires still { StandsAtEnd outcome.now kernel.now.machine.state.past }
-    ensures { IsShownOfNode outcome.now kernel.now.machine.state.past (option_map string_bytes result) ⊎ (option_map string_bytes result ≡ None) }
-{
-    match shown_of_node(alloc, kernel, outcome) {
-        Ok(shown) => shown,
-        Err(_) => None,
-    }
-}
 
 /// What is told of the job of this number, which has ended. There is room for its values.
 fn told_of<L: Ledger>(
@@ -49,7 +35,7 @@ fn told_of<L: Ledger>(
     ensures outcome { result.outcome ≡ outcome }
 {
     shown_is_of_text_law();
-    let shown = shown_of(alloc, kernel, &outcome);
+    let shown = shown_after(alloc, kernel, &outcome);
     let values = values_after(alloc, kernel, &outcome, wishes, room);
     Done {
         number,

@@ -8,8 +8,8 @@
 //! the kernel's own, and the kernel ran on by whole jobs (`Course`). `laws` says of these definitions how jobs end, that the kernel
 //! and the slices alone decide what comes of one, where memory is ample, and that the broadcasts that are told are all that there were.
 //!
-//! In reading order: `slice` and `lane` (what a lone kernel is given), `finish` (a job from its post to its end), `values` (of user expressions),
-//! `job` (a job with what is told of it), `lone` (the desk), `session` (a connection to it), `laws`.
+//! In reading order: `slice` and `lane` (what a lone kernel is given), `finish` (a job from its post to its end), `job` (a job with what is told of
+//! it), `lone` (the desk), `session` (a connection to it), `laws`.
 //!
 //! It gives again what a caller hands in and is answered: names of `kernel_session`, `kernel_ask` and the kernel.
 #![tactic(auto)]
@@ -21,7 +21,6 @@ pub mod laws;
 mod lone;
 mod session;
 mod slice;
-mod values;
 
 pub use kernel_ask::{
     Answer, Ask, CommChange, Comms, Content, Done, HallFault, HistoryAsk, Wish, is_complete,

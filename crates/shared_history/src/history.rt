@@ -10,17 +10,41 @@ use std::marker::{Brand, Model, PhantomData};
 use std::mem;
 use std::sync::ledger::Ledger;
 
-/// Which history it is, beside a ledger that a program counts with.
+/// Which history it is, and which one stands beside it, beside a ledger that a program counts with.
 pub trait HistoryName: Ledger {
     ghost use Rattle.atomic_table.specs.Seated.{TableId};
 
     ghost history: { TableId };
+
+    ghost beside: { TableId };
 }
 
 impl HistoryName for Brand {
     ghost use Rattle.shared_history.specs.History.{no_history};
 
     ghost history = { no_history };
+
+    ghost beside = { no_history };
+}
+
+/// The name of the history that stands beside a named one.
+#[derive(Drop)]
+pub struct Beside<L: HistoryName> {
+    of: PhantomData<L>,
+}
+
+impl<L: HistoryName> Ledger for Beside<L> {
+    ghost name = { L.name };
+
+    ghost parts = { L.parts };
+}
+
+impl<L: HistoryName> HistoryName for Beside<L> {
+    ghost use Rattle.shared_history.specs.History.{no_history};
+
+    ghost history = { L.beside };
+
+    ghost beside = { no_history };
 }
 
 /// A history with no entries, which no type stands for yet. Contracts see which one it is.

@@ -11,6 +11,6 @@ mod history;
 mod rule;
 mod view;
 
-pub use history::{Front, HistoryName, Keeper, NewHistory};
+pub use history::{Beside, Front, HistoryName, Keeper, NewHistory};
 pub use rule::HistoryRule;
 pub use view::View;

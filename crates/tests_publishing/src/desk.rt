@@ -6,7 +6,7 @@ ghost use Rattle.std.specs.Prelude.{◌≡◌, ◌<◌, IfOk};
 use kernel_bell::{Bell, RingerSeat};
 use kernel_board::Broadcast;
 use kernel_desk::{
-    Comms, Desk, Done, Entry, Hall, HallDesk, HistoryName, Job, Kernel, NewHistory, PostFault,
+    Comms, Desk, Done, Entry, Hall, HallDesk, HistoryName, Job, Kernel, NewHistory, Note, PostFault,
 };
 use kernel_iopub::Bulletin;
 use std::alloc::{AllocError, Global};
@@ -28,18 +28,20 @@ pub(crate) fn tell<R: Wait + Clock>(rt: &R, calls: &str, sheet: &mut Sheet) {
 
 /// Writes the calls at a desk before a hall of its own with their answers.
 fn tell_owned<R: Wait + Clock>(rt: &R, calls: String, sheet: &mut Sheet) {
-    match NewHistory::new(sheet.alloc()) {
-        Ok(history) => {
+    let alloc = sheet.alloc();
+    match (NewHistory::new(alloc), NewHistory::new(alloc)) {
+        (Ok(history), Ok(notes)) => {
             tell_in::<Brand, Brand, R>(
                 rt,
                 Blank::new(2),
                 Blank::new(65_537),
                 history,
+                notes,
                 calls,
                 sheet,
             );
         }
-        Err(_) => sheet.refuse(),
+        _ => sheet.refuse(),
     }
 }
 
@@ -49,10 +51,12 @@ fn new_hall<W: Ledger, L: HistoryName>(
     writes: Blank,
     posts: Blank,
     history: NewHistory<Entry>,
+    notes: NewHistory<Note>,
 ) -> Result<(Hall<W, L>, RingerSeat), AllocError>
     requires writes { (writes.name ≡ W.name) × (writes.parts ≡ W.parts) × (1 < W.parts) }
     requires posts { (posts.name ≡ L.name) × (posts.parts ≡ 65537) × (posts.parts ≡ L.parts) }
     requires history { history ≡ L.history }
+    requires notes { notes ≡ L.beside }
     ensures { IfOk result (λ made. made.1.bell ≡ made.0) }
 {
     let (bell, _runner, mut ringers) = Bell::new(alloc, 1)?;
@@ -60,7 +64,15 @@ fn new_hall<W: Ledger, L: HistoryName>(
         unreachable!()
     };
     let kernel = Kernel::<W>::new(alloc, writes)?;
-    let hall = Hall::<W, L>::new(alloc, posts, history, kernel, Comms::new(alloc), bell);
+    let hall = Hall::<W, L>::new(
+        alloc,
+        posts,
+        history,
+        notes,
+        kernel,
+        Comms::new(alloc),
+        bell,
+    );
     Ok((hall, seat))
 }
 
@@ -70,14 +82,16 @@ fn tell_in<W: Ledger, L: HistoryName, R: Wait + Clock>(
     writes: Blank,
     posts: Blank,
     history: NewHistory<Entry>,
+    notes: NewHistory<Note>,
     calls: String,
     sheet: &mut Sheet,
 )
     requires writes { (writes.name ≡ W.name) × (writes.parts ≡ W.parts) × (1 < W.parts) }
     requires posts { (posts.name ≡ L.name) × (posts.parts ≡ 65537) × (posts.parts ≡ L.parts) }
     requires history { history ≡ L.history }
+    requires notes { notes ≡ L.beside }
 {
-    match new_hall::<W, L>(sheet.alloc(), writes, posts, history) {
+    match new_hall::<W, L>(sheet.alloc(), writes, posts, history, notes) {
         Ok((hall, seat)) => {
             sit_down(rt, &hall, seat, &calls, sheet);
             hall.discard();

@@ -1,8 +1,8 @@
 //! Jobs of a kernel, run to their ends.
 use jupyter_msg::UserExpression;
 use kernel_reply::{
-    Begun, CellText, Done, Job, Kernel, NamedValue, Outcome, Sliced, Wish, is_settled,
-    shown_of_node, stands_at_end,
+    Begun, CellText, Done, Job, Kernel, Outcome, Sliced, Wish, is_settled, shown_of_node,
+    stands_at_end, values_after,
 };
 use std::alloc::{AllocError, Global};
 use std::sync::ledger::Ledger;
@@ -104,18 +104,24 @@ fn tell_done<L: Ledger>(
     expressions: &[UserExpression],
     done: &mut Done,
 ) -> Result<(), AllocError> {
-    if !is_settled(kernel) || !stands_at_end(kernel, &done.outcome) {
+    let outcome = done.outcome;
+    if !is_settled(kernel) || !stands_at_end(kernel, &outcome) {
         return Ok(());
     }
-    done.shown = shown_of_node(alloc, kernel, &done.outcome)?;
-    if !matches!(done.outcome, Outcome::Ran(_, _)) {
-        return Ok(());
-    }
-    for asked in expressions {
-        let wish = wish_of(alloc, asked)?;
-        done.values.push(wish.evaluate(alloc, kernel))?;
-    }
+    done.shown = shown_of_node(alloc, kernel, &outcome)?;
+    let wishes = wishes_of(alloc, expressions)?;
+    let room = Vec::with_capacity(alloc, wishes.len())?;
+    done.values = values_after(alloc, kernel, &outcome, wishes, room);
     Ok(())
+}
+
+/// The wishes for the values of expressions, in their order.
+fn wishes_of(alloc: Global, expressions: &[UserExpression]) -> Result<Vec<Wish>, AllocError> {
+    let mut wishes = Vec::new(alloc);
+    for asked in expressions {
+        wishes.push(wish_of(alloc, asked)?)?;
+    }
+    Ok(wishes)
 }
 
 /// The wish for the value of an expression.

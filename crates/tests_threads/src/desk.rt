@@ -5,8 +5,8 @@ ghost use Rattle.std.specs.Prelude.{◌≡◌, ◌<◌};
 use crate::lines::note;
 use kernel_bell::{Bell, RingerSeat, RunnerSeat};
 use kernel_hall::{
-    Begun, Comms, Entry, Gate, Hall, HistoryName, Kernel, NewHistory, Outcome, STEPS_OF_A_SLICE,
-    Sliced, Turn, work,
+    Begun, Comms, Entry, Gate, Hall, HistoryName, Kernel, NewHistory, Note, Outcome,
+    STEPS_OF_A_SLICE, Sliced, Turn, work,
 };
 use std::alloc::{AllocError, Global};
 use std::sync::Wait;
@@ -33,17 +33,27 @@ impl<W: Ledger, L: HistoryName> Desk<W, L> {
         writes: Blank,
         posts: Blank,
         history: NewHistory<Entry>,
+        notes: NewHistory<Note>,
     ) -> Result<Desk<W, L>, AllocError>
         requires writes { (writes.name ≡ W.name) × (writes.parts ≡ W.parts) × (1 < W.parts) }
         requires posts { (posts.name ≡ L.name) × (posts.parts ≡ 65537) × (posts.parts ≡ L.parts) }
         requires history { history ≡ L.history }
+        requires notes { notes ≡ L.beside }
     {
         let (bell, seat, mut ringers) = Bell::new(alloc, 1)?;
         let Some(ringer) = ringers.pop() else {
             unreachable!()
         };
         let kernel = Kernel::new(alloc, writes)?;
-        let hall = Hall::new(alloc, posts, history, kernel, Comms::new(alloc), bell);
+        let hall = Hall::new(
+            alloc,
+            posts,
+            history,
+            notes,
+            kernel,
+            Comms::new(alloc),
+            bell,
+        );
         Ok(Desk { hall, seat, ringer })
     }
 

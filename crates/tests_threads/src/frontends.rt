@@ -3,8 +3,9 @@
 //!
 //! `pass` gives the lane and the posts of a new pass, or why there is none; `passes` how many more there are, each on the next lane with no posts,
 //! and why there is no further one. `post` (a pass, and a job) gives the lane of the ticket, which of the posts of the pass it is, and its number; or
-//! why the post is refused, with the lane and the posts of the pass. A job is `undo` with a number, or a `cell` with its code. `wish` (a name and an
-//! expression, and behind a `|` what stands behind `post`) posts with a user expression. `wait` (a ticket) gives the number, the outcome, the
+//! why the post is refused, with the lane and the posts of the pass. A job is `undo` with a number, or a `cell` with its code. `names` (a pass, and a
+//! number) posts a cell that declares so many names, `v1`, `v2`, .. `wish` (names, each with an expression, parted by `;`, and behind a `|` what stands
+//! behind `post`) posts with user expressions. `wait` (a ticket) gives the number, the outcome, the
 //! counter, the node, the shown text and the values of its job; the pass of its lane waits. `state` (a pass) gives how many minutes the hall has
 //! seen and the shown world, `comms` (a pass) the same with the open comms; `open` and `close` (a pass, and an id) whether a comm was opened or
 //! closed. `shut` shuts the hall. `lose` loses the last pass, which it gives. `first` (a ticket) puts a ticket to the front of the others. `claim`
@@ -57,6 +58,7 @@ pub(crate) fn answer<W: Ledger, L: HistoryName, R: Wait>(
         "passes" => passes(rt, hall, sheet),
         "post" => post(rt, hall, away, rest, Vec::new(sheet.alloc()), sheet),
         "wish" => wish(rt, hall, away, rest, sheet),
+        "names" => names(rt, hall, away, rest, sheet),
         "wait" => wait(rt, hall, away, rest, sheet),
         "shut" => shut(rt, hall, sheet),
         "state" | "comms" | "open" | "close" => answer_with(rt, hall, away, word, rest, sheet),
@@ -238,15 +240,51 @@ fn put<T: Drop>(list: &mut Vec<T>, at: usize, value: T, sheet: &mut Sheet) {
     }
 }
 
-/// A list with the wish that a row writes.
-fn wishes_of(alloc: Global, row: &str) -> Result<Vec<Wish>, AllocError> {
-    let (name, text) = cut(row);
+/// A wish: a name, and an expression.
+fn wish_of(alloc: Global, text: &str) -> Result<Wish, AllocError> {
+    let (name, text) = cut(text);
     let name = String::from_str(alloc, name)?;
     let text = String::from_str(alloc, text)?;
-    Ok(Vec::from_array(alloc, [Wish::new(alloc, name, text)])?)
+    Ok(Wish::new(alloc, name, text))
 }
 
-/// Posts a job with a user expression.
+/// A list with the wishes that a row writes.
+fn wishes_of(alloc: Global, row: &str) -> Result<Vec<Wish>, AllocError> {
+    let mut wishes = Vec::new(alloc);
+    for text in row.split(';') {
+        let wish = wish_of(alloc, text)?;
+        wishes.push(wish)?;
+    }
+    Ok(wishes)
+}
+
+/// What stands behind `post` for a cell that declares so many names.
+fn declaring(alloc: Global, at: &str, count: usize) -> Result<String, AllocError> {
+    let mut row = format!(in alloc; "{at} cell")?;
+    for i in 0..count {
+        let declaration = format!(in alloc; " int v{}", i.wrapping_add(1))?;
+        row.push_str(declaration.as_str())?;
+    }
+    Ok(row)
+}
+
+/// Posts a cell that declares names.
+fn names<W: Ledger, L: HistoryName, R: Wait>(
+    rt: &R,
+    hall: &Hall<W, L>,
+    away: &mut Away<L>,
+    row: &str,
+    sheet: &mut Sheet,
+) {
+    let (at, count) = cut(row);
+    let alloc = sheet.alloc();
+    match declaring(alloc, at, number(count)) {
+        Ok(row) => post(rt, hall, away, row.as_str(), Vec::new(alloc), sheet),
+        Err(_) => sheet.refuse(),
+    }
+}
+
+/// Posts a job with user expressions.
 fn wish<W: Ledger, L: HistoryName, R: Wait>(
     rt: &R,
     hall: &Hall<W, L>,

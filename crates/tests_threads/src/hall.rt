@@ -11,7 +11,7 @@ use crate::frontends::Away;
 use crate::gate::{await_held, gate, let_go};
 use crate::lines::{begin, note};
 use crate::posters::posters;
-use kernel_hall::{Entry, Hall, HistoryName, NewHistory};
+use kernel_hall::{Entry, Hall, HistoryName, NewHistory, Note};
 use std::marker::Brand;
 use std::sync::atomic::AtomicU64;
 use std::sync::ledger::{Blank, Ledger};
@@ -30,19 +30,21 @@ pub(crate) fn tell<R: Threads + Wait + Sync>(rt: &R, calls: &str, holds: bool, s
 
 /// Writes the calls before a new hall with their answers.
 fn tell_owned<R: Threads + Wait + Sync>(rt: &R, calls: String, holds: bool, sheet: &mut Sheet) {
-    match NewHistory::new(sheet.alloc()) {
-        Ok(history) => {
+    let alloc = sheet.alloc();
+    match (NewHistory::new(alloc), NewHistory::new(alloc)) {
+        (Ok(history), Ok(notes)) => {
             tell_in::<Brand, Brand, R>(
                 rt,
                 Blank::new(2),
                 Blank::new(65_537),
                 history,
+                notes,
                 calls,
                 holds,
                 sheet,
             );
         }
-        Err(_) => sheet.refuse(),
+        _ => sheet.refuse(),
     }
 }
 
@@ -52,6 +54,7 @@ fn tell_in<W: Ledger + Send + Sync, L: HistoryName + Send + Sync, R: Threads + W
     writes: Blank,
     posts: Blank,
     history: NewHistory<Entry>,
+    notes: NewHistory<Note>,
     calls: String,
     holds: bool,
     sheet: &mut Sheet,
@@ -59,8 +62,9 @@ fn tell_in<W: Ledger + Send + Sync, L: HistoryName + Send + Sync, R: Threads + W
     requires writes { (writes.name ≡ W.name) × (writes.parts ≡ W.parts) × (1 < W.parts) }
     requires posts { (posts.name ≡ L.name) × (posts.parts ≡ 65537) × (posts.parts ≡ L.parts) }
     requires history { history ≡ L.history }
+    requires notes { notes ≡ L.beside }
 {
-    match Desk::<W, L>::new(sheet.alloc(), writes, posts, history) {
+    match Desk::<W, L>::new(sheet.alloc(), writes, posts, history, notes) {
         Ok(desk) => tell_desk(rt, desk, &calls, holds, sheet),
         Err(_) => sheet.refuse(),
     }

@@ -1,6 +1,6 @@
 //! Threads that post beside each other and beside the worker. `posters` (how many threads, and how many jobs of each) has each thread post a cell
 //! that adds 1 to `x` for a new pass and wait for it, a number of times. It gives how many of these jobs went otherwise than that the cell ran in 3
-//! steps.
+//! steps, and showed the `x` that the one order of all numbers gives: the first job declares it, and each later one adds 1.
 use crate::frontends::{Away, job_of};
 use crate::lines::note;
 use kernel_hall::{Done, Hall, HallFault, HistoryName, Outcome, Pass, PostFault, Refusal, Ticket};
@@ -45,9 +45,22 @@ impl<L: HistoryName> Away<L> {
         }
     }
 
+    /// Takes in what is shown of a job. Nothing is shown for want of memory alone.
+    fn note_shown(&mut self, done: &Done) {
+        match &done.shown {
+            Some(shown) => {
+                if value_of_x(shown.as_str()) != done.number.checked_sub(1) {
+                    self.note_wrong();
+                }
+            }
+            None => self.is_refused = true,
+        }
+    }
+
     /// Keeps a ticket and what came of its job.
     fn keep_done(&mut self, ticket: Ticket, done: Done) {
         self.note_outcome(done.outcome);
+        self.note_shown(&done);
         let is_kept = is_pushed(&mut self.tickets, ticket);
         self.is_refused = self.is_refused || !is_kept;
         let is_kept = is_pushed(&mut self.dones, done);
@@ -59,6 +72,12 @@ impl<L: HistoryName> Away<L> {
         let is_kept = is_pushed(&mut self.passes, pass);
         self.is_refused = self.is_refused || !is_kept;
     }
+}
+
+/// The value that a shown text gives for `x`.
+fn value_of_x(shown: &str) -> Option<u64> {
+    let value = shown.strip_prefix("x = ")?;
+    value.parse::<u64>().ok()
 }
 
 /// Keeps a value at the end of a list. Whether there was memory for it.

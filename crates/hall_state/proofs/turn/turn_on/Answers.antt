@@ -1,6 +1,7 @@
 use Rattle.std.proofs.Common.{length, ap}
-use Rattle.kernel_audit.proofs.Posts.{begin_keeps_posts, slice_keeps_posts}
-use Rattle.hall_state.proofs.Turns.{begin_writes, slice_writes}
+use Rattle.kernel_audit.specs.Runs.{Machine}
+use Rattle.kernel_audit.proofs.Posts.{begin_keeps_posts, begin_closing, slice_keeps_posts}
+use Rattle.hall_state.proofs.JustEnded.{begin_ends, slice_ends}
 use Rattle.hall_state.proofs.turn.turn_on.Goals as goal
 
 pub returns-in-Inside-clause-posts : goal.returns-in-Inside-clause-posts
@@ -16,14 +17,25 @@ pub returns-in-Idle-clause-posts : goal.returns-in-Idle-clause-posts
 returns-in-Idle-clause-posts g c =
     ap length (begin_keeps_posts c.args.kernel.now.machine c.begin-in-Idle.result c.begin-in-Idle.new.self.machine c.begin-in-Idle.ensures.begin)
 
-pub returns-in-Inside-clause-writes : goal.returns-in-Inside-clause-writes
-returns-in-Inside-clause-writes g c =
-    slice_writes c.args.kernel.now.machine c.args.m c.asked-asked.result c.slice.result c.slice.new.self.machine c.slice.ensures.slice
+pub returns-in-Inside-clause-ends : goal.returns-in-Inside-clause-ends
+returns-in-Inside-clause-ends g c =
+    slice_ends c.args.kernel.now.machine c.args.m c.asked-asked.result c.slice.result c.slice.new.self.machine c.slice.ensures.slice
 
-pub returns-in-Queued-clause-writes : goal.returns-in-Queued-clause-writes
-returns-in-Queued-clause-writes g c =
-    begin_writes c.args.kernel.now.machine c.begin-in-Queued.result c.begin-in-Queued.new.self.machine c.begin-in-Queued.ensures.begin
+pub returns-in-Queued-clause-ends : goal.returns-in-Queued-clause-ends
+returns-in-Queued-clause-ends g c =
+    begin_ends c.args.kernel.now.machine c.begin-in-Queued.result c.begin-in-Queued.new.self.machine c.begin-in-Queued.ensures.begin
 
-pub returns-in-Idle-clause-writes : goal.returns-in-Idle-clause-writes
-returns-in-Idle-clause-writes g c =
-    begin_writes c.args.kernel.now.machine c.begin-in-Idle.result c.begin-in-Idle.new.self.machine c.begin-in-Idle.ensures.begin
+pub returns-in-Idle-clause-ends : goal.returns-in-Idle-clause-ends
+returns-in-Idle-clause-ends g c =
+    begin_ends c.args.kernel.now.machine c.begin-in-Idle.result c.begin-in-Idle.new.self.machine c.begin-in-Idle.ensures.begin
+
+pub returns-in-Inside-clause-closing : goal.returns-in-Inside-clause-closing
+returns-in-Inside-clause-closing g c = ap (λ (m : Machine). m.closing) c.slice.ensures.slice.2
+
+pub returns-in-Queued-clause-closing : goal.returns-in-Queued-clause-closing
+returns-in-Queued-clause-closing g c =
+    begin_closing c.args.kernel.now.machine c.begin-in-Queued.result c.begin-in-Queued.new.self.machine c.begin-in-Queued.ensures.begin
+
+pub returns-in-Idle-clause-closing : goal.returns-in-Idle-clause-closing
+returns-in-Idle-clause-closing g c =
+    begin_closing c.args.kernel.now.machine c.begin-in-Idle.result c.begin-in-Idle.new.self.machine c.begin-in-Idle.ensures.begin

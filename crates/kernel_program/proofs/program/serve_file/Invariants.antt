@@ -8,7 +8,7 @@ abbrev pub ghosts-serve_new_kernel-L-Ledger : goal.ghosts-serve_new_kernel-L-Led
 ghosts-serve_new_kernel-L-Ledger g a = record { name = a.posts.name; parts = a.posts.parts }
 
 abbrev pub ghosts-serve_new_kernel-L-HistoryName : goal.ghosts-serve_new_kernel-L-HistoryName
-ghosts-serve_new_kernel-L-HistoryName g a = record { history = a.history }
+ghosts-serve_new_kernel-L-HistoryName g a = record { history = a.history; beside = a.notes }
 
 abbrev pub ghosts-serve_new_kernel-S-Ledger : goal.ghosts-serve_new_kernel-S-Ledger
 ghosts-serve_new_kernel-S-Ledger g a = record { name = a.strangers.name; parts = a.strangers.parts }

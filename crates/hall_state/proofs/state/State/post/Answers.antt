@@ -1,14 +1,21 @@
 use Rattle.std.proofs.Common.{ap, ◌∙◌}
 use Rattle.kernel_audit.specs.Request.{request_of}
+use Rattle.kernel_audit.specs.Runs.{Machine}
+use Rattle.kernel_audit.specs.declared.note.Note.{Note}
+use Rattle.kernel_audit.specs.Notes.{wished_in}
 use Rattle.hall_state.proofs.Posts.{stands}
+use Rattle.hall_state.proofs.Beside.{many_wishes}
 use Rattle.hall_state.proofs.state.State.post.Goals as goal
 
 pub returns-in-Ok-clause-stands : goal.returns-in-Ok-clause-stands
 returns-in-Ok-clause-stands g c =
     let q = c.in-Ok.ensures in
     let s = c.see-in-Ok.ensures in
-    stands c.args.pass.now c.queue.new.pass c.see-in-Ok.new.pass c.args.self.now.kernel.machine c.queue.new.self.kernel.machine (request_of c.args.job)
-    c.in-Ok.number q.number q.posted q.counted s.seen s.front s.legal
+    let old = c.args.self.now in
+    stands c.args.pass.now c.queue.new.pass c.see-in-Ok.new.pass old.kernel.machine c.queue.new.self.kernel.machine (request_of c.args.job)
+    c.args.wishes.items c.in-Ok.number (wished_in old.notes) q.number q.posted q.counted s.seen s.front s.legal
+    (many_wishes old.kernel.machine.minutes (wished_in old.notes) old.pending_results.items old.beside)
+    (ap wished_in s.notes ∙ q.wished) (s.closing ∙ ap (λ (m : Machine). m.closing) q.posted ∙ q.serves)
 
 pub returns-in-Ok-clause-pending_result : goal.returns-in-Ok-clause-pending_result
 returns-in-Ok-clause-pending_result g c =

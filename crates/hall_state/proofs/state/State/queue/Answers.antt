@@ -1,26 +1,49 @@
-use Rattle.std.proofs.Common.{◌≡◌, ℕ, ap, ◌∙◌, sym, subst, arith, length, ◌++◌, ◌∷◌, []}
+use Rattle.std.proofs.Common.{◌≡◌, ℕ, List, ap, ◌∙◌, sym, subst, arith, length, ◌++◌, ◌∷◌, []}
 use Rattle.std.proofs.lemmas.List.{length-map}
+use mathlib.Core.Logic.{∥∥₁_map}
 use Rattle.kernel_audit.specs.Request.{request_of}
-use Rattle.kernel_audit.specs.Minutes.{posted_in}
-use Rattle.kernel_audit.specs.Runs.{Machine}
+use Rattle.kernel_audit.specs.Minutes.{Entry, posted_in}
+use Rattle.kernel_audit.specs.Runs.{Machine, posted}
 use Rattle.kernel_audit.specs.Written.{entry_of}
-use Rattle.hall_state.specs.PendingResults.{IsNewPending}
+use Rattle.kernel_audit.specs.Wishes.{WishOf}
+use Rattle.kernel_audit.specs.Notes.{wished_in}
+use Rattle.kernel_audit.proofs.InOrder.{no_more_end}
+use Rattle.hall_state.specs.PendingResults.{IsNewPending, IsWaiting, AreBeside}
+use Rattle.hall_state.specs.declared.pending_result.PendingResult.{PendingResult}
 use Rattle.hall_state.proofs.Posts.{one_more}
+use Rattle.hall_state.proofs.Beside.{beside_posted}
 use Rattle.hall_state.proofs.state.State.queue.Goals as goal
 
 pub invariant_of-self-2 : goal.invariant_of-self-2
 invariant_of-self-2 g c =
-    let old = c.args.self.now.kernel.machine in
+    let old = c.args.self.now in
+    let is = c.in_ok-number.ensures.post.2 in
     let more : posted_in c.post.new.self.machine.minutes ≡ _ =
-    ap (λ (m : Machine). posted_in m.minutes) c.in_ok-number.ensures.post.2 ∙ one_more old c.lane.result (request_of c.args.job) in
-    record { counted = omega arith; told = c.follow.ensures }
+    ap (λ (m : Machine). posted_in m.minutes) is ∙ one_more old.kernel.machine c.lane.result (request_of c.args.job) in
+    let items = c.push_reserved.ensures.items ∙ ap (λ es. es ++ c.new.result ∷ []) c.reserve.ensures.items in
+    let next : Machine = posted old.kernel.machine c.lane.result (request_of c.args.job) in
+    let own = subst (λ (w : List WishOf). IsWaiting w c.new.result) (ap (λ v. v.items) c.note_wishes-wishes.ensures.wishes) c.new.ensures.waiting in
+    record {
+      counted = omega arith;
+      told = c.follow.ensures;
+      closes = c.note_wishes-wishes.ensures.shut ∙ old.closes ∙ sym (ap (λ (m : Machine). m.closing) is);
+      beside = ∥∥₁_map old.beside (λ a.
+          subst (λ (l : List Entry). AreBeside l (wished_in c.note_wishes-wishes.new.notes) c.push_reserved.new.self.items)
+          (sym (ap (λ (m : Machine). m.minutes) is))
+          (subst (λ (w : List (List WishOf)). AreBeside next.minutes w c.push_reserved.new.self.items) (sym c.note_wishes-wishes.ensures.noted)
+          (subst (λ (es : List PendingResult). AreBeside next.minutes (wished_in old.notes ++ c.args.wishes.items ∷ []) es) (sym items)
+          (beside_posted old.kernel.machine.minutes (wished_in old.notes) old.pending_results.items c.lane.result (request_of c.args.job) c.args.wishes.items
+          c.new.result (no_more_end old.kernel.machine c.show_legal.ensures.minutes) own a))));
+    }
 
 pub returns-clause-pending_result : goal.returns-clause-pending_result
 returns-clause-pending_result g c =
-    let e = c.in-Ok.pending_result in
-    let place : length c.minutes.result.now ≡ length c.args.self.now.kernel.machine.minutes = sym (length-map c.minutes.result.now entry_of)
-    ∙ ap length c.minutes.ensures.entries in (
+    let e = c.new.result in
+    let given = ap (λ v. v.items) c.note_wishes-wishes.ensures.wishes in
+    let place : length c.minutes-place.result.now ≡ length c.args.self.now.kernel.machine.minutes = sym (length-map c.minutes-place.result.now entry_of)
+    ∙ ap length c.minutes-place.ensures.entries in (
       e,
-      subst (λ (n : ℕ). IsNewPending n c.args.wishes.items e) place c.in-Ok.ensures,
+      subst (λ (n : ℕ). IsNewPending n c.args.wishes.items e) place
+          (subst (λ (w : List WishOf). IsNewPending (length c.minutes-place.result.now) w e) given c.new.ensures),
       c.push_reserved.ensures.items ∙ ap (λ es. es ++ e ∷ []) c.reserve.ensures.items,
     )

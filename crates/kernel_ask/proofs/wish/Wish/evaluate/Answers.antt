@@ -1,9 +1,15 @@
-use Rattle.std.proofs.Common.{◌≡◌, ℕ, List, ap, subst, string_bytes}
+use Rattle.std.proofs.Common.{◌≡◌, ℕ, List, IfSome, ap, sym, subst, string_bytes}
 use Rattle.janus_meaning.specs.Store.{Store}
+use Rattle.janus_meaning.specs.Shape.{shape_of}
+use Rattle.janus_check.specs.Names.{Known, shape_in}
 use Rattle.kernel_text.specs.State.{here}
 use Rattle.kernel_ask.specs.Wishes.{WishOf}
 use Rattle.kernel_ask.specs.Evaluation.{IsEvaluated}
 use Rattle.kernel_ask.proofs.wish.Wish.evaluate.Goals as goal
+
+pub evaluation_of-value-requires-clause-names : goal.evaluation_of-value-requires-clause-names
+evaluation_of-value-requires-clause-names g c =
+    subst (λ (s : Store). IfSome c.args.names.now (λ (env : Known). shape_in env.names ≡ shape_of s)) (sym c.store.ensures.sight) c.requires.names
 
 pub returns-clause-name : goal.returns-clause-name
 returns-clause-name g c = ap (λ (w : WishOf). w.name) c.self.view_is

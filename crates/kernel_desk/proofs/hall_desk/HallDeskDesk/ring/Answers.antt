@@ -14,7 +14,7 @@ returns g c = (
     later = c.ring-serial.ensures.later;
     seat = c.ring-serial.ensures.step
         ∙ ap (λ (b : TableId). ringer_seat b (after_raise (after_look c.self.inside.seat.knows c.ring-serial.result)))
-        (c.bell.ensures ∙ sym c.self.invariant);
+        (c.bell.ensures ∙ sym c.self.invariant.0);
     within = c.ring-serial.ensures.within;
   },
   ap (λ (v : DeskState). record v { seat = c.ring-serial.new.ringer }) c.self.view_is,

@@ -1,8 +1,8 @@
 use Rattle.std.proofs.Common.{◌≡◌, ◌+◌, ◌≤◌, ◌++◌, length, vec_len, vec_capacity}
 use Rattle.std.specs.Vec.Iter.{into_iter_items, into_iter_len}
-use Rattle.kernel_core.specs.State.{here}
+use Rattle.kernel_text.specs.State.{here}
 use Rattle.kernel_ask.specs.Evaluation.{AreValues}
-use Rattle.kernel_server.proofs.values.filled.Given as goal
+use Rattle.kernel_ask.proofs.ending.filled.Given as goal
 
 -- the values of the wishes so far, and room for those of the others
 abbrev pub invariant-loop-wish : goal.invariant-loop-wish

@@ -1,11 +1,11 @@
 use Rattle.std.proofs.Common.{◌≡◌, ◌∙◌, ◌+◌, List, [], ◌∷◌, ◌++◌, length, refl, sym, ap, subst, append_assoc, append-nil, arith}
 use Rattle.std.specs.Vec.Iter.{into_iter_items}
-use Rattle.kernel_core.specs.State.{here}
+use Rattle.kernel_text.specs.State.{here}
 use Rattle.kernel_ask.specs.Evaluation.{AreValues}
 use Rattle.kernel_ask.specs.Wishes.{WishOf}
 use Rattle.kernel_ask.specs.declared.done.NamedValue.{NamedValue}
 use Rattle.kernel_ask.proofs.Named.{values_more}
-use Rattle.kernel_server.proofs.values.filled.Goals as goal
+use Rattle.kernel_ask.proofs.ending.filled.Goals as goal
 
 nothing_left : {X : Type 0} (xs : List X) → length xs ≡ 0 → xs ≡ []
 nothing_left [] h = refl
