@@ -15,7 +15,7 @@ use Rattle.janus_frames.specs.Calls.{Caller, CanLend, Enters, Returns, AreAlone,
 use Rattle.janus_frames.specs.Cells.{parameters, stored}
 use Rattle.janus_frames.specs.FramesState.{FramesState, HasShape, names_there, with_names}
 use Rattle.janus_frames.specs.Kept.{AreHeld, outer_size}
-use Rattle.janus_frames.specs.StoreState.{local_limit, call_limit, bound_limit}
+use Rattle.janus_frames.specs.Limits.{local_limit, call_limit, bound_limit}
 use Rattle.janus_frames.proofs.Reading.{size-stored}
 use Rattle.janus_frames.proofs.Stored.{unbind-all, down}
 

@@ -58,10 +58,12 @@ given_back s (c ∷ cs) = given_back (returned c s) cs
 
 -- ---- how much is held, in sight and by callers
 
+-- how many names callers have
 abbrev pub names_lent : List Caller → ℕ
 names_lent [] = 0
 names_lent (c ∷ cs) = size_of c.store + names_lent cs
 
+-- how many stacks callers keep, which they did not lend
 abbrev pub stacks_lent : List Caller → ℕ
 stacks_lent [] = 0
 stacks_lent (c ∷ cs) = stacks_in c.store + stacks_lent cs

@@ -68,12 +68,15 @@ val_as h c kinds.Lent = Lent
 abbrev pub val_of : Heap → Cell → Val
 val_of h c = val_as h c c.kind
 
+-- a cell whose value is lent
 abbrev pub lent_cell : Cell
 lent_cell = record { kind = kinds.Lent; number = pos 0 }
 
+-- what is read where there is no cell
 abbrev pub no_cell : Cell
 no_cell = record { kind = kinds.Number; number = pos 0 }
 
+-- the cell at a place
 abbrev pub cell_at : List Cell → ℕ → Cell
 cell_at cs p = slice_index_or cs p no_cell
 

@@ -6,13 +6,9 @@ use Rattle.janus_frames.specs.Cells.{stored, has, AreApart, AreBelow, Heap, valu
 use Rattle.janus_frames.specs.Calls.{Caller, slots_of, names_of}
 use Rattle.janus_frames.specs.FramesState.{FramesState, stacks_there, values_there}
 use Rattle.janus_frames.specs.Stacks.{total}
-use Rattle.janus_frames.specs.declared.limit.TheConstants.{CALL_LIMIT}
+use Rattle.janus_frames.specs.Limits.{call_limit}
 use Rattle.janus_frames.specs.declared.frames.OpenCall.{OpenCall}
 use Rattle.janus_frames.specs.declared.frames.Frames.TheInside.{Inside}
-
--- the most calls that may be open
-abbrev pub call_limit : ℕ
-call_limit = CALL_LIMIT
 
 -- the open calls, the innermost first, whose frame begins at b
 abbrev pub callers_of : (ℕ → Val) → ℕ → List OpenCall → List Caller
@@ -23,9 +19,11 @@ callers_of v b (c ∷ cs) = record { args = names_of c.args; store = stored (fro
 abbrev pub state_at : (ℕ → Val) → ℕ → ℕ → List OpenCall → ℕ → FramesState
 state_at v base top calls room = record { slots = stored (from v base) (top - base); callers = callers_of v base calls; room = room }
 
+-- all arrays and all stacks
 abbrev pub heap_of : Inside → Heap
 heap_of a = record { arrays = a.arrays; stacks = a.stacks.lists }
 
+-- what the fields hold
 abbrev pub frames_of : Inside → FramesState
 frames_of a = state_at (value_at (heap_of a) a.cells.items) a.base a.top (reverse a.calls.items) (vec_capacity a.cells)
 
@@ -53,6 +51,7 @@ pub record AreCounted (spare : List ℕ) (lists : List (List ℤ)) (h : FramesSt
   pub stacks : length spare + stacks_there h ≡ live_stack_limit
   pub values : total lists ≡ values_there h
 
+-- the invariant of frames
 pub record IsKept (a : Inside) : Type 0 where
   pub frames : AreFrames (value_at (heap_of a) a.cells.items) a.base a.top (reverse a.calls.items)
   pub owned : AreOwned (length a.arrays) a.stacks.spare a.cells.items a.top

@@ -5,7 +5,8 @@ use Rattle.janus_meaning.specs.Syntax.{Name}
 use Rattle.janus_meaning.specs.World.{size_of}
 use Rattle.janus_frames.specs.Calls.{Caller, AreShort, params_bound}
 use Rattle.janus_frames.specs.FramesState.{FramesState, names_there}
-use Rattle.janus_frames.specs.StoreState.{StoreState, state_of, local_limit, call_limit, bound_limit}
+use Rattle.janus_frames.specs.Limits.{local_limit, call_limit, bound_limit}
+use Rattle.janus_frames.specs.StoreState.{StoreState, state_of}
 use Rattle.janus_frames.specs.declared.store.Store.TheInside.{Inside}
 
 abbrev pub held_of : {L : Type 0} → Inside L → StoreState

@@ -8,19 +8,7 @@ use Rattle.janus_meaning.specs.World.{size_of, oldest, stacks_in}
 use Rattle.janus_meaning.specs.Codes.{store_code}
 use Rattle.janus_slots.specs.Slots.{slot, in_slots, under_names}
 use Rattle.janus_frames.specs.Calls.{Caller, caller_code, Enters, Returns, AreAlone, given_back, names_lent, stacks_lent, values_lent, params_bound, own_names}
-use Rattle.janus_frames.specs.declared.limit.TheConstants.{LOCAL_LIMIT, CALL_LIMIT, BOUND_LIMIT}
-
--- the most locals that may be open
-abbrev pub local_limit : ℕ
-local_limit = LOCAL_LIMIT
-
--- the most calls that may be open
-abbrev pub call_limit : ℕ
-call_limit = CALL_LIMIT
-
--- the most parameters that may be bound at once
-abbrev pub bound_limit : ℕ
-bound_limit = BOUND_LIMIT
+use Rattle.janus_frames.specs.Limits.{local_limit, call_limit}
 
 -- the declared names under their texts with their values, without locals and parameters
 abbrev pub shown_of : Store → ℕ → List Name → List Caller → Store

@@ -82,7 +82,8 @@ impl Arrays {
         Ok(index)
     }
 
-    /// Lets an array go that no name has. The others keep their indexes.
+    /// Lets an array go that no name has. The others keep their indexes: so its own is free again only where it is the last, as it is where names are
+    /// retired in the reverse order of their declaration.
     pub(crate) fn release(&mut self, array: usize)
         requires { array < length self.old }
         ensures { (i : ℕ) → i < length self.old → i ≢ array → (i < length self.new) × (list_of self.new i ≡ list_of self.old i) }

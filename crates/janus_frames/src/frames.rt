@@ -13,7 +13,7 @@ ghost use Rattle.janus_frames.specs.Cells.{IsFit, Heap, cell_at, index_of, IsPre
 ghost use Rattle.janus_frames.specs.Lists.{list_of};
 ghost use Rattle.janus_frames.specs.Calls.{CanLend, Enters, AreAlone, Returns, given_back, own_names, slots_of, names_of};
 ghost use Rattle.janus_frames.specs.FramesState.{no_frames, names_there, stacks_there, values_there, with_names, HasShape};
-ghost use Rattle.janus_frames.specs.Inside.{call_limit};
+ghost use Rattle.janus_frames.specs.Limits.{call_limit};
 ghost use Rattle.janus_frames.specs.Shown.{place_in, through, AreLow, IsStored};
 ghost use Rattle.janus_frames.specs.Stores.{IsNumber, IsArray, IsStack, IsHeldStack, HasElementAt, IsFirstOnTop, rest_of, write};
 ghost use Rattle.janus_frames.specs.Values.{first_of, kind_of, shown, read_or};

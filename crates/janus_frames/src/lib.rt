@@ -29,7 +29,8 @@
 //!
 //! - `Lists`, `Cells`: cells as stores of slots, and that each array and each stack has one cell.
 //! - `Calls`: what entering and leaving a call does, and what is shown while calls are open.
-//! - `StoreState`: what a store holds, and the limits. `Stores`, `Values`: what contracts say of a name and its value. `Laws`: the law of writes.
+//! - `Limits`, `StoreState`: how much may be open, and what a store holds. `Stores`, `Values`: what contracts say of a name and its value.
+//!   `Laws`: the law of writes.
 //! - `Stacks`, `FramesState`, `Shown`: the stacks of the pool, what frames hold, and how a name is followed inwards.
 //! - `Inside`, `Kept`: the invariants that read the fields of the code.
 #![tactic(auto)]

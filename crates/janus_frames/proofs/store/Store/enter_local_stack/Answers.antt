@@ -5,7 +5,8 @@ use Rattle.janus_slots.specs.Slots.{slot}
 use Rattle.janus_frames.specs.Calls.{params_bound}
 use Rattle.janus_frames.specs.FramesState.{FramesState, names_there}
 use Rattle.janus_frames.specs.Kept.{AreHeld}
-use Rattle.janus_frames.specs.StoreState.{HasLocalRoom, local_limit}
+use Rattle.janus_frames.specs.Limits.{local_limit}
+use Rattle.janus_frames.specs.StoreState.{HasLocalRoom}
 use Rattle.janus_frames.proofs.Sizes as sizes
 use Rattle.janus_frames.proofs.store.Store.enter_local_stack.Goals as goal
 

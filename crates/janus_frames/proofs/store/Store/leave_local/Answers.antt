@@ -7,7 +7,8 @@ use Rattle.janus_frames.specs.FramesState.{FramesState, names_there}
 use Rattle.janus_frames.specs.StoreState.{StoreState, state_of}
 use Rattle.janus_frames.specs.StoreState.{with_slots}
 use Rattle.janus_frames.specs.Kept.{AreHeld}
-use Rattle.janus_frames.specs.StoreState.{HasLocal, local_limit}
+use Rattle.janus_frames.specs.Limits.{local_limit}
+use Rattle.janus_frames.specs.StoreState.{HasLocal}
 use Rattle.janus_frames.proofs.Sizes as sizes
 use Rattle.janus_frames.proofs.store.Store.leave_local.Goals as goal
 
