@@ -28,7 +28,7 @@ return {
     },
     40: {
         name: "Declared",
-        advice: "the name is already declared, a procedure is defined twice in the cell, or two of its parameters have the same name: choose another, or undo the declaration",
+        advice: "the name is already declared, a procedure is defined twice in the cell, or two of its parameters have the same name: choose another, or undo the declaration; to run all cells again, go to node 0 first",
     },
     41: {
         name: "Unknown",

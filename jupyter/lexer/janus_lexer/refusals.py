@@ -15,7 +15,7 @@ REFUSALS = {
         'there was no memory to read the text; for a cell this is reported as 76'),
     40: ('Declared',
         'the name is already declared, a procedure is defined twice in the cell, or two of its parameters have the same name: choose another, or undo'
-        ' the declaration'),
+        ' the declaration; to run all cells again, go to node 0 first'),
     41: ('Unknown',
         'no such name is in scope: declare it. In a procedure only its parameters and locals are in scope, and a statement after a procedure belongs '
         'to it'),
