@@ -12,7 +12,7 @@ return {
     },
     32: {
         name: "NumberTooLarge",
-        advice: "a number is greater than 2147483647: write it as a sum",
+        advice: "a number is greater than 2147483647, the greatest there is: take a smaller one. Sums beyond it wrap around, and -2147483648 is written as '-2147483647 - 1'",
     },
     33: {
         name: "TooNested",

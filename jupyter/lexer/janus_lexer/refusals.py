@@ -6,7 +6,8 @@ REFUSALS = {
     31: ('Expected',
         "something else has to stand here, such as 'then' after the test of an 'if'"),
     32: ('NumberTooLarge',
-        'a number is greater than 2147483647: write it as a sum'),
+        'a number is greater than 2147483647, the greatest there is: take a smaller one. Sums beyond it wrap around, and -2147483648 is written as '
+        "'-2147483647 - 1'"),
     33: ('TooNested',
         'more than 64 constructs are nested, or an expression has more than 256 operators: split it with a variable or a procedure'),
     34: ('DelocalName',
