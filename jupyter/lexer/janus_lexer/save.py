@@ -1,7 +1,7 @@
 #!/usr/bin/python3
 """Saves the session of a kernel of Janus that runs, as a file of cells whose run by janus-cells gives the same tree, worlds and position.
 
-usage: janus-save-session [--existing FILE] [OUT]        (a kernel's connection file, else the newest; writes on standard output without OUT)
+usage: janus-save-session [--existing FILE] [OUT]        (FILE: a kernel's connection file, else the newest; OUT: the script, else standard output)
        janus-save-session --check [--existing FILE]      (how much of its limits the kernel has used; status 1 above nine tenths)
 
 It walks the kernel's tree, runs the cells once more in a kernel of its own beside it, compares each node, and puts the position back.
@@ -413,6 +413,16 @@ def newest():
     raise Trouble(f'no kernel of Janus in {jupyter_runtime_dir()}: name its connection file by --existing', 3)
 
 
+def is_connection_file(name):
+    if not os.path.isfile(name):
+        return False
+    try:
+        with open(name, encoding='utf-8') as opened:
+            return 'shell_port' in json.load(opened)
+    except (OSError, ValueError, TypeError):
+        return False
+
+
 def check(kernel):
     """Prints the state and how much of each limit is used."""
     state = kernel.state()
@@ -513,6 +523,10 @@ def main(words):
         return usage()
     if file is not None and not os.path.isfile(file):
         print('janus-save-session: no connection file ' + file, file=sys.stderr)
+        return 2
+    if words and is_connection_file(words[0]):
+        said = f'{words[0]} is a connection file, and is left as it is: name a kernel by --existing {words[0]}, and after it a file for the script'
+        print('janus-save-session: ' + said, file=sys.stderr)
         return 2
     signal.signal(signal.SIGTERM, signal.default_int_handler)
     kernel = None
