@@ -23,6 +23,8 @@ try:
     from jupyter_core.paths import jupyter_runtime_dir
     from prompt_toolkit import PromptSession, print_formatted_text
     from prompt_toolkit.completion import Completer, Completion
+    from prompt_toolkit.enums import DEFAULT_BUFFER
+    from prompt_toolkit.filters import has_focus
     from prompt_toolkit.formatted_text import FormattedText
     from prompt_toolkit.key_binding import KeyBindings
     from prompt_toolkit.lexers import PygmentsLexer
@@ -38,7 +40,7 @@ except ImportError as missing:
 HELP = '''%undo [K]   take K cells back, the newest first      %goto N   go to node N, 0 for the start
 %redo [K]   redo K cells along the ways last gone    %show     the values here
 %tree       all cells that ran, and where we are     %help     this
-Alt-Enter begins a new line of the same cell. Ctrl-C stops the cell that runs, which is then taken back; Ctrl-D leaves.'''
+Alt-Enter begins a new line of the same cell. Ctrl-C empties the line, or stops the cell that runs, which is then taken back; Ctrl-D leaves.'''
 COMMAND = re.compile(r'%(undo|redo|goto|show|tree|help)(?:\s+(\d{1,10}))?\s*$')
 REFUSED = re.compile(r'refused (\d+) \w+(?: at (\d+)\.\.(\d+))?$')
 FAULT = re.compile(r'fault (\d+) \w+ after \d+$')
@@ -52,7 +54,7 @@ class Ended(Exception):
 class Desk:
     """The kernel behind one thread, so that no call meets the event loop of the prompt. The control socket is the main thread's."""
     def __init__(self, file):
-        self.manager, self.comm = None, uuid.uuid4().hex
+        self.manager, self.comm, self.is_stopping = None, uuid.uuid4().hex, False
         self.thread = ThreadPoolExecutor(max_workers=1)
         if file is None:
             os.makedirs(jupyter_runtime_dir(), mode=0o700, exist_ok=True)
@@ -77,9 +79,14 @@ class Desk:
             try:
                 return future.result(.2)
             except NotYet:
-                continue
-            except KeyboardInterrupt:
+                pass
+            if self.is_stopping:
+                self.is_stopping = False
                 self.client.control_channel.send(self.client.session.msg('interrupt_request', {}))
+
+    def stop(self, *_):
+        """Hears Ctrl-C, but at the prompt, where it is a key."""
+        self.is_stopping = True
 
     def send(self, kind, content):
         message = self.client.session.msg(kind, content)
@@ -186,6 +193,9 @@ class Console:
                 buffer.validate_and_handle()
             else:
                 buffer.insert_text('\n' + indent)
+        @keys.add('c-c', filter=has_focus(DEFAULT_BUFFER))
+        def _(event):                                                     # no KeyboardInterrupt, which would come up again at a later prompt
+            event.current_buffer.reset()
         @keys.add('escape', 'enter')
         @keys.add('escape', 'c-j')                                        # as it comes where it was typed before the prompt stood
         def _(event):
@@ -245,11 +255,10 @@ class Console:
         say(('bold', 'Janus'), ': cells run, and %undo takes them back; %help names the commands. Other frontends: --existing ' + self.desk.file)
         while True:
             try:
-                text = self.session.prompt()
-            except KeyboardInterrupt:
-                continue
+                text = self.session.prompt(handle_sigint=False)
             except EOFError:
                 return
+            self.desk.is_stopping = False
             if text.strip():
                 self.line(text)
 
@@ -271,11 +280,13 @@ def main(words):
         print('no kernel:', str(error).split('\n')[0] or type(error).__name__, file=sys.stderr)
         return 3
     status = 0
+    signal.signal(signal.SIGINT, desk.stop)
     try:
         Console(desk).serve()
     except Ended:
         print('the kernel has ended', file=sys.stderr)
         status = 3
+    signal.signal(signal.SIGINT, signal.SIG_IGN)
     desk.close()
     return status
 
