@@ -40,7 +40,8 @@ except ImportError as missing:
 HELP = '''%undo [K]   take K cells back, the newest first      %goto N   go to node N, 0 for the start
 %redo [K]   redo K cells along the ways last gone    %show     the values here
 %tree       all cells that ran, and where we are     %help     this
-Alt-Enter begins a new line of the same cell. Ctrl-C empties the line, or stops the cell that runs, which is then taken back; Ctrl-D leaves.'''
+A text that is not complete goes on; a blank line ends it. Alt-Enter begins a new line in any case.
+Ctrl-C empties the line, or stops the cell that runs, which is then taken back; Ctrl-D leaves.'''
 COMMAND = re.compile(r'%(undo|redo|goto|show|tree|help)(?:\s+(\d{1,10}))?\s*$')
 REFUSED = re.compile(r'refused (\d+) \w+(?: at (\d+)\.\.(\d+))?$')
 FAULT = re.compile(r'fault (\d+) \w+ after \d+$')
@@ -203,17 +204,18 @@ class Console:
         return keys
 
     def goes_on(self, document):
-        """How far the next line is indented, or None where the text is run. A procedure goes on up to a blank line."""
-        text = document.text
+        """How far the next line is indented, or None where the text is run: at a blank line in any case. A procedure goes on up to one."""
+        text, line = document.text, document.text.split('\n')[-1]
         if text.lstrip().startswith('%') or not text.strip():
             return None
         if document.text_after_cursor.strip():
             return ''
+        if not line.strip():
+            return None
         found = self.desk.wait(self.desk.reply, 'is_complete_request', {'code': text})
         if found.get('status') == 'incomplete':
             return found.get('indent', '')
-        is_ended = text.rstrip(' ').endswith('\n') or not re.search(r'\bprocedure\b', text)
-        return None if is_ended else '    '
+        return '    ' if re.search(r'\bprocedure\b', text) else None
 
     def line(self, text):
         found = COMMAND.match(text.strip())
@@ -221,7 +223,7 @@ class Console:
             return self.command(found[1], found[2])
         if text.lstrip().startswith('%'):
             return print(HELP)
-        return self.cell(text)
+        return self.cell(text.rstrip())
 
     def command(self, name, number):
         if name == 'help' or name == 'goto' and number is None:
