@@ -30,7 +30,7 @@ try:
     from prompt_toolkit.lexers import PygmentsLexer
 
     from janus_lexer import JanusLexer
-    from janus_lexer.cells import VERSION
+    from janus_lexer.cells import RUN, VERSION, placed
     from janus_lexer.refusals import REFUSALS
     from janus_lexer.slips import meant
     from janus_lexer.tree import Tree
@@ -40,9 +40,12 @@ except ImportError as missing:
 HELP = '''%undo [K]   take K cells back, the newest first      %goto N   go to node N, 0 for the start
 %redo [K]   redo K cells along the ways last gone    %show     the values here
 %tree       all cells that ran, and where we are     %help     this
+%load FILE  run a file of cells, as janus-cells has
 A text that is not complete goes on; a blank line ends it. Alt-Enter begins a new line in any case.
 Ctrl-C empties the line, or stops the cell that runs, which is then taken back; Ctrl-D leaves.'''
+RUNS = f'{RUN} ends a cell in a file for janus-cells; here Enter runs it, and %load FILE runs such a file'
 COMMAND = re.compile(r'%(undo|redo|goto|show|tree|help)(?:\s+(\d{1,10}))?\s*$')
+LOAD = re.compile(r'%load\s+(\S.*)')
 REFUSED = re.compile(r'refused (\d+) \w+(?: at (\d+)\.\.(\d+))?$')
 FAULT = re.compile(r'fault (\d+) \w+ after \d+$')
 MOVES = ('undo', 'redo', 'goto')
@@ -55,7 +58,7 @@ class Ended(Exception):
 class Desk:
     """The kernel behind one thread, so that no call meets the event loop of the prompt. The control socket is the main thread's."""
     def __init__(self, file):
-        self.manager, self.comm, self.is_stopping = None, uuid.uuid4().hex, False
+        self.manager, self.comm, self.is_stopping, self.others = None, uuid.uuid4().hex, False, []
         self.thread = ThreadPoolExecutor(max_workers=1)
         if file is None:
             os.makedirs(jupyter_runtime_dir(), mode=0o700, exist_ok=True)
@@ -94,6 +97,24 @@ class Desk:
         self.client.shell_channel.send(message)
         return message['header']['msg_id']
 
+    def note(self, message):
+        """Keeps a move of another frontend."""
+        data = message['content'].get('data', {})
+        is_other = message['parent_header'].get('session') != self.client.session.session and message['msg_type'] == 'comm_msg'
+        if is_other and data.get('op') in MOVES and data.get('undone', 0) + data.get('redone', 0) > 0:
+            self.others.append(data)
+
+    def listen(self):
+        """The moves of other frontends that were heard, up to now."""
+        until = time.monotonic() + 1
+        while time.monotonic() < until:
+            try:
+                self.note(self.client.get_iopub_msg(timeout=0))
+            except Empty:
+                break
+        found, self.others = self.others, []
+        return found
+
     def heard(self, asked, wanted):
         """The broadcasts on a request, up to its idle status."""
         while True:
@@ -103,6 +124,7 @@ class Desk:
                 if self.manager and not self.manager.is_alive() or not self.client.hb_channel.is_beating():
                     raise Ended from None
                 continue
+            self.note(message)
             if message['parent_header'].get('msg_id') != asked:
                 continue
             if message['msg_type'] in wanted:
@@ -160,8 +182,8 @@ def place(code, octet):
     return line + 1, len(before) - before.rfind('\n'), code.split('\n')[line]
 
 
-def explain(line, code):
-    """A refusal or a fault in words, and the place under its line."""
+def explain(line, code, above=0):
+    """A refusal or a fault in words, and the place under its line; so many lines of a file stand above the text."""
     say(('ansired', line))
     found = REFUSED.match(line) or FAULT.match(line)
     if not found or int(found[1]) not in REFUSALS:
@@ -170,11 +192,19 @@ def explain(line, code):
     if found.re is REFUSED and found[2] is not None:
         row, column, text = place(code, int(found[2]))
         at = len(code.encode()[:int(found[2])].decode(errors='ignore'))
-        say(f'line {row}, column {column}: {meant(int(found[1]), code, at) or advice}')
+        say(f'line {above + row}, column {column}: {meant(int(found[1]), code, at) or advice}')
         say('  ' + text)
         say(('ansired', '  ' + re.sub(r'[^\t]', ' ', text[:column - 1]) + '^'))
     else:
         say(advice)
+
+
+def way(answer):
+    """A move that was done, in the words of the page."""
+    undone, redone = (f'{number} cell{"" if number == 1 else "s"}' for number in (answer['undone'], answer['redone']))
+    if answer['op'] == 'goto':
+        return f'went to node {answer["node"]}, {undone} up and {redone} down'
+    return ('undid ' + undone if answer['op'] == 'undo' else 'redid ' + redone) + f'; the kernel stands at node {answer["node"]}'
 
 
 class Console:
@@ -210,7 +240,7 @@ class Console:
             return None
         if document.text_after_cursor.strip():
             return ''
-        if not line.strip():
+        if line.strip() in ('', RUN):
             return None
         found = self.desk.wait(self.desk.reply, 'is_complete_request', {'code': text})
         if found.get('status') == 'incomplete':
@@ -221,6 +251,14 @@ class Console:
         found = COMMAND.match(text.strip())
         if found:
             return self.command(found[1], found[2])
+        found = LOAD.match(text.strip())
+        if found:
+            return self.load(found[1])
+        if text.split('\n')[-1].strip() == RUN:
+            say(RUNS)
+            text = text.rstrip()[:-len(RUN)]
+        if not text.strip():
+            return None
         if text.lstrip().startswith('%'):
             return print(HELP)
         return self.cell(text.rstrip())
@@ -241,26 +279,79 @@ class Console:
         say(('bold', f'at node {state["node"]}' + (', and a cell runs' if state['busy'] else '')))
         return [say(it) for it in state['world']]
 
-    def cell(self, text):
-        before = self.desk.wait(self.desk.ask, {'op': 'state'})
+    def cell(self, text, above=0):
+        """Runs a cell. Answers the error's line, or None, and the node where the kernel is."""
+        before, failed = self.desk.wait(self.desk.ask, {'op': 'state'}), None
         self.tree.see(before)
         for kind, content in self.desk.wait(self.desk.run, text):
             if kind == 'execute_input':
                 self.count = content['execution_count'] + 1
             elif kind == 'error':
-                explain(content['evalue'], text)
+                failed = content['evalue']
+                explain(failed, text, above)
             else:
                 say(content['data']['text/plain'])
         self.tree.ran(before, self.desk.wait(self.desk.ask, {'op': 'state'}), text)
+        return failed, self.tree.position
+
+    def load(self, path):
+        """Runs a file of cells, and says which were refused or failed. Ctrl-C leaves it."""
+        try:
+            with open(os.path.expanduser(path), encoding='utf-8') as file:
+                parts = placed(file.read())
+        except (OSError, ValueError) as error:
+            return say(('ansired', f'{path}: {getattr(error, "strerror", None) or "no text"}'))
+        nodes, ran, bad = [self.desk.wait(self.desk.ask, {'op': 'state'})['node']], 0, []
+        for kind, source, row in parts:
+            if kind == 'commands':
+                for line in source.split('\n'):
+                    self.loaded_command(line.strip(), nodes)
+            if kind != 'code':
+                continue
+            ran, blank = ran + 1, len(source) - len(source.lstrip())
+            say(('ansigreen', f'[{self.count}] '), source.strip().split('\n')[0])
+            failed, node = self.cell(source, row - 1)
+            if failed is None:
+                nodes.append(node)
+                continue
+            how = failed.split()[0]
+            bad.append(f'cell {ran} (line {row + source[:blank].count(chr(10))}) ' + {'fault': 'failed'}.get(how, f'was {how}'))
+            if how == 'interrupted':
+                bad[-1] += ': what follows did not run'
+                break
+        say(('bold', f'{ran} cell{"" if ran == 1 else "s"} of {path}, at node {self.tree.position}'))
+        return [say(('ansired', it)) for it in bad]
+
+    def loaded_command(self, line, nodes):
+        """Does a command of a file, whose nodes are numbered from where its first cell began."""
+        found = COMMAND.match(line)
+        if not found:
+            return say(('ansired', f'{line}: this is for janus-cells, and is passed over'))
+        number = found[2]
+        if found[1] == 'goto' and number is not None:
+            if int(number) >= len(nodes):
+                return explain('refused 71 NoNode', '')
+            number = nodes[int(number)]
+        return self.command(found[1], number)
+
+    def tell(self):
+        """Says what other frontends have moved; the last four."""
+        found = self.desk.wait(self.desk.listen)
+        if len(found) > 4:
+            say(('ansiyellow', f'other frontends made {len(found)} moves; the last four:'))
+        for it in found[-4:]:
+            say(('ansiyellow', 'another frontend ' + way(it)))
 
     def serve(self):
         say(('bold', 'Janus'), ': cells run, and %undo takes them back; %help names the commands. Other frontends: --existing ' + self.desk.file)
         while True:
+            self.tell()
             try:
                 text = self.session.prompt(handle_sigint=False)
             except EOFError:
                 return
             self.desk.is_stopping = False
+            self.tell()
             if text.strip():
                 self.line(text)
 
