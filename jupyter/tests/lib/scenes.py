@@ -189,7 +189,8 @@ def waiting(stage):
     asked = second.begin(ENDLESS)
     time.sleep(1)
     page.click('#janus-undo')
-    comes('an undo behind another frontend\'s endless cell says that it waits', lambda: 'waits for its turn' in message(page))
+    comes('an undo behind another frontend\'s endless cell says that it waits, and that it is done behind a stop',
+          lambda: ('waits for its turn' in message(page) and 'ends that cell; the undo is then done' in message(page), message(page)))
     page.interrupt()
     second.heard(asked, 'idle', 200)
     stands(page, 3, 4, FORWARD, 'after the stop the undo is done', 120)
@@ -426,7 +427,7 @@ def slider(stage):
         v.show = function (world, node) { window.seen.push([node, world.join(' ')]); return old.call(v, world, node); }; $("#janus-slider").focus()''')
     page.keys(Keys.ARROW_LEFT)
     stands(page, 3, 4, FORWARD, 'a step to the left goes to node 3')
-    check(shown(page)['step'] == 'step 3 of 4: node 3, In [3] call fib(x1, x2, n)', 'and it is said', shown(page)['step'])
+    check(shown(page)['step'] == 'cell 3 of 4: node 3, In [3] call fib(x1, x2, n)', 'and it is said', shown(page)['step'])
     page.keys(Keys.ARROW_RIGHT)
     stands(page, 4, 4, WORLD, 'a step to the right goes on again')
     page.js('window.seen = []')
