@@ -48,6 +48,7 @@ COMMAND = re.compile(r'%(undo|redo|goto|show|tree|help)(?:\s+(\d{1,10}))?\s*$')
 LOAD = re.compile(r'%load\s+(\S.*)')
 REFUSED = re.compile(r'refused (\d+) \w+(?: at (\d+)\.\.(\d+))?$')
 FAULT = re.compile(r'fault (\d+) \w+ after \d+$')
+MOST_INPUTS = 500               # so many cells of the kernel's history are looked at by a console that joins
 MOVES = ('undo', 'redo', 'goto')
 
 
@@ -152,6 +153,22 @@ class Desk:
                 return message['content']
         return {}
 
+    def texts(self):
+        """The state, and the texts of its nodes from the kernel's history; none where they can't be laid to the nodes.
+
+        Cells that failed are in the history too. Those of which the text is no cell are left out; where there are others, or where cells were
+        silent, there are not as many texts as nodes.
+        """
+        state = self.ask({'op': 'state'})
+        inputs = self.reply('history_request', {'hist_access_type': 'tail', 'output': False, 'raw': True, 'n': MOST_INPUTS}).get('history', [])
+        texts = [text for _, _, text in inputs]
+        if state['busy'] or [count for _, count, _ in inputs] != list(range(1, len(inputs) + 1)) or not state['nodes'] <= len(inputs) < MOST_INPUTS:
+            return state, []
+        if len(texts) > state['nodes']:
+            texts = [it for it in texts if self.reply('is_complete_request', {'code': it}).get('status') == 'complete']
+        is_same = all(now == state[name] for name, now in self.ask({'op': 'state'}).items())
+        return state, texts if is_same and len(texts) == state['nodes'] else []
+
     def close(self):
         self.wait(self.send, 'comm_close', {'comm_id': self.comm, 'data': {}})
         time.sleep(.1)
@@ -210,7 +227,9 @@ def way(answer):
 class Console:
     def __init__(self, desk):
         self.desk, self.tree, self.count = desk, Tree(), 1
-        self.tree.see(desk.wait(desk.ask, {'op': 'state'}))
+        state, texts = desk.wait(desk.texts)
+        self.tree.see(state)
+        self.tree.told(texts)
         self.session = PromptSession(message=lambda: [('ansigreen', f'[{self.count}] ')], lexer=PygmentsLexer(JanusLexer), multiline=True,
                                      completer=Names(desk), complete_while_typing=False, key_bindings=self.keys(), prompt_continuation='... ')
 
