@@ -40,7 +40,7 @@ except ImportError as missing:
 HELP = '''%undo [K]   take K cells back, the newest first      %goto N   go to node N, 0 for the start
 %redo [K]   redo K cells along the ways last gone    %show     the values here
 %tree       all cells that ran, and where we are     %help     this
-%load FILE  run a file of cells, as janus-cells has
+%load FILE  run the cells of a file for janus-cells
 A text that is not complete goes on; a blank line ends it. Alt-Enter begins a new line in any case.
 Ctrl-C empties the line, or stops the cell that runs, which is then taken back; Ctrl-D leaves.'''
 RUNS = f'{RUN} ends a cell in a file for janus-cells; here Enter runs it, and %load FILE runs such a file'
@@ -61,6 +61,7 @@ class Desk:
     def __init__(self, file):
         self.manager, self.comm, self.is_stopping, self.others = None, uuid.uuid4().hex, False, []
         self.thread = ThreadPoolExecutor(max_workers=1)
+        signal.signal(signal.SIGINT, self.stop)
         if file is None:
             os.makedirs(jupyter_runtime_dir(), mode=0o700, exist_ok=True)
             file = os.path.join(jupyter_runtime_dir(), f'kernel-{os.getpid()}.json')
@@ -385,14 +386,12 @@ def main(words):
     if not sys.stdin.isatty():
         print('janus-repl wants a terminal; janus-cells reads a stream', file=sys.stderr)
         return 2
-    signal.signal(signal.SIGINT, signal.default_int_handler)
     try:
         desk = Desk(words[1] if words else None)
     except Exception as error:                                            # of another kind in each version of jupyter_client
         print('no kernel:', str(error).split('\n')[0] or type(error).__name__, file=sys.stderr)
         return 3
     status = 0
-    signal.signal(signal.SIGINT, desk.stop)
     try:
         Console(desk).serve()
     except Ended:
