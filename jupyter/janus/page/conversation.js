@@ -282,7 +282,7 @@ class Conversation {
     }
 
     cell(job) {
-        const label = {count: job.count, code: job.code.slice(0, LABEL), is_cut: job.code.length > LABEL}, ran = !job.failed;
+        const label = this.label(job.count, job.code), ran = !job.failed;
         this.limits.cell(job.count);
         this.spoken++;
         this.count = Math.max(this.count, job.count);
@@ -344,7 +344,19 @@ class Conversation {
         }
     }
 
-    is_quiet(state) { return this.asked.clock === this.clock && !state.busy && this.held.size === 0 && this.jobs.size === 0; }
+    is_idle() { return this.held.size === 0 && this.jobs.size === 0; }
+
+    // The texts of all nodes, as [session, count, text].
+    name(inputs) {
+        inputs.forEach((it, i) => {
+            this.history.label[i + 1] = this.history.label[i + 1] || this.label(it[1], it[2]);
+        });
+        this.history.version++;
+    }
+
+    label(count, code) { return {count: count, code: code.slice(0, LABEL), is_cut: code.length > LABEL}; }
+
+    is_quiet(state) { return this.asked.clock === this.clock && !state.busy && this.is_idle(); }
 
     // Silent cells ended, and nothing else: they stand one under the other.
     silent_cells(state) {
@@ -359,6 +371,7 @@ class Conversation {
         if (!history.check(state, this.missing)) this.page.forgot();
         if (first && quiet && history.early(labels))
             early.forEach((it, i) => this.page.early_ran(it.id, history.nodes - early.length + 1 + i));
+        if (first && quiet) this.page.joined();
         if (this.missing) this.count = 0;                                // it isn't known, and what comes next is no gap
         this.early = [];
         this.silent = 0;

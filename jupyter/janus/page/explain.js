@@ -58,7 +58,10 @@ function taken_back(steps) { return 'after ' + texts.count(Number(steps), 'step'
 
 function move(asked) { return asked.op === 'undo' ? 'The undo' : asked.op === 'redo' ? 'The redo' : 'The way to node ' + asked.n; }
 
-function waits(asked) { return move(asked) + ' waits for its turn behind a cell that runs. The stop button ends that cell.'; }
+function waits(asked) {
+    const it = asked.op === 'goto' ? 'the move' : 'the ' + asked.op;
+    return move(asked) + ' waits for its turn behind a cell that runs. The stop button ends that cell; ' + it + ' is then done.';
+}
 
 function way(answer) {
     const undone = texts.count(answer.undone, 'cell'), redone = texts.count(answer.redone, 'cell'), end = '; the kernel stands at node ' + answer.node;

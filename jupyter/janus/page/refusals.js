@@ -12,7 +12,7 @@ return {
     },
     32: {
         name: "NumberTooLarge",
-        advice: "a number is greater than 2147483647: write it as a sum",
+        advice: "a number is greater than 2147483647, the greatest there is: take a smaller one. Sums beyond it wrap around, and -2147483648 is written as '-2147483647 - 1'",
     },
     33: {
         name: "TooNested",
@@ -28,7 +28,7 @@ return {
     },
     40: {
         name: "Declared",
-        advice: "the name is already declared, a procedure is defined twice in the cell, or two of its parameters have the same name: choose another, or undo the declaration",
+        advice: "the name is already declared, a procedure is defined twice in the cell, or two of its parameters have the same name: choose another, or undo the declaration; to run all cells again, go to node 0 first",
     },
     41: {
         name: "Unknown",

@@ -17,6 +17,7 @@ class Session {
         this.pause = PAUSE;             // until the next, at least
         this.changes = 0;               // since the last
         this.is_warned = false;         // whether it was said that a limit is near
+        this.inputs = null;             // the kernel's inputs, until the first state is known
         this.leaving = () => this.keep();
         window.addEventListener('pagehide', this.leaving);              // what was learnt since it was kept last
     }
@@ -60,12 +61,24 @@ class Session {
             const inputs = reply.content.history || [];
             if (inputs.length) this.conversation.limits.cell(inputs[inputs.length - 1][1]);
             this.marks.judge(inputs);
+            this.inputs = inputs;
+            this.joined();
             this.changed();
         });
     }
 
+    // The texts of nodes that ran before this page listened, where the kernel's inputs are as many as its nodes: a cell that failed is an input too.
+    joined() {
+        const inputs = this.inputs, is_known = this.history.known && this.conversation.is_idle();
+        if (inputs === null || !is_known) return;
+        this.inputs = null;
+        const is_whole = inputs.length < INPUTS && inputs.every(function (it, i) { return it[1] === i + 1; });
+        if (is_whole && inputs.length === this.history.nodes && inputs.length >= this.conversation.count) this.conversation.name(inputs);
+    }
+
     restarted() {
         this.is_warned = false;
+        this.inputs = null;
         this.marks.restarted();
         this.history.clear();
         this.panel.clear();

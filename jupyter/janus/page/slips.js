@@ -1,5 +1,5 @@
-// What is probably meant where a text is refused with 30 or 31: by what stands at the place, its neighbours and what is open. No parser; where
-// nothing better than the guide's table is known the answer is null.
+// What is probably meant where a text is refused with 30 or 31, and which of its causes 40 to 43 has: by what stands at the place, its neighbours and
+// what is open. No parser; where nothing better than the guide's table is known the answer is null.
 define([], function () {
 'use strict';
 
@@ -9,11 +9,14 @@ const OPENS = {fi: 'if', until: 'from', delocal: 'local', ')': '(', ']': '['};
 const CLOSER = {if: '`fi` with its second test', from: '`until` with its test', local: '`delocal`', '(': '`)`', '[': '`]`'};
 const LOOP = 'a loop is `from .. loop .. until ..`', SHOWN = 'a cell shows the names that it mentions';
 const SMALL = 'words of the language are written in small letters', TEXTS = 'there are no texts, only numbers';
-const PROCEDURE = 'a procedure begins with `procedure`';
+const PROCEDURE = 'a procedure begins with `procedure`', READS = 'a cell reads nothing: write the number into it';
+const LENGTH = 'nothing tells a length: an array has that of its declaration, and `empty(s)` is 1 where the stack `s` is empty';
+const BLOCK = 'words such as `then` and `fi` enclose statements, so leave it out';
+const IMPORT = 'nothing is brought in from elsewhere, and the procedures of earlier cells are there';
 const COMMAND = 'commands such as `%undo 1` are lines for janus-cells and janus-repl: here press Undo';
 const FOREIGN = {
     while: LOOP, for: LOOP, repeat: LOOP, print: SHOWN, printf: SHOWN, show: SHOWN, write: SHOWN,
-    read: 'a cell reads nothing: write the number into it',
+    read: READS, input: READS, begin: BLOCK, import: IMPORT, include: IMPORT,
     undo: 'here press Undo', redo: 'here press Redo',
     return: 'a procedure gives back what it changes, its parameters', def: PROCEDURE, function: PROCEDURE, proc: PROCEDURE,
     and: 'write `&&`', or: 'write `||`', not: 'compare with 0, as in `y = 0`', mod: 'write `%`', div: 'write `/`', true: 'write 1', false: 'write 0',
@@ -21,9 +24,22 @@ const FOREIGN = {
     var: 'write `int` or `stack`', let: 'write `int` or `stack`', bool: 'write `int`: 0 is false', float: 'numbers are whole: write `int`',
     IF: SMALL, If: SMALL, FROM: SMALL, From: SMALL, PROCEDURE: SMALL, Procedure: SMALL, CALL: SMALL, LOCAL: SMALL, INT: SMALL, Int: SMALL,
 };
+// Names that other languages call as functions.
+const CALLED = {
+    swap: 'two numbers are swapped by `x <=> y`; a procedure of your own is called by `call swap(..)`', len: LENGTH, length: LENGTH, size: LENGTH,
+};
+const USES = {
+    push: '`push(x, s)` moves the number of the variable `x` onto the stack `s`', top: '`top(s)` is the newest number of the stack `s`',
+    pop: '`pop(x, s)` moves the newest number of the stack `s` into the variable `x`', empty: '`empty(s)` is 1 where the stack `s` is empty',
+};
+// What is said of `:` by the last word in front of it on its line that begins something.
+const TEST = 'after the test of an `if` stands `then`, and no `:`', HEAD = PROCEDURE + ', and no `:` follows its head';
+const COLONS = {
+    if: TEST, elif: TEST, while: LOOP, for: LOOP, from: LOOP, def: HEAD, function: HEAD, proc: HEAD, procedure: 'no `:` follows the head of a procedure',
+    else: 'no `:` follows `else`', then: 'no `:` follows `then`', do: 'no `:` follows `do`', loop: 'no `:` follows `loop`',
+};
 const CHARACTERS = {
     ';': 'statements follow one another without `;`', '?': 'there is no `?`: write an `if`',
-    ':': 'there is no `:`: a variable is changed by `+=`, `-=` or `^=`',
     '{': 'there are no braces: words such as `fi`, `until` and `delocal` close what is open', '}': 'there are no braces: words such as `fi` close what is open',
     '"': TEXTS, '\'': TEXTS, '`': TEXTS, '\u201c': TEXTS, '\u201d': TEXTS, '\u2018': TEXTS, '\u2019': TEXTS, '#': 'a comment begins with `//`',
     '\\': 'a statement may go on over several lines without this sign: leave it out', '!': 'there is no `!`: compare with 0, as in `y = 0`',
@@ -37,6 +53,8 @@ const CHARACTERS = {
 const own = function (table, key) { return key !== undefined && Object.prototype.hasOwnProperty.call(table, key) ? table[key] : null; };
 const is_name = function (it) { return it !== undefined && /^[A-Za-z]/.test(it) && !KEYWORDS.has(it); };
 const is_change = function (it) { return it === '+=' || it === '-=' || it === '^='; };
+const is_number = function (it) { return /^[0-9]+$/.test(it || ''); };
+const wants_value = function (it) { return is_change(it) || /^(&&|\|\||!=|<=|>=|[-+*/%^&|<>=([]|if|fi|from|until)$/.test(it || ''); };
 
 function tokens(code) {
     return Array.from(code.matchAll(TOKEN), function (it) { return {text: it[0], at: it.index}; }).filter(function (it) { return !it.text.startsWith('//'); });
@@ -67,11 +85,11 @@ function line(code, at) { return code.slice(0, at).split('\n').length; }
 // ---- rules: each answers a sentence or null
 function foreign(it) {
     if (it.index === 0 && it.here === '%') return COMMAND;
-    if (it.here === '/' && it.after === '*' || it.here === '(' && it.after === '*' || it.here === '-' && it.after === '-' && it.index === 0)
+    if (['/*', '(*'].includes(it.here + it.after) || it.before + it.here === '/*' || it.here + it.after === '--' && it.index === 0)
         return 'a comment begins with `//`';
     for (const k of [0, -1]) {
         const word = it.text(k), ahead = it.text(k - 1);
-        const is_used = ['call', 'uncall', 'procedure', 'int', 'stack', '(', ',', '['].includes(ahead) || is_change(it.text(k + 1));
+        const is_used = ['call', 'uncall', 'procedure', 'int', 'stack', '(', ',', '['].includes(ahead) || is_change(it.text(k + 1)) || it.text(k + 1) === '=';
         if (own(FOREIGN, word) && !is_used) return '`' + word + '` is not a word of Janus: ' + FOREIGN[word];
     }
     return null;
@@ -80,7 +98,9 @@ function foreign(it) {
 function number(it) {
     const hexadecimal = /^x([0-9A-Fa-f]+)$/.exec(it.before || '');
     if (hexadecimal && it.earlier === '0') return 'there are no hexadecimal numbers: `0' + it.before + '` is ' + parseInt(hexadecimal[1], 16);
-    if (/^[0-9]+$/.test(it.here || '') && is_name(it.after) && (it.before === 'int' || it.before === 'stack')) return 'a name begins with a letter';
+    if (it.here === ',' && is_number(it.before) && is_number(it.after))
+        return it.inner === '[' ? 'an array has one index' : 'a number is written without a comma: `' + it.before + it.after + '`';
+    if (is_number(it.here) && is_name(it.after) && (it.before === 'int' || it.before === 'stack')) return 'a name begins with a letter';
     return null;
 }
 
@@ -90,7 +110,8 @@ function equals(it) {
     if (it.here !== '=') return null;
     if (it.before === '=') return 'equality is one `=`';
     if (it.before === '<' || it.before === '>') return 'write `' + it.before + '=` without a space';
-    if (is_name(it.before) && (it.earlier === 'int' || it.earlier === 'stack'))
+    if (is_name(it.before) && it.earlier === 'stack') return 'a stack starts empty: write `stack ' + it.before + '`';
+    if (is_name(it.before) && it.earlier === 'int')
         return 'a number starts at 0: write `int ' + it.before + '`, and then `' + it.before + ' += ..`';
     if (declares || it.before === ']' && it.text(-4) === 'int') return 'the elements of an array start at 0: give them their values by `+=`';
     if (is_name(it.before) && ['+', '-', '^'].includes(it.after)) return 'the sign comes first: write `' + it.before + ' ' + it.after + '= ..`';
@@ -102,17 +123,23 @@ function operator(it) {
     if (/^[-*/%&|+^]$/.test(it.here || '') && it.after === '=')
         return /^[-+^]$/.test(it.here) ? 'write `' + it.here + '=` without a space' : 'only `+=`, `-=` and `^=` can be taken back';
     if (it.here === '&&' && it.after === '=' || it.here === '||' && it.after === '=') return 'only `+=`, `-=` and `^=` can be taken back';
-    if ((it.here === '+' || it.here === '-') && it.after === it.here) return 'write `' + it.before + ' ' + it.here + '= 1`';
+    if ((it.here === '+' || it.here === '-') && it.after === it.here)
+        return 'write `' + (is_name(it.before) ? it.before : is_name(it.text(2)) ? it.text(2) : 'x') + ' ' + it.here + '= 1`';
+    if (it.here === '<' && it.after === '-' && is_name(it.before)) return CHARACTERS['\u2190'];
     if ((it.here === '<' || it.here === '>') && it.before === it.here) return 'there are no shifts: multiply or divide by a power of two';
     if (it.here === '*' && it.before === '*') return 'there are no powers: multiply';
     if (it.here === '+' && /^[-+*/%(=<>]$/.test(it.before || '')) return 'a number has no sign `+`: leave it out';
     if (it.here === '>' && it.before === '<') return 'write `!=` for different';
-    if (it.here === '<=>' && it.before === ']' || it.before === '<=>' && is_name(it.here) === false || it.here === '[' && it.earlier === '<=>')
+    if (it.here === '<=>' && it.before === ']' || it.before === '<=>' && it.here && !is_name(it.here) || it.here === '[' && it.earlier === '<=>')
         return '`<=>` exchanges variables, not elements: take two locals, as examples/sort does';
     return null;
 }
 
 function declaration(it) {
+    if (it.here === 'int' && it.before === '(' && it.earlier === 'main') return '`main` has no parameters: its declarations follow `main()`';
+    const is_sized = it.here === '[' && is_number(it.after) && it.text(2) === ']' && is_name(it.text(3));
+    if (it.here === '[' && it.before === 'int') return 'the length stands after the name: `int ' + (is_sized ? it.text(3) + '[' + it.after : 'a[10') + ']`';
+    if (it.here === '[' && it.before === 'stack') return 'a stack has no length: write `stack ' + (is_sized ? it.text(3) : 's') + '`';
     if (it.here === ',' && is_name(it.before) && it.earlier === 'int')
         return 'each name has its own kind: `int ' + it.before + ' int ' + (it.after || '..') + '`';
     if (KEYWORDS.has(it.here) && ['int', 'stack', 'procedure', 'call', 'uncall'].includes(it.before))
@@ -127,19 +154,30 @@ function declaration(it) {
     return null;
 }
 
+function stacks(it) {
+    if ((it.here === 'push' || it.here === 'pop') && wants_value(it.before))
+        return 'after `' + it.before + '` a value has to stand, and `' + it.here + '` is a statement: ' + USES[it.here];
+    if (own(USES, it.before) && it.here !== '(') return 'parentheses are missing: ' + USES[it.before];
+    return it.here === ')' && ['push', 'pop'].includes(it.list[0]) ? 'two names have to stand here: ' + USES[it.list[0]] : null;
+}
+
 function parameters(it) {
     const [called, word] = it.list, is_first = it.before === '(' || it.before === ',';
     if (word === 'procedure' && is_first && is_name(it.here))
         return 'each parameter has its kind: `int ' + it.here + '`, `int ' + it.here + '[]` or `stack ' + it.here + '`';
     if (it.before === '[' && it.text(-3) === 'int' && ['(', ','].includes(it.text(-4))) return 'a parameter has no length: `int ' + it.earlier + '[]`';
+    if (['call', 'uncall'].includes(it.here) && wants_value(it.before))
+        return 'after `' + it.before + '` a value has to stand, and a procedure gives back none: `' + it.here + '` changes the variables that are lent to it';
     if (called === 'push' || called === 'pop' || word === 'call' || word === 'uncall')
         return 'only names of variables can stand here: put the value into a variable or a local first';
     if (called === 'empty' || called === 'top') return 'the name of a stack has to stand here';
     if (['call', 'uncall'].includes(it.before)) return 'after `' + it.before + '` the name of a procedure has to stand';
     if (['call', 'uncall', 'procedure'].includes(it.earlier) && is_name(it.before) && it.here !== '(')
         return 'write `' + it.earlier + ' ' + it.before + '(..)`, with the names in parentheses';
-    if (it.here === '(' && is_name(it.before)) return 'a procedure is called by `call ' + it.before + '(..)`';
-    return null;
+    if (it.here !== '(' || !is_name(it.before)) return null;
+    if (own(CALLED, it.before)) return CALLED[it.before];
+    if (wants_value(it.earlier)) return 'a procedure gives back no value: `call ' + it.before + '(..)` changes the variables that are lent to it';
+    return 'a procedure is called by `call ' + it.before + '(..)`';
 }
 
 function missing(it) {
@@ -153,6 +191,7 @@ function missing(it) {
     if (['until', 'loop', 'do'].includes(it.here) && it.inner !== 'from') return '`' + it.here + '` belongs to a `from`, and none is open here';
     if (it.here === 'delocal' && it.inner !== 'local') return '`delocal` closes a `local`, and none is open here';
     if (['then', 'else', 'loop', 'do'].includes(it.before)) return 'after `' + it.before + '` a statement has to stand; `skip` is one that does nothing';
+    if (it.here === 'to' && it.inner === 'from') return 'a loop ends by a test, as in `from i = 0 loop i += 1 until i = 10`';
     const is_begun = KEYWORDS.has(it.here) || is_change(it.here) || it.here === '<=>';
     if (it.opened && (it.here === undefined || is_begun && (it.inner === '(' || it.inner === '['))) return unclosed;
     return null;
@@ -165,12 +204,13 @@ function statement(it) {
     if (it.here === undefined && is_name(it.before))
         return 'a name alone is no statement: `' + it.before + ' += ..` changes it, and a cell shows what it mentions';
     if (is_change(it.before) || /^(&&|\|\||!=|<=|>=|[-+*/%^&|<>=])$/.test(it.before || '')) return 'after `' + it.before + '` a value has to stand';
+    if (it.before === '<=>') return 'after `<=>` the name of a variable has to stand';
     if (is_name(it.before)) return 'after `' + it.before + '` an operator is missing: a statement goes on with `+=`, `-=`, `^=` or `<=>`';
     if (/^[0-9(]/.test(it.here || '')) return 'a value alone is no statement: a variable is changed by `+=`, `-=` or `^=`';
     return null;
 }
 
-const RULES = [foreign, number, equals, operator, parameters, declaration, missing, statement];
+const RULES = [foreign, number, equals, operator, stacks, parameters, declaration, missing, statement];
 
 // What is meant where something else is expected, at a place counted as an editor does.
 function expected(code, at) {
@@ -184,13 +224,91 @@ function expected(code, at) {
 
 // What is meant by a character that means nothing.
 function character(code, at) {
-    const one = String.fromCodePoint(code.codePointAt(at) || 0);
+    const one = String.fromCodePoint(code.codePointAt(at) || 0), last = code.slice(at - 1, at);
+    if (one === ':') return colon(code, at);
+    if (one === '.' && is_name(tokens(code.slice(0, at)).map(function (it) { return it.text; }).pop()))
+        return 'there is no `.` after a name: a stack is used by `push(x, s)`, `pop(x, s)`, `top(s)` and `empty(s)`';
+    if (one === '_' && /[0-9]/.test(last)) return 'a number has digits alone: leave the `_` out';
     return own(CHARACTERS, one) || (/\p{L}/u.test(one) ? 'names have the letters a to z and A to Z, digits and `_`' : null);
 }
 
+function colon(code, at) {
+    const words = tokens(code.slice(code.lastIndexOf('\n', at) + 1, at)).map(function (it) { return it.text; });
+    const head = words.reverse().find(function (it) { return own(COLONS, it); });
+    if (code[at + 1] === '=') return 'there is no `:=`: a variable is changed by `+=`, `-=` or `^=`';
+    return head ? COLONS[head] : 'there is no `:`: leave it out';
+}
+
+// ---- of 40 to 43, which name a name: the cause that the text shows
+function declared(it) {
+    const name = '`' + it.here + '`', begun = it.all.slice(0, Math.max(it.index - 1, 0)).map(function (one) { return one.text; });
+    if (it.before === 'procedure') return 'the procedure ' + name + ' is defined twice in this cell: rename one of them, or leave it out';
+    if (it.list[1] === 'procedure') return 'two parameters are named ' + name + ': rename one of them';
+    const here = begun.slice(begun.lastIndexOf('procedure') + 1);
+    if (here.some(function (one, k) { return one === it.here && ['int', 'stack'].includes(here[k - 1]); }))
+        return name + ' is declared twice in this cell: leave one of them out';
+    return name + ' is already declared: choose another name, or undo the cell that declared it; to run all cells again, go to node 0 first';
+}
+
+function unknown(it) {
+    const small = it.here.toLowerCase(), is_outside = !it.all.slice(0, it.index).some(function (one) { return one.text === 'procedure'; });
+    const others = it.all.map(function (one) { return one.text; }).filter(function (one) { return one !== it.here && one.toLowerCase() === small; });
+    const other = others[0] || small;
+    if (small === 'true' || small === 'false') return '`' + it.here + '` is not a word of Janus: ' + FOREIGN[small];
+    if (it.before === 'call' || it.before === 'uncall') return 'there is no procedure `' + it.here + '`: define it, in this cell or in an earlier one';
+    if (other !== it.here) return 'no such name is in scope: `' + it.here + '` is not `' + other + '`, since small and capital letters differ; or declare it';
+    return is_outside ? 'no such name is in scope: declare it, as by `int ' + it.here + '`' : null;
+}
+
+// What the text itself declares a name as, if it does.
+function kind_of(it) {
+    const texts = it.all.map(function (one) { return one.text; }), is = function (kind, k) { return texts[k] === it.here && texts[k - 1] === kind; };
+    if (texts.some(function (one, k) { return is('stack', k); })) return 'stack';
+    return texts.some(function (one, k) { return is('int', k) && texts[k + 1] === '['; }) ? 'array' : null;
+}
+
+function other_kind(it) {
+    const name = '`' + it.here + '`', [called, word] = it.list;
+    if (it.after === '[') return name + ' is not an array, so it has no elements';
+    if (called === 'push' || called === 'pop')
+        return '`' + called + '(x, s)` names a variable first and a stack second, and ' + name + ' is not a ' + (it.before === '(' ? 'number' : 'stack');
+    if (called === 'top' || called === 'empty') return '`' + called + '` wants a stack, and ' + name + ' is not one';
+    if (word === 'call' || word === 'uncall') return name + ' is of another kind (number, array or stack) than the parameter that it would be lent to';
+    if (it.before === '<=>' || it.after === '<=>') return '`<=>` swaps two numbers, and ' + name + ' is not one';
+    const kind = kind_of(it), element = 'an element of an array is `' + it.here + '[0]`';
+    const stack = is_change(it.after) ? 'a stack is changed by `push` and `pop`' : 'the newest number of a stack is `top(' + it.here + ')`';
+    const said = kind === 'stack' ? ['a stack', stack] : kind === 'array' ? ['an array', element] : ['an array or a stack', element + ', and ' + stack];
+    return name + ' is ' + said[0] + ', and a number has to stand here: ' + said[1];
+}
+
+// The place of the bracket that closes the one at a place.
+function closed(all, from) {
+    for (let depth = 0, k = from; k < all.length; k++) {
+        depth += all[k].text === '[' ? 1 : all[k].text === ']' ? -1 : 0;
+        if (depth === 0) return k;
+    }
+    return all.length;
+}
+
+function itself(it) {
+    const name = '`' + it.here + '`', text = function (k) { return it.all[k] && it.all[k].text; };
+    for (let k = it.index - 1; k >= 0; k--) {
+        if (text(k) === '[' && text(k - 1) === it.here && is_change(text(closed(it.all, k) + 1)))
+            return 'the index names ' + name + ', of which an element is changed, so this could not be undone: copy the index into a local first';
+        if (text(k) === '=' && text(k - 1) === it.here && ['local', 'delocal'].includes(text(k - 3)))
+            return 'the value of the local ' + name + ' can\'t name ' + name + ' itself: it has to be known without it';
+        if (is_change(text(k)))
+            return 'the right side names ' + name + ', which is changed, so this could not be undone: use a second variable';
+    }
+    return null;
+}
+
+const NAMES = {40: declared, 41: unknown, 42: other_kind, 43: itself};
+
 // The sentence for a refusal's number, or null. The page shows plain text.
 function meant(number_told, code, at) {
-    const said = number_told === '31' ? expected(code, at) : number_told === '30' ? character(code, at) : null;
+    const of_name = own(NAMES, number_told), it = of_name && look(code, at);
+    const said = number_told === '31' ? expected(code, at) : number_told === '30' ? character(code, at) : it && it.here ? of_name(it) : null;
     return said && said.replace(/`([^`]*)`/g, '\'$1\'');
 }
 

@@ -60,7 +60,7 @@ class Timeline {
         slider.disabled = last === 0;
         if (slider.max !== String(last)) slider.max = last;
         if (this.target === null && at >= 0) slider.value = at;
-        const words = at < 0 ? 'not known' : 'step ' + at + ' of ' + last + ': ' + this.words();
+        const words = at < 0 ? 'not known' : 'cell ' + at + ' of ' + last + ': ' + this.words();
         if (slider.getAttribute('aria-valuetext') === words) return;
         slider.setAttribute('aria-valuetext', words);
         this.step.textContent = words;

@@ -51,30 +51,36 @@ def written(cells):
     return '\n'.join([*lines, *text_lines(texts), ''])
 
 
-def gathered(lines):
-    """The cells of the lines that run together."""
+def gathered(lines, row):
+    """The cells of the lines that run together, of which the first is the given row of the file, each with its own first row."""
     first = next((at for at, line in enumerate(lines) if not is_text(line)), len(lines))
     last = next((at for at in range(len(lines), first, -1) if not is_text(lines[at - 1])), first)
-    code = [('code', code_of(lines[first:last]))] if lines[first:last] else []
-    return [('text', it) for it in texts_of(lines[:first])] + code + [('text', it) for it in texts_of(lines[last:])]
+    code = [('code', code_of(lines[first:last]), row + first)] if lines[first:last] else []
+    return [('text', it, row) for it in texts_of(lines[:first])] + code + [('text', it, row + last) for it in texts_of(lines[last:])]
+
+
+def placed(text):
+    """The cells of a file, each with the row where it begins. A blank cell that runs becomes a comment, since no frontend sends a blank one."""
+    cells, lines, rows = [], [], text.removesuffix('\n').split('\n')
+    for row, line in enumerate(rows, 1):
+        if not line.startswith('%'):
+            lines.append(line)
+            continue
+        is_run, has_text, begin = line.rstrip() == RUN, any(it.strip() for it in lines), row - len(lines)
+        if is_run or has_text:
+            cells += gathered(lines if has_text else ['//'], begin)
+        lines = []
+        if not is_run:
+            if cells and cells[-1][0] == 'commands':
+                _, above, row = cells.pop()
+                line = above + '\n' + line
+            cells.append(('commands', line, row))
+    return cells + (gathered(lines, len(rows) + 1 - len(lines)) if any(it.strip() for it in lines) else [])
 
 
 def read(text):
-    """The cells of a file. A blank cell that runs becomes a comment, since no frontend sends a blank one."""
-    cells, lines = [], []
-    for line in text.removesuffix('\n').split('\n'):
-        if not line.startswith('%'):
-            lines.append(line)
-        elif line.rstrip() == RUN:
-            cells += gathered(lines if any(it.strip() for it in lines) else ['//'])
-            lines = []
-        else:
-            cells += gathered(lines) if any(it.strip() for it in lines) else []
-            lines = []
-            if cells and cells[-1][0] == 'commands':
-                line = cells.pop()[1] + '\n' + line
-            cells.append(('commands', line))
-    return cells + (gathered(lines) if any(it.strip() for it in lines) else [])
+    """The cells of a file."""
+    return [it[:2] for it in placed(text)]
 
 
 def source_of(cell):

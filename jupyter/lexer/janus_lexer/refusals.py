@@ -6,7 +6,8 @@ REFUSALS = {
     31: ('Expected',
         "something else has to stand here, such as 'then' after the test of an 'if'"),
     32: ('NumberTooLarge',
-        'a number is greater than 2147483647: write it as a sum'),
+        'a number is greater than 2147483647, the greatest there is: take a smaller one. Sums beyond it wrap around, and -2147483648 is written as '
+        "'-2147483647 - 1'"),
     33: ('TooNested',
         'more than 64 constructs are nested, or an expression has more than 256 operators: split it with a variable or a procedure'),
     34: ('DelocalName',
@@ -15,7 +16,7 @@ REFUSALS = {
         'there was no memory to read the text; for a cell this is reported as 76'),
     40: ('Declared',
         'the name is already declared, a procedure is defined twice in the cell, or two of its parameters have the same name: choose another, or undo'
-        ' the declaration'),
+        ' the declaration; to run all cells again, go to node 0 first'),
     41: ('Unknown',
         'no such name is in scope: declare it. In a procedure only its parameters and locals are in scope, and a statement after a procedure belongs '
         'to it'),

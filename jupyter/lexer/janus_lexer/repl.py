@@ -23,12 +23,14 @@ try:
     from jupyter_core.paths import jupyter_runtime_dir
     from prompt_toolkit import PromptSession, print_formatted_text
     from prompt_toolkit.completion import Completer, Completion
+    from prompt_toolkit.enums import DEFAULT_BUFFER
+    from prompt_toolkit.filters import has_focus
     from prompt_toolkit.formatted_text import FormattedText
     from prompt_toolkit.key_binding import KeyBindings
     from prompt_toolkit.lexers import PygmentsLexer
 
     from janus_lexer import JanusLexer
-    from janus_lexer.cells import VERSION
+    from janus_lexer.cells import RUN, VERSION, placed
     from janus_lexer.refusals import REFUSALS
     from janus_lexer.slips import meant
     from janus_lexer.tree import Tree
@@ -38,10 +40,15 @@ except ImportError as missing:
 HELP = '''%undo [K]   take K cells back, the newest first      %goto N   go to node N, 0 for the start
 %redo [K]   redo K cells along the ways last gone    %show     the values here
 %tree       all cells that ran, and where we are     %help     this
-Alt-Enter begins a new line of the same cell. Ctrl-C stops the cell that runs, which is then taken back; Ctrl-D leaves.'''
+%load FILE  run the cells of a file for janus-cells
+A text that is not complete goes on; a blank line ends it. Alt-Enter begins a new line in any case.
+Ctrl-C empties the line, or stops the cell that runs, which is then taken back; Ctrl-D leaves.'''
+RUNS = f'{RUN} ends a cell in a file for janus-cells; here Enter runs it, and %load FILE runs such a file'
 COMMAND = re.compile(r'%(undo|redo|goto|show|tree|help)(?:\s+(\d{1,10}))?\s*$')
+LOAD = re.compile(r'%load\s+(\S.*)')
 REFUSED = re.compile(r'refused (\d+) \w+(?: at (\d+)\.\.(\d+))?$')
 FAULT = re.compile(r'fault (\d+) \w+ after \d+$')
+MOST_INPUTS = 500               # so many cells of the kernel's history are looked at by a console that joins
 MOVES = ('undo', 'redo', 'goto')
 
 
@@ -52,8 +59,9 @@ class Ended(Exception):
 class Desk:
     """The kernel behind one thread, so that no call meets the event loop of the prompt. The control socket is the main thread's."""
     def __init__(self, file):
-        self.manager, self.comm = None, uuid.uuid4().hex
+        self.manager, self.comm, self.is_stopping, self.others = None, uuid.uuid4().hex, False, []
         self.thread = ThreadPoolExecutor(max_workers=1)
+        signal.signal(signal.SIGINT, self.stop)
         if file is None:
             os.makedirs(jupyter_runtime_dir(), mode=0o700, exist_ok=True)
             file = os.path.join(jupyter_runtime_dir(), f'kernel-{os.getpid()}.json')
@@ -77,14 +85,37 @@ class Desk:
             try:
                 return future.result(.2)
             except NotYet:
-                continue
-            except KeyboardInterrupt:
+                pass
+            if self.is_stopping:
+                self.is_stopping = False
                 self.client.control_channel.send(self.client.session.msg('interrupt_request', {}))
+
+    def stop(self, *_):
+        """Hears Ctrl-C, but at the prompt, where it is a key."""
+        self.is_stopping = True
 
     def send(self, kind, content):
         message = self.client.session.msg(kind, content)
         self.client.shell_channel.send(message)
         return message['header']['msg_id']
+
+    def note(self, message):
+        """Keeps a move of another frontend."""
+        data = message['content'].get('data', {})
+        is_other = message['parent_header'].get('session') != self.client.session.session and message['msg_type'] == 'comm_msg'
+        if is_other and data.get('op') in MOVES and data.get('undone', 0) + data.get('redone', 0) > 0:
+            self.others.append(data)
+
+    def listen(self):
+        """The moves of other frontends that were heard, up to now."""
+        until = time.monotonic() + 1
+        while time.monotonic() < until:
+            try:
+                self.note(self.client.get_iopub_msg(timeout=0))
+            except Empty:
+                break
+        found, self.others = self.others, []
+        return found
 
     def heard(self, asked, wanted):
         """The broadcasts on a request, up to its idle status."""
@@ -95,6 +126,7 @@ class Desk:
                 if self.manager and not self.manager.is_alive() or not self.client.hb_channel.is_beating():
                     raise Ended from None
                 continue
+            self.note(message)
             if message['parent_header'].get('msg_id') != asked:
                 continue
             if message['msg_type'] in wanted:
@@ -121,6 +153,22 @@ class Desk:
             if message['parent_header'].get('msg_id') == asked:
                 return message['content']
         return {}
+
+    def texts(self):
+        """The state, and the texts of its nodes from the kernel's history; none where they can't be laid to the nodes.
+
+        Cells that failed are in the history too. Those of which the text is no cell are left out; where there are others, or where cells were
+        silent, there are not as many texts as nodes.
+        """
+        state = self.ask({'op': 'state'})
+        inputs = self.reply('history_request', {'hist_access_type': 'tail', 'output': False, 'raw': True, 'n': MOST_INPUTS}).get('history', [])
+        texts = [text for _, _, text in inputs]
+        if state['busy'] or [count for _, count, _ in inputs] != list(range(1, len(inputs) + 1)) or not state['nodes'] <= len(inputs) < MOST_INPUTS:
+            return state, []
+        if len(texts) > state['nodes']:
+            texts = [it for it in texts if self.reply('is_complete_request', {'code': it}).get('status') == 'complete']
+        is_same = all(now == state[name] for name, now in self.ask({'op': 'state'}).items())
+        return state, texts if is_same and len(texts) == state['nodes'] else []
 
     def close(self):
         self.wait(self.send, 'comm_close', {'comm_id': self.comm, 'data': {}})
@@ -152,8 +200,8 @@ def place(code, octet):
     return line + 1, len(before) - before.rfind('\n'), code.split('\n')[line]
 
 
-def explain(line, code):
-    """A refusal or a fault in words, and the place under its line."""
+def explain(line, code, above=0):
+    """A refusal or a fault in words, and the place under its line; so many lines of a file stand above the text."""
     say(('ansired', line))
     found = REFUSED.match(line) or FAULT.match(line)
     if not found or int(found[1]) not in REFUSALS:
@@ -162,17 +210,27 @@ def explain(line, code):
     if found.re is REFUSED and found[2] is not None:
         row, column, text = place(code, int(found[2]))
         at = len(code.encode()[:int(found[2])].decode(errors='ignore'))
-        say(f'line {row}, column {column}: {meant(int(found[1]), code, at) or advice}')
+        say(f'line {above + row}, column {column}: {meant(int(found[1]), code, at) or advice}')
         say('  ' + text)
         say(('ansired', '  ' + re.sub(r'[^\t]', ' ', text[:column - 1]) + '^'))
     else:
         say(advice)
 
 
+def way(answer):
+    """A move that was done, in the words of the page."""
+    undone, redone = (f'{number} cell{"" if number == 1 else "s"}' for number in (answer['undone'], answer['redone']))
+    if answer['op'] == 'goto':
+        return f'went to node {answer["node"]}, {undone} up and {redone} down'
+    return ('undid ' + undone if answer['op'] == 'undo' else 'redid ' + redone) + f'; the kernel stands at node {answer["node"]}'
+
+
 class Console:
     def __init__(self, desk):
         self.desk, self.tree, self.count = desk, Tree(), 1
-        self.tree.see(desk.wait(desk.ask, {'op': 'state'}))
+        state, texts = desk.wait(desk.texts)
+        self.tree.see(state)
+        self.tree.told(texts)
         self.session = PromptSession(message=lambda: [('ansigreen', f'[{self.count}] ')], lexer=PygmentsLexer(JanusLexer), multiline=True,
                                      completer=Names(desk), complete_while_typing=False, key_bindings=self.keys(), prompt_continuation='... ')
 
@@ -186,6 +244,9 @@ class Console:
                 buffer.validate_and_handle()
             else:
                 buffer.insert_text('\n' + indent)
+        @keys.add('c-c', filter=has_focus(DEFAULT_BUFFER))
+        def _(event):                                                     # no KeyboardInterrupt, which would come up again at a later prompt
+            event.current_buffer.reset()
         @keys.add('escape', 'enter')
         @keys.add('escape', 'c-j')                                        # as it comes where it was typed before the prompt stood
         def _(event):
@@ -193,25 +254,34 @@ class Console:
         return keys
 
     def goes_on(self, document):
-        """How far the next line is indented, or None where the text is run. A procedure goes on up to a blank line."""
-        text = document.text
+        """How far the next line is indented, or None where the text is run: at a blank line in any case. A procedure goes on up to one."""
+        text, line = document.text, document.text.split('\n')[-1]
         if text.lstrip().startswith('%') or not text.strip():
             return None
         if document.text_after_cursor.strip():
             return ''
+        if line.strip() in ('', RUN):
+            return None
         found = self.desk.wait(self.desk.reply, 'is_complete_request', {'code': text})
         if found.get('status') == 'incomplete':
             return found.get('indent', '')
-        is_ended = text.rstrip(' ').endswith('\n') or not re.search(r'\bprocedure\b', text)
-        return None if is_ended else '    '
+        return '    ' if re.search(r'\bprocedure\b', text) else None
 
     def line(self, text):
         found = COMMAND.match(text.strip())
         if found:
             return self.command(found[1], found[2])
+        found = LOAD.match(text.strip())
+        if found:
+            return self.load(found[1])
+        if text.split('\n')[-1].strip() == RUN:
+            say(RUNS)
+            text = text.rstrip()[:-len(RUN)]
+        if not text.strip():
+            return None
         if text.lstrip().startswith('%'):
             return print(HELP)
-        return self.cell(text)
+        return self.cell(text.rstrip())
 
     def command(self, name, number):
         if name == 'help' or name == 'goto' and number is None:
@@ -229,27 +299,79 @@ class Console:
         say(('bold', f'at node {state["node"]}' + (', and a cell runs' if state['busy'] else '')))
         return [say(it) for it in state['world']]
 
-    def cell(self, text):
-        before = self.desk.wait(self.desk.ask, {'op': 'state'})
+    def cell(self, text, above=0):
+        """Runs a cell. Answers the error's line, or None, and the node where the kernel is."""
+        before, failed = self.desk.wait(self.desk.ask, {'op': 'state'}), None
         self.tree.see(before)
         for kind, content in self.desk.wait(self.desk.run, text):
             if kind == 'execute_input':
                 self.count = content['execution_count'] + 1
             elif kind == 'error':
-                explain(content['evalue'], text)
+                failed = content['evalue']
+                explain(failed, text, above)
             else:
                 say(content['data']['text/plain'])
         self.tree.ran(before, self.desk.wait(self.desk.ask, {'op': 'state'}), text)
+        return failed, self.tree.position
+
+    def load(self, path):
+        """Runs a file of cells, and says which were refused or failed. Ctrl-C leaves it."""
+        try:
+            with open(os.path.expanduser(path), encoding='utf-8') as file:
+                parts = placed(file.read())
+        except (OSError, ValueError) as error:
+            return say(('ansired', f'{path}: {getattr(error, "strerror", None) or "no text"}'))
+        nodes, ran, bad = [self.desk.wait(self.desk.ask, {'op': 'state'})['node']], 0, []
+        for kind, source, row in parts:
+            if kind == 'commands':
+                for line in source.split('\n'):
+                    self.loaded_command(line.strip(), nodes)
+            if kind != 'code':
+                continue
+            ran, blank = ran + 1, len(source) - len(source.lstrip())
+            say(('ansigreen', f'[{self.count}] '), source.strip().split('\n')[0])
+            failed, node = self.cell(source, row - 1)
+            if failed is None:
+                nodes.append(node)
+                continue
+            how = failed.split()[0]
+            bad.append(f'cell {ran} (line {row + source[:blank].count(chr(10))}) ' + {'fault': 'failed'}.get(how, f'was {how}'))
+            if how == 'interrupted':
+                bad[-1] += ': what follows did not run'
+                break
+        say(('bold', f'{ran} cell{"" if ran == 1 else "s"} of {path}, at node {self.tree.position}'))
+        return [say(('ansired', it)) for it in bad]
+
+    def loaded_command(self, line, nodes):
+        """Does a command of a file, whose nodes are numbered from where its first cell began."""
+        found = COMMAND.match(line)
+        if not found:
+            return say(('ansired', f'{line}: this is for janus-cells, and is passed over'))
+        number = found[2]
+        if found[1] == 'goto' and number is not None:
+            if int(number) >= len(nodes):
+                return explain('refused 71 NoNode', '')
+            number = nodes[int(number)]
+        return self.command(found[1], number)
+
+    def tell(self):
+        """Says what other frontends have moved; the last four."""
+        found = self.desk.wait(self.desk.listen)
+        if len(found) > 4:
+            say(('ansiyellow', f'other frontends made {len(found)} moves; the last four:'))
+        for it in found[-4:]:
+            say(('ansiyellow', 'another frontend ' + way(it)))
 
     def serve(self):
         say(('bold', 'Janus'), ': cells run, and %undo takes them back; %help names the commands. Other frontends: --existing ' + self.desk.file)
         while True:
+            self.tell()
             try:
-                text = self.session.prompt()
-            except KeyboardInterrupt:
-                continue
+                text = self.session.prompt(handle_sigint=False)
             except EOFError:
                 return
+            self.desk.is_stopping = False
+            self.tell()
             if text.strip():
                 self.line(text)
 
@@ -264,7 +386,6 @@ def main(words):
     if not sys.stdin.isatty():
         print('janus-repl wants a terminal; janus-cells reads a stream', file=sys.stderr)
         return 2
-    signal.signal(signal.SIGINT, signal.default_int_handler)
     try:
         desk = Desk(words[1] if words else None)
     except Exception as error:                                            # of another kind in each version of jupyter_client
@@ -276,6 +397,7 @@ def main(words):
     except Ended:
         print('the kernel has ended', file=sys.stderr)
         status = 3
+    signal.signal(signal.SIGINT, signal.SIG_IGN)
     desk.close()
     return status
 

@@ -1,7 +1,7 @@
 #!/usr/bin/python3
 """Saves the session of a kernel of Janus that runs, as a file of cells whose run by janus-cells gives the same tree, worlds and position.
 
-usage: janus-save-session [--existing FILE] [OUT]        (a kernel's connection file, else the newest; writes on standard output without OUT)
+usage: janus-save-session [--existing FILE] [OUT]        (FILE: a kernel's connection file, else the newest; OUT: the script, else standard output)
        janus-save-session --check [--existing FILE]      (how much of its limits the kernel has used; status 1 above nine tenths)
 
 It walks the kernel's tree, runs the cells once more in a kernel of its own beside it, compares each node, and puts the position back.
@@ -26,7 +26,7 @@ try:
     from jupyter_client import BlockingKernelClient, KernelManager
     from jupyter_core.paths import jupyter_runtime_dir
 
-    from janus_lexer.cells import RUN, VERSION, code_lines
+    from janus_lexer.cells import PART, RUN, VERSION, code_lines, text_lines
 except ImportError as missing:
     sys.exit(f"janus-save-session: {missing}; Debian's python3-jupyter-client brings it")
 
@@ -36,6 +36,7 @@ TOO_FAR, MINUTES_FULL = 73, 77
 BATCH = 100                     # inputs that are asked for at once, since a reply has at most 16 MiB
 PATIENCE = 3                    # seconds that a cell has in the second kernel before its time in the first is taken
 SILENCE = 10                    # seconds without a beat of its heart, after which a kernel is taken for ended
+FAILED = 'A cell that failed or was interrupted:'
 DEFINED = re.compile(r'\bprocedure\s+([A-Za-z][A-Za-z0-9_]*)')
 
 
@@ -344,6 +345,7 @@ class Twin:
         self.inputs, self.walk, self.next = inputs, walk, 0
         self.defined = [set(DEFINED.findall(text)) for text in inputs]
         self.text, self.node, self.at = {}, {0: 0}, 0
+        self.failed = {}                # texts that became no node, by the node that came next
         os.makedirs(jupyter_runtime_dir(), mode=0o700, exist_ok=True)
         file = os.path.join(jupyter_runtime_dir(), f'kernel-save-{os.getpid()}.json')
         try:
@@ -362,6 +364,7 @@ class Twin:
             if self.fits(node, parent, world, text, names):
                 self.text[node] = text
                 return
+            self.failed.setdefault(node, []).append(text)
         raise Trouble(f'no input of the history leads to node {node}: a cell was silent or not to be stored')
 
     def fits(self, node, parent, world, text, names):
@@ -382,8 +385,21 @@ class Twin:
         return False
 
 
-def script(shape, texts, position):
-    """The file of cells that makes the same nodes in the same order, with the same favourites, and ends at the position."""
+def printable(text):
+    """A text for a comment, which nothing in it may end."""
+    return '\n'.join(''.join(it if it.isprintable() or it == '\t' else ' ' for it in line) for line in text.split('\n'))
+
+
+def comments(texts):
+    """The lines that tell of cells which failed."""
+    return text_lines([FAILED + '\n\n' + '\n'.join('    ' + line for line in printable(text).split('\n')) for text in texts])
+
+
+def script(shape, texts, position, failed):
+    """The file of cells that makes the same nodes in the same order, with the same favourites, and ends at the position.
+
+    A failed cell is a comment in the text of the next node, or of the last, since a comment by itself would be a cell.
+    """
     made = Shape(len(texts))
     made.parent, made.depth, made.favourite = shape.parent, shape.depth, shape.favourite
     lines = [f'//| {len(texts)} nodes of a kernel of Janus, at node {position}. Run: janus-cells --steps 1000000000000 < THIS_FILE']
@@ -394,8 +410,10 @@ def script(shape, texts, position):
         elif node > 1:
             lines.append(RUN)
         made.ran(node)
-        text = texts[node]
+        text, above = texts[node], comments(failed.get(node, []))
+        lines += [PART] * (node == 1 and above != []) + above
         lines += code_lines(text) if text.strip(' \t\r\n') else ['//']
+    lines += comments(failed.get(len(texts) + 1, []))
     for node in made.ways_back(position):
         lines.append(f'%goto {node}')
     return '\n'.join([*lines, '']).encode()
@@ -411,6 +429,16 @@ def newest():
         except (OSError, ValueError, AttributeError):
             continue
     raise Trouble(f'no kernel of Janus in {jupyter_runtime_dir()}: name its connection file by --existing', 3)
+
+
+def is_connection_file(name):
+    if not os.path.isfile(name):
+        return False
+    try:
+        with open(name, encoding='utf-8') as opened:
+            return 'shell_port' in json.load(opened)
+    except (OSError, ValueError, TypeError):
+        return False
 
 
 def check(kernel):
@@ -460,7 +488,11 @@ def walked(kernel):
         print(f'janus-save-session: the kernel has no minutes left to move: compared at node {walk.begun["node"]} alone', file=sys.stderr)
     elif not walk.is_as_before():
         raise Trouble(f'another frontend moved or ran a cell meanwhile; the kernel is at node {kernel.state()["node"]}, and nothing was written')
-    return script(walk.shape, twin.text, walk.begun['node']), walk
+    twin.failed[walk.count + 1] = inputs[twin.next:]
+    made = script(walk.shape, twin.text, walk.begun['node'], twin.failed)
+    if len(made) > MOST_OCTETS:
+        made = script(walk.shape, twin.text, walk.begun['node'], {})
+    return made, walk
 
 
 def save(kernel, out):
@@ -513,6 +545,10 @@ def main(words):
         return usage()
     if file is not None and not os.path.isfile(file):
         print('janus-save-session: no connection file ' + file, file=sys.stderr)
+        return 2
+    if words and is_connection_file(words[0]):
+        said = f'{words[0]} is a connection file, and is left as it is: name a kernel by --existing {words[0]}, and after it a file for the script'
+        print('janus-save-session: ' + said, file=sys.stderr)
         return 2
     signal.signal(signal.SIGTERM, signal.default_int_handler)
     kernel = None

@@ -1,4 +1,5 @@
-"""What is probably meant where a text is refused with 30 or 31, as page/slips.js says it in the notebook: the same rules, and the same texts test both."""
+"""What is probably meant where a text is refused with 30 or 31, and which of its causes 40 to 43 has, as page/slips.js says it in the notebook: the same
+rules, and the same texts test both."""
 import re
 from types import SimpleNamespace
 
@@ -7,7 +8,9 @@ KEYWORDS = set('call delocal do else empty fi from if int local loop main nil po
 OPENS = {'fi': 'if', 'until': 'from', 'delocal': 'local', ')': '(', ']': '['}
 CLOSER = {'if': '`fi` with its second test', 'from': '`until` with its test', 'local': '`delocal`', '(': '`)`', '[': '`]`'}
 CHANGES = ('+=', '-=', '^=')
-FOREIGN, CHARACTERS = {}, {}
+FOREIGN, CHARACTERS, CALLED, COLONS = {}, {}, {}, {}
+USES = {'push': '`push(x, s)` moves the number of the variable `x` onto the stack `s`', 'top': '`top(s)` is the newest number of the stack `s`',
+        'pop': '`pop(x, s)` moves the newest number of the stack `s` into the variable `x`', 'empty': '`empty(s)` is 1 where the stack `s` is empty'}
 
 
 def told(table, sentence, *words):
@@ -17,7 +20,9 @@ def told(table, sentence, *words):
 
 told(FOREIGN, 'a loop is `from .. loop .. until ..`', 'while', 'for', 'repeat')
 told(FOREIGN, 'a cell shows the names that it mentions', 'print', 'printf', 'show', 'write')
-told(FOREIGN, 'a cell reads nothing: write the number into it', 'read')
+told(FOREIGN, 'a cell reads nothing: write the number into it', 'read', 'input')
+told(FOREIGN, 'words such as `then` and `fi` enclose statements, so leave it out', 'begin')
+told(FOREIGN, 'nothing is brought in from elsewhere, and the procedures of earlier cells are there', 'import', 'include')
 told(FOREIGN, 'here type %undo', 'undo')
 told(FOREIGN, 'here type %redo', 'redo')
 told(FOREIGN, 'a procedure gives back what it changes, its parameters', 'return')
@@ -39,7 +44,6 @@ told(FOREIGN, 'words of the language are written in small letters', 'IF', 'If', 
 told(CHARACTERS, 'there are no texts, only numbers', '"', "'", '`', '\u201c', '\u201d', '\u2018', '\u2019')
 told(CHARACTERS, 'statements follow one another without `;`', ';')
 told(CHARACTERS, 'there is no `?`: write an `if`', '?')
-told(CHARACTERS, 'there is no `:`: a variable is changed by `+=`, `-=` or `^=`', ':')
 told(CHARACTERS, 'there are no braces: words such as `fi`, `until` and `delocal` close what is open', '{')
 told(CHARACTERS, 'there are no braces: words such as `fi` close what is open', '}')
 told(CHARACTERS, 'a comment begins with `//`', '#')
@@ -58,10 +62,26 @@ told(CHARACTERS, 'write `!=`', '\u2260')
 told(CHARACTERS, 'write `<=`', '\u2264')
 told(CHARACTERS, 'write `>=`', '\u2265')
 told(CHARACTERS, 'there is no assignment that forgets: write `+=`, `-=` or `^=`', '\u2190')
+told(CALLED, 'two numbers are swapped by `x <=> y`; a procedure of your own is called by `call swap(..)`', 'swap')
+told(CALLED, 'nothing tells a length: an array has that of its declaration, and `empty(s)` is 1 where the stack `s` is empty', 'len', 'length', 'size')
+told(COLONS, 'after the test of an `if` stands `then`, and no `:`', 'if', 'elif')
+told(COLONS, 'a loop is `from .. loop .. until ..`', 'while', 'for', 'from')
+told(COLONS, 'a procedure begins with `procedure`, and no `:` follows its head', 'def', 'function', 'proc')
+told(COLONS, 'no `:` follows the head of a procedure', 'procedure')
+for word in 'else', 'then', 'do', 'loop':
+    told(COLONS, f'no `:` follows `{word}`', word)
 
 
 def is_name(text):
     return bool(re.match('[A-Za-z]', text)) and text not in KEYWORDS
+
+
+def is_number(text):
+    return bool(re.fullmatch('[0-9]+', text))
+
+
+def wants_value(text):
+    return text in CHANGES or bool(re.fullmatch(r'&&|\|\||!=|<=|>=|[-+*/%^&|<>=(\[]|if|fi|from|until', text))
 
 
 def open_before(tokens):
@@ -92,10 +112,10 @@ def look(code, at):
 
 
 def foreign(it):
-    if it.here + it.after in ('/*', '(*') or it.index == 0 and it.here + it.after == '--':
+    if it.here + it.after in ('/*', '(*') or it.before + it.here == '/*' or it.index == 0 and it.here + it.after == '--':
         return 'a comment begins with `//`'
     for k in (0, -1):
-        is_used = it.text(k - 1) in ('call', 'uncall', 'procedure', 'int', 'stack', '(', ',', '[') or it.text(k + 1) in CHANGES
+        is_used = it.text(k - 1) in ('call', 'uncall', 'procedure', 'int', 'stack', '(', ',', '[') or it.text(k + 1) in (*CHANGES, '=')
         if it.text(k) in FOREIGN and not is_used:
             return f'`{it.text(k)}` is not a word of Janus: {FOREIGN[it.text(k)]}'
     return None
@@ -105,7 +125,9 @@ def number(it):
     hexadecimal = re.fullmatch('x([0-9A-Fa-f]+)', it.before)
     if hexadecimal and it.earlier == '0':
         return f'there are no hexadecimal numbers: `0{it.before}` is {int(hexadecimal[1], 16)}'
-    return 'a name begins with a letter' if it.here.isdecimal() and is_name(it.after) and it.before in ('int', 'stack') else None
+    if it.here == ',' and is_number(it.before) and is_number(it.after):
+        return 'an array has one index' if it.inner == '[' else f'a number is written without a comma: `{it.before}{it.after}`'
+    return 'a name begins with a letter' if is_number(it.here) and is_name(it.after) and it.before in ('int', 'stack') else None
 
 
 def equals(it):
@@ -115,7 +137,9 @@ def equals(it):
         return 'equality is one `=`'
     if it.before in ('<', '>'):
         return f'write `{it.before}=` without a space'
-    if is_name(it.before) and it.earlier in ('int', 'stack'):
+    if is_name(it.before) and it.earlier == 'stack':
+        return f'a stack starts empty: write `stack {it.before}`'
+    if is_name(it.before) and it.earlier == 'int':
         return f'a number starts at 0: write `int {it.before}`, and then `{it.before} += ..`'
     if it.before == ']' and (it.text(-5) == 'int' and it.text(-3) == '[' or it.text(-4) == 'int'):
         return 'the elements of an array start at 0: give them their values by `+=`'
@@ -129,7 +153,9 @@ def operator(it):
     if it.after == '=' and it.here in ('-', '*', '/', '%', '&', '|', '+', '^', '&&', '||'):
         return f'write `{it.here}=` without a space' if it.here in ('-', '+', '^') else 'only `+=`, `-=` and `^=` can be taken back'
     if it.here in ('+', '-') and it.after == it.here:
-        return f'write `{it.before} {it.here}= 1`'
+        return f'write `{it.before if is_name(it.before) else it.text(2) if is_name(it.text(2)) else "x"} {it.here}= 1`'
+    if it.here == '<' and it.after == '-' and is_name(it.before):
+        return CHARACTERS['\u2190']
     if it.here in ('<', '>') and it.before == it.here:
         return 'there are no shifts: multiply or divide by a power of two'
     if it.here == it.before == '*':
@@ -143,11 +169,21 @@ def operator(it):
     return None
 
 
+def stacks(it):
+    if it.here in ('push', 'pop') and wants_value(it.before):
+        return f'after `{it.before}` a value has to stand, and `{it.here}` is a statement: {USES[it.here]}'
+    if it.before in USES and it.here != '(':
+        return 'parentheses are missing: ' + USES[it.before]
+    return 'two names have to stand here: ' + USES[it.called] if it.here == ')' and it.called in ('push', 'pop') else None
+
+
 def parameters(it):
     if it.word == 'procedure' and it.before in ('(', ',') and is_name(it.here):
         return f'each parameter has its kind: `int {it.here}`, `int {it.here}[]` or `stack {it.here}`'
     if it.before == '[' and it.text(-3) == 'int' and it.text(-4) in ('(', ','):
         return f'a parameter has no length: `int {it.earlier}[]`'
+    if it.here in ('call', 'uncall') and wants_value(it.before):
+        return f'after `{it.before}` a value has to stand, and a procedure gives back none: `{it.here}` changes the variables that are lent to it'
     if it.called in ('push', 'pop') or it.word in ('call', 'uncall'):
         return 'only names of variables can stand here: put the value into a variable or a local first'
     if it.called in ('empty', 'top'):
@@ -156,10 +192,21 @@ def parameters(it):
         return f'after `{it.before}` the name of a procedure has to stand'
     if it.earlier in ('call', 'uncall', 'procedure') and is_name(it.before) and it.here != '(':
         return f'write `{it.earlier} {it.before}(..)`, with the names in parentheses'
-    return f'a procedure is called by `call {it.before}(..)`' if it.here == '(' and is_name(it.before) else None
+    if it.here != '(' or not is_name(it.before):
+        return None
+    is_value = wants_value(it.earlier)
+    called = f'a procedure gives back no value: `call {it.before}(..)` changes the variables that are lent to it' if is_value else ''
+    return CALLED.get(it.before) or called or f'a procedure is called by `call {it.before}(..)`'
 
 
 def declaration(it):
+    if (it.earlier, it.before, it.here) == ('main', '(', 'int'):
+        return '`main` has no parameters: its declarations follow `main()`'
+    is_sized = it.here == '[' and is_number(it.after) and it.text(2) == ']' and is_name(it.text(3))
+    if it.here == '[' and it.before == 'int':
+        return f'the length stands after the name: `int {it.text(3) + "[" + it.after if is_sized else "a[10"}]`'
+    if it.here == '[' and it.before == 'stack':
+        return f'a stack has no length: write `stack {it.text(3) if is_sized else "s"}`'
     if it.here == ',' and is_name(it.before) and it.earlier == 'int':
         return f'each name has its own kind: `int {it.before} int {it.after or ".."}`'
     if it.here in KEYWORDS and it.before in ('int', 'stack', 'procedure', 'call', 'uncall'):
@@ -197,6 +244,8 @@ def missing(it):
         return '`delocal` closes a `local`, and none is open here'
     if it.before in ('then', 'else', 'loop', 'do'):
         return f'after `{it.before}` a statement has to stand; `skip` is one that does nothing'
+    if it.here == 'to' and it.inner == 'from':
+        return 'a loop ends by a test, as in `from i = 0 loop i += 1 until i = 10`'
     if it.inner and (not it.here or (it.here in KEYWORDS or starts) and it.inner in ('(', '[')):
         return f'the `{it.inner}` of line {it.line} has no {CLOSER[it.inner]}'
     return None
@@ -211,12 +260,111 @@ def statement(it):
         return f'a name alone is no statement: `{it.before} += ..` changes it, and a cell shows what it mentions'
     if it.before in CHANGES or re.fullmatch(r'&&|\|\||!=|<=|>=|[-+*/%^&|<>=]', it.before):
         return f'after `{it.before}` a value has to stand'
+    if it.before == '<=>':
+        return 'after `<=>` the name of a variable has to stand'
     if is_name(it.before):
         return f'after `{it.before}` an operator is missing: a statement goes on with `+=`, `-=`, `^=` or `<=>`'
     return 'a value alone is no statement: a variable is changed by `+=`, `-=` or `^=`' if re.match('[0-9(]', it.here) else None
 
 
-RULES = (foreign, number, equals, operator, parameters, declaration, missing, statement)
+RULES = (foreign, number, equals, operator, stacks, parameters, declaration, missing, statement)
+
+
+def character(code, at):
+    """What is meant by a character that means nothing."""
+    one, last = code[at:at + 1], code[at - 1:at]
+    names = [it for it in TOKEN.findall(code[:at]) if not it.startswith('//')]
+    if one == ':':
+        return colon(code, at)
+    if one == '.' and names and is_name(names[-1]):
+        return 'there is no `.` after a name: a stack is used by `push(x, s)`, `pop(x, s)`, `top(s)` and `empty(s)`'
+    if one == '_' and is_number(last):
+        return 'a number has digits alone: leave the `_` out'
+    return CHARACTERS.get(one) or ('names have the letters a to z and A to Z, digits and `_`' if one.isalpha() else None)
+
+
+def colon(code, at):
+    head = next((it for it in reversed(TOKEN.findall(code[code.rfind('\n', 0, at) + 1:at])) if it in COLONS), '')
+    if code[at + 1:at + 2] == '=':
+        return 'there is no `:=`: a variable is changed by `+=`, `-=` or `^=`'
+    return COLONS.get(head, 'there is no `:`: leave it out')
+
+
+def declared(it):
+    """Of 40 to 43, which name a name, the cause that the text shows."""
+    begun = [one[0] for one in it.tokens[:max(it.index - 1, 0)]]
+    if it.before == 'procedure':
+        return f'the procedure `{it.here}` is defined twice in this cell: rename one of them, or leave it out'
+    if it.word == 'procedure':
+        return f'two parameters are named `{it.here}`: rename one of them'
+    here = begun[len(begun) - begun[::-1].index('procedure'):] if 'procedure' in begun else begun
+    if any(one == it.here and kind in ('int', 'stack') for kind, one in zip(here, here[1:])):
+        return f'`{it.here}` is declared twice in this cell: leave one of them out'
+    return f'`{it.here}` is already declared: choose another name, or undo the cell that declared it; to run all cells again, go to node 0 first'
+
+
+def unknown(it):
+    small, is_outside = it.here.lower(), all(one[0] != 'procedure' for one in it.tokens[:it.index])
+    other = next((one[0] for one in it.tokens if one[0] != it.here and one[0].lower() == small), small)
+    if small in ('true', 'false'):
+        return f'`{it.here}` is not a word of Janus: {FOREIGN[small]}'
+    if it.before in ('call', 'uncall'):
+        return f'there is no procedure `{it.here}`: define it, in this cell or in an earlier one'
+    if other != it.here:
+        return f'no such name is in scope: `{it.here}` is not `{other}`, since small and capital letters differ; or declare it'
+    return f'no such name is in scope: declare it, as by `int {it.here}`' if is_outside else None
+
+
+def kind_of(it):
+    """What the text itself declares a name as, if it does."""
+    texts = [one[0] for one in it.tokens]
+    if ('stack', it.here) in zip(texts, texts[1:]):
+        return 'stack'
+    return 'array' if ('int', it.here, '[') in zip(texts, texts[1:], texts[2:]) else None
+
+
+def other_kind(it):
+    if it.after == '[':
+        return f'`{it.here}` is not an array, so it has no elements'
+    if it.called in ('push', 'pop'):
+        wanted = 'number' if it.before == '(' else 'stack'
+        return f'`{it.called}(x, s)` names a variable first and a stack second, and `{it.here}` is not a {wanted}'
+    if it.called in ('top', 'empty'):
+        return f'`{it.called}` wants a stack, and `{it.here}` is not one'
+    if it.word in ('call', 'uncall'):
+        return f'`{it.here}` is of another kind (number, array or stack) than the parameter that it would be lent to'
+    if '<=>' in (it.before, it.after):
+        return f'`<=>` swaps two numbers, and `{it.here}` is not one'
+    kind, element = kind_of(it), f'an element of an array is `{it.here}[0]`'
+    stack = 'a stack is changed by `push` and `pop`' if it.after in CHANGES else f'the newest number of a stack is `top({it.here})`'
+    said = {'stack': ('a stack', stack), 'array': ('an array', element), None: ('an array or a stack', f'{element}, and {stack}')}[kind]
+    return f'`{it.here}` is {said[0]}, and a number has to stand here: {said[1]}'
+
+
+def closed(tokens, begin):
+    """The place of the bracket that closes the one at a place."""
+    depth = 0
+    for k in range(begin, len(tokens)):
+        depth += {'[': 1, ']': -1}.get(tokens[k][0], 0)
+        if depth == 0:
+            return k
+    return len(tokens)
+
+
+def itself(it):
+    def text(k):
+        return it.tokens[k][0] if 0 <= k < len(it.tokens) else ''
+    for k in range(it.index - 1, -1, -1):
+        if text(k) == '[' and text(k - 1) == it.here and text(closed(it.tokens, k) + 1) in CHANGES:
+            return f'the index names `{it.here}`, of which an element is changed, so this could not be undone: copy the index into a local first'
+        if text(k) == '=' and text(k - 1) == it.here and text(k - 3) in ('local', 'delocal'):
+            return f"the value of the local `{it.here}` can't name `{it.here}` itself: it has to be known without it"
+        if text(k) in CHANGES:
+            return f'the right side names `{it.here}`, which is changed, so this could not be undone: use a second variable'
+    return None
+
+
+NAMES = {40: declared, 41: unknown, 42: other_kind, 43: itself}
 
 
 def meant(refused, code, at):
@@ -226,6 +374,8 @@ def meant(refused, code, at):
         it = look(code, at)
         said = next((words for words in (rule(it) for rule in RULES) if words), None)
     elif refused == 30:
-        one = code[at:at + 1]
-        said = CHARACTERS.get(one) or ('names have the letters a to z and A to Z, digits and `_`' if one.isalpha() else None)
+        said = character(code, at)
+    elif refused in NAMES:
+        it = look(code, at)
+        said = NAMES[refused](it) if it.here else None
     return said and re.sub('`([^`]*)`', r"'\1'", said)

@@ -1,6 +1,10 @@
 """The tree of cells as a console knows it: from what it ran itself, and from what the kernel's states tell of the rest."""
 
 
+def first_line(text):
+    return next((it.strip() for it in text.split('\n') if it.strip()), '')
+
+
 class Tree:
     """parent[n] is the node above node n, or None where that isn't known."""
     def __init__(self):
@@ -12,9 +16,16 @@ class Tree:
         while len(self.parent) <= state['nodes']:
             self.parent.append(None)
             self.text.append('')
+        if state['nodes']:                                                # what stands above a node has a smaller number
+            self.parent[1] = 0
         if state['depth'] + state['redo'] == state['nodes'] and state['depth'] == state['node']:
             for node in range(1, state['nodes'] + 1):
                 self.parent[node] = node - 1
+
+    def told(self, texts):
+        """Takes the texts of all nodes, as they are known from the kernel."""
+        for node, text in enumerate(texts, 1):
+            self.text[node] = self.text[node] or first_line(text)
 
     def ran(self, before, after, text):
         """Takes what came of a cell: where nothing else ran meanwhile, its node stands under the place where it began."""
@@ -22,7 +33,7 @@ class Tree:
         if after['nodes'] == before['nodes'] + 1 and after['node'] == after['nodes']:
             if after['depth'] == before['depth'] + 1:
                 self.parent[after['node']] = before['node']
-            self.text[after['node']] = next((it.strip() for it in text.split('\n') if it.strip()), '')
+            self.text[after['node']] = first_line(text)
 
     def children(self):
         found = [[] for _ in self.parent]

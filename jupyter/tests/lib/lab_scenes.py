@@ -369,7 +369,7 @@ def waiting(stage):
     page.command('notebook:run-cell')
     time.sleep(1)
     page.click('.janus-undo')
-    comes('an undo behind a cell that runs is told to wait', lambda: ('waits for its turn' in message(page), message(page)))
+    comes('an undo behind a cell that runs is told to wait', lambda: ('ends that cell; the undo is then done' in message(page), message(page)))
     page.js(S + 'panel.sessionContext.session.kernel.interrupt()')
     stands(page, 1, 2, what='an interrupt ends the cell, and the undo is done', timeout=120)
     comes('the cell says that it was stopped', lambda: ((words_below(page, index) or '').startswith('Stopped after'), words_below(page, index)))

@@ -189,7 +189,8 @@ def waiting(stage):
     asked = second.begin(ENDLESS)
     time.sleep(1)
     page.click('#janus-undo')
-    comes('an undo behind another frontend\'s endless cell says that it waits', lambda: 'waits for its turn' in message(page))
+    comes('an undo behind another frontend\'s endless cell says that it waits, and that it is done behind a stop',
+          lambda: ('waits for its turn' in message(page) and 'ends that cell; the undo is then done' in message(page), message(page)))
     page.interrupt()
     second.heard(asked, 'idle', 200)
     stands(page, 3, 4, FORWARD, 'after the stop the undo is done', 120)
@@ -237,6 +238,7 @@ def late_join(stage):
     check(it['unknown'] == 5 and it['parent'][1] == 0 and 'marked ?' in shown(late)['note'],
           'it knows that 5 of 6 nodes stand above, of which only node 1 for sure, and says so', it)
     check(len(late.js('return $("#janus-panel .node.loose").get()')) == 5, 'these nodes are marked')
+    comes('but have their texts', lambda: (all(known(late)[it] == known(page)[it] for it in ('codes', 'counts')), known(late), known(page)))
     late.js('Jupyter.janus.go(4)')
     stands(late, 4, 6, what='it goes to node 4')
     comes('which tells all of the path', lambda: known(late)['parent'][1:5] == [0, 1, 2, 3] and known(late)['unknown'] == 1)
@@ -245,6 +247,12 @@ def late_join(stage):
     late.js('Jupyter.janus.go(5)')
     stands(late, 5, 6)
     comes('and node 5 tells where it stands', lambda: known(late)['parent'][5] == 2 and known(late)['unknown'] == 0)
+    second.run('skip skip +')
+    late.js('localStorage.clear(); sessionStorage.clear(); Storage.prototype.setItem = function () {}')
+    late.load()
+    stands(late, 5, 6, what='it joins anew', timeout=120)
+    time.sleep(3)
+    check(known(late)['codes'] == [None] * 7, 'and knows no texts where a cell failed', known(late))
 
 
 def reload_page(stage):
@@ -426,7 +434,7 @@ def slider(stage):
         v.show = function (world, node) { window.seen.push([node, world.join(' ')]); return old.call(v, world, node); }; $("#janus-slider").focus()''')
     page.keys(Keys.ARROW_LEFT)
     stands(page, 3, 4, FORWARD, 'a step to the left goes to node 3')
-    check(shown(page)['step'] == 'step 3 of 4: node 3, In [3] call fib(x1, x2, n)', 'and it is said', shown(page)['step'])
+    check(shown(page)['step'] == 'cell 3 of 4: node 3, In [3] call fib(x1, x2, n)', 'and it is said', shown(page)['step'])
     page.keys(Keys.ARROW_RIGHT)
     stands(page, 4, 4, WORLD, 'a step to the right goes on again')
     page.js('window.seen = []')
