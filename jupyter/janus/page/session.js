@@ -5,7 +5,7 @@ define(['./history.js', './conversation.js', './memory.js', './explain.js', './t
 'use strict';
 
 const FRAME = 8, PAUSE = 100, LONG_PAUSE = 300, KEEP = 1000, AT_LAST = 10000;       // ms
-const MANY = 20;                        // behind so many changes that are drawn at once the pause is the long one
+const MANY = 5;                         // behind so many changes that are drawn at once the pause is the long one
 const INPUTS = 2000;                    // so many of the kernel's inputs are looked at as a page joins
 
 class Session {

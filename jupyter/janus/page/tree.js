@@ -13,6 +13,9 @@ const MARKUP = '<div class="janus-tree" role="tree" tabindex="0" aria-label="Tre
     '<g class="rows" role="presentation"></g></svg></div>' +
     '<div id="janus-keys" class="janus-hidden">Arrow up and down go from row to row, left to the parent, right to a child. Enter goes to the node.</div>';
 
+const ROW_MARKUP = '<g role="treeitem"><rect class="hit" x="0" width="100%" height="' + ROW + '"/><text class="ask"/><circle/>' +
+    '<text class="words"><tspan class="num"/><tspan class="count" dx="6"/><tspan class="code" dx="6"/></text></g>';
+
 function middle(row) { return row * ROW + ROW / 2 + TOP; }
 
 class Tree {
@@ -23,10 +26,11 @@ class Tree {
         this.layout = new Layout();
         this.cursor = 0;                // the keyboard's row
         this.followed = '';             // which position was last brought into sight
-        this.written = {};              // which rows stand there, and as what
+        this.first = 0;                 // the first row that stands there
+        this.base = 0;                  // the row from which their heights are counted, so that elements need no other height behind a jump
         this.top = this.height = this.width = 0;                        // of what is in sight; the height is 0 where the tree isn't
         this.placed = 0;                // the top that the box has
-        this.frame = null;              // in which it gets another one
+        this.is_to_move = false;        // whether it gets another one as the next frame has been laid out
         this.is_placed = false;         // whether it got one, and the event that tells of it is still to come
         this.stats = {draws: 0, last: 0, most: 0};
         parent.insertAdjacentHTML('beforeend', MARKUP);
@@ -38,6 +42,7 @@ class Tree {
         this.box.addEventListener('scroll', () => this.scrolled());
         for (const it of ['wheel', 'pointerdown', 'touchmove']) this.box.addEventListener(it, () => { this.is_placed = false; }, {passive: true});
         new ResizeObserver(() => this.sized()).observe(this.box);
+        this.laid_out = new ResizeObserver(() => this.place());
         this.svg.addEventListener('click', event => this.clicked(event));
         this.svg.addEventListener('mouseover', event => this.hovered(event));
         this.box.addEventListener('keydown', event => this.key(event));
@@ -47,13 +52,13 @@ class Tree {
     sized() {
         this.height = this.box.clientHeight;
         this.width = this.box.clientWidth;
-        if (this.frame === null) this.top = this.placed = this.box.scrollTop;
+        if (!this.is_to_move) this.top = this.placed = this.box.scrollTop;
         this.draw();
     }
 
     // Where `place` brought it about, what is in sight is drawn already.
     scrolled() {
-        const is_drawn = this.is_placed || this.frame !== null;
+        const is_drawn = this.is_placed || this.is_to_move;
         this.is_placed = false;
         if (is_drawn) return;
         this.top = this.placed = this.box.scrollTop;
@@ -63,10 +68,18 @@ class Tree {
     // The next drawing is at another place.
     scroll(top) { this.top = Math.round(Math.max(0, Math.min(top, this.all() - this.height))); }
 
-    // Moves the box to the place that was drawn, once for all that changes before the next frame.
+    // Has the box moved to the place that was drawn, once for all that changes before the next frame. To move it has the page laid out, so it waits until
+    // that was done for the frame: an observer tells of what it has just begun to observe, behind the layout and before the drawing.
+    move() {
+        if (this.is_to_move) return;
+        this.is_to_move = true;
+        this.laid_out.observe(this.svg);
+    }
+
     place() {
         const before = this.placed;
-        this.frame = null;
+        this.laid_out.unobserve(this.svg);
+        this.is_to_move = false;
         if (this.top === before) return;
         this.box.scrollTop = this.top;
         this.placed = this.box.scrollTop;                               // it may not go so far
@@ -156,19 +169,21 @@ class Tree {
             first: Math.max(0, Math.floor(top / ROW) - MARGIN), last: Math.min(history.nodes, Math.ceil((top + this.height) / ROW) + MARGIN),
             pitch: Math.max(1.2, Math.min(LANE, LANES_WIDE / this.layout.lines.length)),          // many lanes stand closer
         };
-        const edges = this.edges(view), text = this.x(view, edges.widest) + 14, ways = this.ways(view);
+        const edges = this.edges(view), ways = this.ways(view);
+        view.words = this.x(view, edges.widest) + 14;                   // where the words of all rows begin
         this.set(this.svg, 'height', this.all());
-        this.set(this.svg, 'width', Math.max(this.width - 2, text + 120));
-        this.set(this.svg, 'style', '--janus-text: ' + text + 'px');
+        this.set(this.svg, 'width', Math.max(this.width - 2, view.words + 120));
         for (const name of ['way', 'gaps', 'redos']) this.set(this.lines[name], 'd', ways[name]);
         this.set(this.lines.edges, 'd', edges.path);
         this.write_rows(view);
-        if (top !== this.placed && this.frame === null) this.frame = requestAnimationFrame(() => this.place());
+        if (top !== this.placed) this.move();
         this.count(performance.now() - begun);
     }
 
+    // An attribute, or none where the value is null.
     set(element, name, value) {
-        if (element.getAttribute(name) !== String(value)) element.setAttribute(name, value);
+        if (value === null) element.removeAttribute(name);
+        else if (element.getAttribute(name) !== String(value)) element.setAttribute(name, value);
     }
 
     count(time) {
@@ -237,39 +252,52 @@ class Tree {
         return {way: way, gaps: gaps, redos: back};
     }
 
-    // While the tree is the same, rows that stand there stay, and only those that come into sight are written.
+    // The elements of rows stay: those of rows that stay in sight for these, the others for other rows. To make them anew takes the page much longer.
     write_rows(view) {
-        const as = this.history.version + ' ' + this.cursor + ' ' + view.pitch, old = this.written, rows = this.rows;
-        const stays = old.as === as && old.first <= view.last && view.first <= old.last;
-        if (stays) {
-            for (let n = old.first; n < view.first; n++) rows.firstChild.remove();
-            for (let n = old.last; n > view.last; n--) rows.lastChild.remove();
-            rows.insertAdjacentHTML('afterbegin', this.some_rows(view, view.first, old.first - 1));
-            rows.insertAdjacentHTML('beforeend', this.some_rows(view, old.last + 1, view.last));
-        } else {
-            rows.innerHTML = this.some_rows(view, view.first, view.last);
-            this.box.setAttribute('aria-activedescendant', 'janus-node-' + this.cursor);
-        }
-        this.written = {as: as, first: view.first, last: view.last};
+        const as = [this.history.version, this.cursor, view.pitch, view.words].join(' '), rows = this.rows, many = view.last - view.first + 1;
+        if (this.first <= view.last && view.first < this.first + rows.childElementCount) {
+            for (let n = this.first; n < view.first; n++) rows.append(rows.firstElementChild);
+            for (let n = this.first; n > view.first; n--) rows.prepend(rows.lastElementChild);
+        } else this.base = view.first;
+        while (rows.childElementCount > many) rows.lastElementChild.remove();
+        rows.insertAdjacentHTML('beforeend', ROW_MARKUP.repeat(many - rows.childElementCount));
+        Array.from(rows.children).forEach((row, i) => this.write(view, row, view.first + i, as));
+        this.set(rows, 'transform', 'translate(0 ' + this.base * ROW + ')');
+        this.set(this.box, 'aria-activedescendant', 'janus-node-' + this.cursor);
+        this.first = view.first;
     }
 
-    some_rows(view, from, to) {
-        let out = '';
-        for (let n = from; n <= to; n++) out += this.row(view, n);
-        return out;
+    write(view, row, n, as) {
+        if (row.written === n + ' ' + as) return;
+        const history = this.history, label = history.label[n], x = this.x(view, this.layout.lane[n]), depth = history.depth_of(n);
+        const loose = n > 0 && history.parent[n] < 0, here = n === history.position;
+        row.written = n + ' ' + as;
+        row.querySelectorAll('title').forEach(function (it) { it.remove(); });
+        this.set(row, 'class', this.classes(n, loose));
+        this.set(row, 'id', 'janus-node-' + n);
+        this.set(row, 'data-node', n);
+        this.set(row, 'aria-label', this.words(n));
+        this.set(row, 'aria-level', depth >= 0 ? depth + 1 : null);
+        this.set(row, 'aria-selected', here);
+        const [hit, ask, circle, words] = row.children, [number, count, code] = words.children, y = middle(n - this.base);
+        this.set(hit, 'y', y - ROW / 2);
+        this.set(ask, 'x', x - 3);
+        this.set(ask, 'y', y - 7);
+        this.set(circle, 'cx', x);
+        this.set(circle, 'cy', y);
+        this.set(words, 'x', view.words);
+        this.set(words, 'y', y + 4);
+        this.set(circle, 'r', here ? RADIUS + 1.5 : RADIUS);
+        this.say(ask, loose ? '?' : '');
+        this.say(number, n);
+        this.say(count, label && label.count ? '[' + label.count + ']' : '');
+        this.say(code, n === 0 ? 'start' : label ? texts.first_line(label.code).slice(0, 60) : '');
     }
 
-    row(view, n) {
-        const history = this.history, label = history.label[n], x = this.x(view, this.layout.lane[n]), y = middle(n);
-        const loose = n > 0 && history.parent[n] < 0, here = n === history.position, said = texts.escape(this.words(n)), depth = history.depth_of(n);
-        const code = n === 0 ? 'start' : label ? texts.first_line(label.code).slice(0, 60) : '';
-        return '<g class="' + this.classes(n, loose) + '" id="janus-node-' + n + '" data-node="' + n + '" role="treeitem" aria-label="' + said + '"' +
-            (depth >= 0 ? ' aria-level="' + (depth + 1) + '"' : '') + ' aria-selected="' + here + '">' +
-            '<rect class="hit" x="0" y="' + (y - ROW / 2) + '" width="100%" height="' + ROW + '"/>' +
-            (loose ? '<text class="ask" x="' + (x - 3) + '" y="' + (y - 7) + '">?</text>' : '') +
-            '<circle cx="' + x + '" cy="' + y + '" r="' + (here ? RADIUS + 1.5 : RADIUS) + '"/>' +
-            '<text class="words" y="' + (y + 4) + '"><tspan class="num">' + n + '</tspan><tspan class="count" dx="6">' +
-            (label && label.count ? '[' + label.count + ']' : '') + '</tspan><tspan class="code" dx="6">' + texts.escape(code) + '</tspan></text></g>';
+    // The text of an element that has no other.
+    say(element, text) {
+        if (!element.firstChild) element.append('');
+        if (element.firstChild.data !== String(text)) element.firstChild.data = text;
     }
 
     classes(n, loose) {

@@ -17,7 +17,8 @@ GAPS = '''window.gaps = []; window.work = {longest: 0, total: 0}; var last = per
     window.beat = setInterval(function () { var now = performance.now(); window.gaps.push(now - last); last = now; }, 10);
     function meter(owner, name) { var old = owner[name]; owner[name] = function () { var begun = performance.now(), out = old.apply(this, arguments);
         var took = performance.now() - begun; window.work.total += took; window.work.longest = Math.max(window.work.longest, took); return out; }; }
-    meter(Jupyter.janus.conversation, 'hear'); meter(Jupyter.janus, 'update'); meter(Jupyter.janus, 'keep')'''
+    meter(Jupyter.janus.conversation, 'hear'); meter(Jupyter.janus, 'update'); meter(Jupyter.janus, 'keep');
+    meter(Jupyter.janus.panel.tree, 'place')'''
 
 
 def rush(frontend, seed):

@@ -33,7 +33,7 @@ BEAT = '''window.gaps = []; var last = performance.now();
 METER = S + '''window.work = {longest: 0, total: 0};
     function meter(owner, name) { var old = owner[name]; owner[name] = function () { var begun = performance.now(), out = old.apply(this, arguments);
         var took = performance.now() - begun; window.work.total += took; window.work.longest = Math.max(window.work.longest, took); return out; }; }
-    meter(s.conversation, 'hear'); meter(s.conversation, 'release_all'); meter(s, 'update'); meter(s, 'keep')'''
+    meter(s.conversation, 'hear'); meter(s.conversation, 'release_all'); meter(s, 'update'); meter(s, 'keep'); meter(s.panel.tree, 'place')'''
 
 
 def drawing(page, what):
