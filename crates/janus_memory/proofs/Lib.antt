@@ -1,0 +1,3 @@
+pub mod ArrayLists
+pub mod Elements
+pub mod Pooled
