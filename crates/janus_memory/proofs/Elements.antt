@@ -5,7 +5,7 @@ use Rattle.std.specs.Prelude.{slice_get, Option, Some, None}
 use Rattle.std.proofs.lemmas.Bool.{ltb-true, ltb-false}
 use Rattle.std.proofs.lemmas.Option.{slice_get_read}
 use Rattle.janus_memory.specs.Values.{read_or}
-use Rattle.janus_meaning.specs.Fault.{Fine, Bad, IndexRange}
+use Rattle.janus_meaning.specs.Fault.{Fault, Fine, Bad, IndexRange}
 use Rattle.janus_meaning.specs.Store.{nth, set_nth, element, set_element, zeros}
 
 -- what stands at an index, or past the end
@@ -51,6 +51,20 @@ element_within l (negsuc k) n h = cc
 pub element_set : (l : List ℤ) (i n v : ℤ) → element l i ≡ Fine n → set l (nat_abs i) v ≡ set_element l i v
 element_set l (pos k) n v h = set_is l k v
 element_set l (negsuc k) n v h = cc
+
+-- out of the range nothing is set
+set_past : (l : List ℤ) (n : ℕ) (f : Fault) (v : ℤ) → nth l n ≡ Bad f → set_nth l n v ≡ l
+set_past [] n f v h = refl
+set_past (x ∷ l) zero f v h = absurd cc
+set_past (x ∷ l) (suc n) f v h = ap (λ l. x ∷ l) (set_past l n f v h)
+
+pub none_set : (l : List ℤ) (i : ℤ) (f : Fault) (v : ℤ) → element l i ≡ Bad f → set_element l i v ≡ l
+none_set l (pos n) f v h = set_past l n f v h
+none_set l (negsuc n) f v h = refl
+
+pub none_read : (l : List ℤ) (i : ℤ) (f : Fault) (v : ℤ) (r : Option ℤ) → read_or f r ≡ element l i → is_some r ≡ false → set_element l i v ≡ l
+none_read l i f v (Some x) h e = absurd cc
+none_read l i f v None h e = none_set l i f v (sym h)
 
 -- what a look-up at an index gives
 pub found_is : (l : List ℤ) (i : ℤ) (k : ℕ) (r : Option (Bor ℤ)) → k ≡ nat_abs i → int_lt i (pos 0) ≡ false → is_some r ≡ ltb k (length l) →

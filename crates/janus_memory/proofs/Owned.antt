@@ -3,7 +3,7 @@ use Rattle.std.proofs.Common.{◌≡◌, ◌≢◌, ℕ, zero, suc, ◌+◌, ◌
 use Rattle.std.proofs.Common.{get_or-set_other, ⊎_elim, true, false, Bool, nat_eq}
 use Rattle.std.proofs.lemmas.Bool.{cases_lt}
 use Rattle.cell_pool.specs.Chains.{times, one_if}
-use Rattle.cell_pool.proofs.Chains.{once_here, nowhere}
+use Rattle.cell_pool.proofs.Chains.{once_here, nowhere, differ}
 use Rattle.janus_meaning.specs.Limit.{live_stack_limit}
 use Rattle.janus_memory.specs.Lists.{list_of}
 use Rattle.janus_memory.specs.Memory.{Content, Plain, HasArray, HasStack, stack_count, value_count, stacks_among, values_among, amount}
@@ -187,3 +187,26 @@ counted-set s t ls ms xs p x w l e f = record {
   stacks = let z = amount-set stack_count Plain xs p x l in let y = w.stacks in omega (arith, z, y, e);
   values = let z = amount-set value_count Plain xs p x l in let y = w.values in omega (arith, z, y, f);
 }
+
+-- an index that a cell's array has is one of an array
+pub array-known : (a : ℕ) (s : List ℕ) (cs : List Cell) (i : ℕ) → AreOwned a s cs → 1 ≤ arrays_at i cs → i < a
+array-known a s cs i w l = ⊎_elim (λ (lt : i < a). lt) (λ (le : a ≤ i). absurd (let z = w.arrays_known i le in omega (arith, z, l))) (cases_lt i a)
+
+-- the arrays of other cells, where one cell's is let go
+pub array-kept : (a : ℕ) (s : List ℕ) (cs : List Cell) (p j : ℕ) (c : Cell) (i : ℕ) → AreOwned a s cs → p < length cs → held_at cs p ≡ helds.Array j
+    → c.held ≡ helds.Nothing → 1 ≤ arrays_at i (set cs p c) → (i < a) × (i ≢ j)
+array-kept a s cs p j c i w l e f m =
+    let z = arrays-set cs p c i l in
+    let x : array_times i (held_at cs p) ≡ one_if (nat_eq i j) = ap (array_times i) e in
+    let y = ap (array_times i) f in
+    let most = w.arrays_once i in
+    let none : one_if (nat_eq i j) ≡ 0 = omega (arith, z, x, y, most, m) in
+    let ne = differ i j none in
+    (array-known a s cs i w (omega (arith, z, x, y, m)), λ q. ne (sym q))
+
+-- a spare stack is one that may live
+pub spare-low : (a : ℕ) (s t : List ℕ) (cs : List Cell) (j : ℕ) → AreOwned a s cs → s ≡ t ++ j ∷ [] → j < live_stack_limit
+spare-low a s t cs j w e =
+    ⊎_elim (λ (lt : j < live_stack_limit). lt)
+    (λ (le : live_stack_limit ≤ j). absurd (let z = w.stacks_known j le in let v = times_more j t j in let u = ap (times j) e in
+    omega (arith, z, v, u, once_here j))) (cases_lt j live_stack_limit)

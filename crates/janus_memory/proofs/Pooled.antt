@@ -6,7 +6,7 @@ use Rattle.std.proofs.lemmas.List.{length-set}
 use Rattle.std.proofs.lemmas.Bool.{cases_lt}
 use Rattle.cell_pool.specs.Chains.{one_if, times}
 use Rattle.cell_pool.specs.Stacks.{Stacks as Pool, pushed}
-use Rattle.cell_pool.proofs.Chains.{differ, nowhere}
+use Rattle.cell_pool.proofs.Chains.{differ, nowhere, once_here}
 use Rattle.janus_meaning.specs.Limit.{live_stack_limit, value_limit}
 use Rattle.janus_memory.specs.Lists.{list_of}
 use Rattle.janus_memory.specs.Stacks.{total, AreEmpty, AreReady}
@@ -91,25 +91,22 @@ bare_empty ls (i ∷ is) h = (h i, bare_empty ls is h)
 -- the numbers below i, each once
 pub record AreBelow (is : List ℕ) (i : ℕ) : Type 0 where
   pub long : length is ≡ i
-  pub once : (k : ℕ) → times k is ≤ 1
+  pub each : (k : ℕ) → k < i → times k is ≡ 1
   pub past : (k : ℕ) → i ≤ k → times k is ≡ 0
 
 pub times_more : (k : ℕ) (is : List ℕ) (i : ℕ) → times k (is ++ i ∷ []) ≡ times k is + one_if (nat_eq k i)
 times_more k [] i = omega arith
 times_more k (j ∷ is) i = let ih = times_more k is i in omega (arith, ih)
 
-pub one_most : (b : Bool) → one_if b ≤ 1
-one_most true = omega arith
-one_most false = omega arith
-
 pub below_more : (is : List ℕ) (i : ℕ) → AreBelow is i → AreBelow (is ++ i ∷ []) (i + 1)
 below_more is i h = record {
   long = omega (arith, h.long, length-append is (i ∷ []));
-  once = λ k.
+  each = λ k l.
       let a = times_more k is i in
       ⊎_elim
-      (λ (lt : k < i). let z = nowhere k i (λ e. omega (arith, e, lt)) in let o = h.once k in omega (arith, a, z, o))
-      (λ (le : i ≤ k). let z = h.past k le in let o = one_most (nat_eq k i) in omega (arith, a, z, o))
+      (λ (lt : k < i). let z = nowhere k i (λ e. omega (arith, e, lt)) in let o = h.each k lt in omega (arith, a, z, o))
+      (λ (le : i ≤ k). let z = h.past k le in let e : i ≡ k = omega (arith, le, l) in
+      let o : one_if (nat_eq k i) ≡ 1 = ap (λ i. one_if (nat_eq k i)) e ∙ once_here k in omega (arith, a, z, o))
       (cases_lt k i);
   past = λ k le.
       let a = times_more k is i in

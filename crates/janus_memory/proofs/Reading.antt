@@ -3,7 +3,7 @@ use Rattle.std.proofs.Common.{◌≡◌, ℕ, ◌+◌, ◌<◌, ◌≤◌, ℤ, 
 use Rattle.janus_meaning.specs.Limit.{live_stack_limit}
 use Rattle.cell_pool.specs.Chains.{times}
 use Rattle.janus_memory.specs.Lists.{list_of}
-use Rattle.janus_memory.specs.Memory.{MemoryState, Content, Plain, HasArray, HasStack, Gone, content_at, number_at, values_among}
+use Rattle.janus_memory.specs.Memory.{MemoryState, Content, Plain, HasArray, HasStack, Gone, content_at, number_at, stack_of, values_among}
 use Rattle.janus_memory.specs.Stacks.{total}
 use Rattle.janus_memory.specs.Inside.{heap_of, content_in, memory_of, IsKept}
 use Rattle.janus_memory.specs.declared.cell.Cell.{Cell}
@@ -34,6 +34,11 @@ module _ {L : Type 0} (a : Inside L) (m : MemoryState) (e : memory_of a ≡ m) w
   -- where a cell that was read has this
   pub held-seen : (p : ℕ) (c : Cell) (k : Held) → p < length a.cells.items → c ≡ get_or a.cells.items p c → c.held ≡ k → content_at m p ≡ content_in (heap_of a) k
   held-seen p c k l r h = content-seen p l ∙ ap (λ (c : Cell). content_in (heap_of a) c.held) (sym (read-cell a.cells.items p c l r)) ∙ ap (content_in (heap_of a)) h
+
+  -- a stack of which no value is seen
+  pub empty-seen : (p : ℕ) (c : Cell) (j : ℕ) → p < length a.cells.items → c ≡ get_or a.cells.items p c → c.held ≡ helds.Stack j → stack_of (content_at m p) ≡ []
+      → list_of a.stacks.lists j ≡ []
+  empty-seen p c j l r h z = ap stack_of (sym (held-seen p c (helds.Stack j) l r h)) ∙ z
 
   pub values-seen : IsKept a → total a.stacks.lists ≡ values_among m.contents
   values-seen i = i.counted.values ∙ ap (λ (m : MemoryState). values_among m.contents) e

@@ -346,9 +346,8 @@ impl<L: Ledger> Memory<L> {
         requires here { IsHere (content_at self.now at) }
         ensures { shown result ≡ val_at self.now at }
     {
-        let cell = self.cells[at];
-        match cell.held {
-            Held::Nothing => ValueView::Number(cell.number),
+        match self.cells[at].held {
+            Held::Nothing => ValueView::Number(self.cells[at].number),
             Held::Array(array) => ValueView::Array(self.arrays.items(array as usize)),
             Held::Stack(stack) => ValueView::Stack(stack_view::lend(self.stacks.values(stack as usize))),
             Held::Lent => unreachable!(),
@@ -374,11 +373,16 @@ impl<L: Ledger> Memory<L> {
         ensures { self.new ≡ released self.old at }
     {
         match self.cells[at].held {
-            Held::Array(array) => self.arrays.release(array as usize),
-            Held::Stack(stack) => self.stacks.give(stack as usize),
-            Held::Nothing | Held::Lent => return,
+            Held::Array(array) => {
+                self.arrays.release(array as usize);
+                self.cells[at].held = Held::Nothing;
+            }
+            Held::Stack(stack) => {
+                self.stacks.give(stack as usize);
+                self.cells[at].held = Held::Nothing;
+            }
+            Held::Nothing | Held::Lent => {}
         }
-        self.cells[at].held = Held::Nothing;
     }
 
     /// Moves what a cell has to another, which has neither an array nor a stack. The first is lent then.
