@@ -1,23 +1,23 @@
 -- What changes of the fields do: the invariant is kept, and what is seen of them.
 use Rattle.std.proofs.Common.{◌≡◌, ◌≢◌, ℕ, suc, ◌+◌, ◌-◌, ◌<◌, ◌≤◌, ℤ, pos, List, [], ◌∷◌, ◌++◌, length, length-append, set, get_or, refl, ap, ◌∙◌, sym, subst, arith}
-use Rattle.std.proofs.Common.{get_or-set_other, length-set}
+use Rattle.std.proofs.Common.{get_or-set_other, length-set, replicate, vec_capacity}
 use Rattle.std.specs.Global.{Vec}
 use Rattle.std.specs.Vec.{with_item}
 use Rattle.std.proofs.lemmas.List.{set-get_or}
 use Rattle.janus_meaning.specs.Limit.{live_stack_limit}
 use Rattle.janus_memory.specs.Lists.{list_of}
 use Rattle.janus_memory.specs.Memory.{MemoryState, Content, Plain, HasArray, HasStack, Gone, IsBare, amount, stack_count, value_count}
-use Rattle.janus_memory.specs.Memory.{with_number, with_content, with_write, opened, opened_from, closed, closed_from, released, released_from, carried}
+use Rattle.janus_memory.specs.Memory.{with_number, with_content, with_write, opened, opened_from, closed, closed_from, released, released_from, carried, reached}
 use Rattle.janus_memory.specs.Stacks.{Pooled, total}
 use Rattle.janus_memory.specs.Inside.{Heap, heap_of, content_in, numbers_of, contents_of, memory_of, array_times, stack_times, AreOwned, AreCounted, IsKept}
 use Rattle.janus_memory.specs.declared.cell.Cell.{Cell}
 use Rattle.janus_memory.specs.declared.cell.Held.{Held}
 use Rattle.janus_memory.specs.declared.cell.Held.TheVariants as helds
 use Rattle.janus_memory.specs.declared.memory.Memory.TheInside.{Inside}
-use Rattle.janus_memory.proofs.Amounts.{amount-at, amount-carried}
+use Rattle.janus_memory.proofs.Amounts.{amount-at, amount-carried, amount-none}
 use Rattle.janus_memory.proofs.ArrayLists.{list-front, list-last}
 use Rattle.janus_memory.proofs.Cells.{plain_cell, cell_at, held_at, contents-set, numbers-set, content-here, number-here, contents-long, same-contents}
-use Rattle.janus_memory.proofs.Cells.{bare-array, bare-stack}
+use Rattle.janus_memory.proofs.Cells.{bare-array, bare-stack, numbers-more, contents-more, numbers-long}
 use Rattle.janus_memory.proofs.Owned as owned
 
 -- the lists beside one that was changed
@@ -344,3 +344,36 @@ module _ {L : Type 0} (a : Inside L) (i : IsKept a) (from to : ℕ) (l : from < 
       (carry-numbers ∙ ap (set (set m.numbers to (get_or m.numbers from (pos 0))) from) g)
       ∙ ap (λ xs. record m { numbers = set (set m.numbers to (get_or m.numbers from (pos 0))) from (pos 0); contents = xs })
       (carry-contents ∙ ap (set (set m.contents to (get_or m.contents from Plain)) from) f)
+
+-- ---- more cells
+
+module _ {L : Type 0} (a : Inside L) (i : IsKept a) (n : ℕ) (v : Vec Cell) (e : v.items ≡ a.cells.items ++ replicate (n - length a.cells.items) plain_cell) where
+  reach-contents : contents_of (heap_of a) v.items ≡ contents_of (heap_of a) a.cells.items ++ replicate (n - length a.cells.items) Plain
+  reach-contents = ap (contents_of (heap_of a)) e ∙ contents-more (heap_of a) a.cells.items (n - length a.cells.items)
+
+  pub reach-kept : IsKept {L = L} (record { cells = v; base = a.base; arrays = a.arrays; stacks = a.stacks; writes = a.writes })
+  reach-kept =
+      let m = n - length a.cells.items in
+      record {
+        owned = owned.same-owned (length a.arrays) a.stacks.spare a.cells.items v.items i.owned
+            (λ j. let f = λ (c : Cell). array_times j c.held in ap (amount f) e ∙ amount-none f a.cells.items m plain_cell refl)
+            (λ j. let f = λ (c : Cell). stack_times j c.held in ap (amount f) e ∙ amount-none f a.cells.items m plain_cell refl);
+        counted = record {
+          stacks = ap (λ n. length a.stacks.spare + n)
+              (ap (amount stack_count) reach-contents ∙ amount-none stack_count (contents_of (heap_of a) a.cells.items) m Plain refl) ∙ i.counted.stacks;
+          values = i.counted.values ∙ sym (ap (amount value_count) reach-contents
+              ∙ amount-none value_count (contents_of (heap_of a) a.cells.items) m Plain refl);
+        };
+      }
+
+  pub reach-seen : vec_capacity v ≡ vec_capacity a.cells
+      → memory_of {L = L} (record { cells = v; base = a.base; arrays = a.arrays; stacks = a.stacks; writes = a.writes }) ≡ reached (memory_of a) n
+  reach-seen r =
+      let m = memory_of a in
+      let xs = contents_of (heap_of a) a.cells.items in
+      ap (λ ns. record m { numbers = ns; contents = contents_of (heap_of a) v.items; room = vec_capacity v })
+      (ap numbers_of e ∙ numbers-more a.cells.items (n - length a.cells.items)
+      ∙ ap (λ k. m.numbers ++ replicate (n - k) (pos 0)) (sym (numbers-long a.cells.items)))
+      ∙ ap (λ ys. record m { numbers = m.numbers ++ replicate (n - length m.numbers) (pos 0); contents = ys; room = vec_capacity v })
+      (reach-contents ∙ ap (λ k. xs ++ replicate (n - k) Plain) (sym (contents-long (heap_of a) a.cells.items)))
+      ∙ ap (λ r. record m { numbers = m.numbers ++ replicate (n - length m.numbers) (pos 0); contents = xs ++ replicate (n - length xs) Plain; room = r }) r

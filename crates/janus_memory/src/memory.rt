@@ -1,6 +1,6 @@
 //! The cells of all frames, with all arrays and stacks.
 
-ghost use Rattle.std.specs.Prelude.{◌≡◌, ◌≢◌, ◌+◌, ◌<◌, ◌≤◌, ◌↔◌, ◌^◌, ℤ, List, [], ◌∷◌, length, IsTrue, IfOk, IfSome, OnOk, OnErr, None};
+ghost use Rattle.std.specs.Prelude.{◌≡◌, ◌≢◌, ◌+◌, ◌-◌, ◌<◌, ◌≤◌, ◌↔◌, ◌^◌, ℤ, List, [], ◌∷◌, ◌++◌, length, replicate, IsTrue, IfOk, IfSome, OnOk, OnErr, None, vec_capacity};
 ghost use Rattle.janus_meaning.specs.Fault.{IndexRange, TopEmpty};
 ghost use Rattle.janus_meaning.specs.Limit.{live_stack_limit, value_limit};
 ghost use Rattle.janus_meaning.specs.Store.{element};
@@ -321,9 +321,7 @@ impl<L: Ledger> Memory<L> {
         requires { count ≤ self.old.room }
         ensures { self.new ≡ reached self.old count }
     {
-        for _i in self.cells.len()..count {
-            self.cells.push_reserved(PLAIN);
-        }
+        reach(&mut self.cells, count);
     }
 
     /// What the value of a cell is.
@@ -411,5 +409,17 @@ impl<L: Ledger> Memory<L> {
         let cell = self.cells[from];
         self.cells[to] = cell;
         self.cells[from] = PLAIN;
+    }
+}
+
+/// Lets there be this many cells, or more: the new ones have the number 0 alone.
+#[inline(always)]
+fn reach(cells: &mut Vec<Cell>, count: usize)
+    requires { count ≤ vec_capacity cells.old }
+    ensures more { cells.new.items ≡ cells.old.items ++ replicate (count - length cells.old.items) PLAIN }
+    ensures room { vec_capacity cells.new ≡ vec_capacity cells.old }
+{
+    for _i in cells.len()..count {
+        cells.push_reserved(PLAIN);
     }
 }

@@ -11,5 +11,5 @@ pub returns-else-is_some : goal.returns-else-is_some
 returns-else-is_some c =
     let ls = c.args.self.now in
     sym (ap (set ls c.args.array) (none_read (list_of ls c.args.array) c.args.index IndexRange c.args.number c.element.result
-    (c.element.ensures ∙ ap (element (list_of ls c.args.array)) (to_z-of_z w32 c.args.index c.ranges.index)) c.if-is_some.false)
+    (c.element.ensures ∙ ap (element (list_of ls c.args.array)) (to_z-of_z w32 c.args.index c.ranges.index)) (sym c.is_some.ensures ∙ c.if-is_some.false))
     ∙ set-get_or ls c.args.array [])
