@@ -1,5 +1,5 @@
 -- What each of a list counts, together.
-use Rattle.std.proofs.Common.{◌≡◌, ◌≢◌, ℕ, zero, suc, ◌+◌, ◌<◌, ◌≤◌, List, [], ◌∷◌, ◌++◌, length, set, get_or, replicate, refl, ap, ◌∙◌, sym, arith, length-set}
+use Rattle.std.proofs.Common.{◌≡◌, ◌≢◌, ℕ, zero, suc, ◌+◌, ◌<◌, ◌≤◌, List, [], ◌∷◌, ◌++◌, length, set, get_or, replicate, refl, ap, arith, length-set}
 use Rattle.std.proofs.Common.{get_or-set_other}
 use Rattle.janus_memory.specs.Memory.{amount}
 

@@ -1,10 +1,10 @@
 -- The cells in their places, and what the memory shows of them.
-use Rattle.std.proofs.Common.{◌≡◌, ◌≢◌, ℕ, zero, suc, ◌+◌, ◌<◌, ◌≤◌, ℤ, pos, List, [], ◌∷◌, ◌++◌, length, map, set, get_or, replicate, refl, ap, ◌∙◌, sym, subst}
+use Rattle.std.proofs.Common.{◌≡◌, ℕ, zero, suc, ◌+◌, ◌<◌, ◌≤◌, pos, List, [], ◌∷◌, ◌++◌, length, set, get_or, replicate, refl, ap, ◌∙◌}
 use Rattle.std.proofs.Common.{arith}
 use Rattle.std.proofs.lemmas.List.{map-set, get_or-map, length-map}
 use Rattle.cell_pool.proofs.Chains.{once_here}
 use Rattle.janus_memory.specs.Lists.{list_of}
-use Rattle.janus_memory.specs.Memory.{Content, Plain, HasArray, HasStack, Gone, IsBare}
+use Rattle.janus_memory.specs.Memory.{Plain, HasArray, HasStack, IsBare}
 use Rattle.janus_memory.specs.Inside.{Heap, content_in, numbers_of, contents_of, array_times, stack_times, arrays_at, stacks_at}
 use Rattle.janus_memory.specs.declared.cell.Cell.{Cell}
 use Rattle.janus_memory.specs.declared.cell.Held.{Held}

@@ -1,12 +1,12 @@
 -- What changes of the fields do: the invariant is kept, and what is seen of them.
-use Rattle.std.proofs.Common.{◌≡◌, ◌≢◌, ℕ, suc, ◌+◌, ◌-◌, ◌<◌, ◌≤◌, ℤ, pos, List, [], ◌∷◌, ◌++◌, length, length-append, set, get_or, refl, ap, ◌∙◌, sym, subst, arith}
+use Rattle.std.proofs.Common.{◌≡◌, ◌≢◌, ℕ, suc, ◌+◌, ◌-◌, ◌<◌, ℤ, pos, List, [], ◌∷◌, ◌++◌, length, length-append, set, get_or, refl, ap, ◌∙◌, sym, subst, arith}
 use Rattle.std.proofs.Common.{get_or-set_other, length-set, replicate, vec_capacity}
 use Rattle.std.specs.Global.{Vec}
 use Rattle.std.specs.Vec.{with_item}
 use Rattle.std.proofs.lemmas.List.{set-get_or}
 use Rattle.janus_meaning.specs.Limit.{live_stack_limit}
 use Rattle.janus_memory.specs.Lists.{list_of}
-use Rattle.janus_memory.specs.Memory.{MemoryState, Content, Plain, HasArray, HasStack, Gone, IsBare, amount, stack_count, value_count}
+use Rattle.janus_memory.specs.Memory.{Content, Plain, HasArray, HasStack, Gone, IsBare, amount, stack_count, value_count}
 use Rattle.janus_memory.specs.Memory.{with_number, with_content, with_write, opened, opened_from, closed, closed_from, released, released_from, carried, reached}
 use Rattle.janus_memory.specs.Stacks.{Pooled, total}
 use Rattle.janus_memory.specs.Inside.{Heap, heap_of, content_in, numbers_of, contents_of, memory_of, array_times, stack_times, AreOwned, AreCounted, IsKept}
@@ -222,37 +222,37 @@ module _ {L : Type 0} (a : Inside L) (i : IsKept a) (p j : ℕ) (l : p < length 
     -- a new array
 
     module _ (w : held_at a.cells.items p ≡ helds.Nothing) (ls : List (List ℤ)) (m : List ℤ) (f : ls ≡ a.arrays ++ m ∷ []) (e : c.held ≡ helds.Array (length a.arrays))
-        where
-      put-contents : contents_of (record { arrays = ls; stacks = a.stacks.lists }) (set a.cells.items p c)
-          ≡ set (contents_of (heap_of a) a.cells.items) p (HasArray m)
-      put-contents =
-          let g : Heap = record { arrays = ls; stacks = a.stacks.lists } in
-          contents-set g a.cells.items p c
-          ∙ ap (λ k. set (contents_of g a.cells.items) p (content_in g k)) e
-          ∙ ap (λ m. set (contents_of g a.cells.items) p (HasArray m)) (ap (λ ls. list_of ls (length a.arrays)) f ∙ list-last a.arrays m)
-          ∙ ap (λ xs. set xs p (HasArray m)) (same-contents (heap_of a) g a.cells.items
-          (λ k n. ap (λ ls. list_of ls k) f ∙ list-front a.arrays m k (owned.array-known (length a.arrays) a.stacks.spare a.cells.items k i.owned n))
-          (λ k n. refl))
+      where
+        put-contents : contents_of (record { arrays = ls; stacks = a.stacks.lists }) (set a.cells.items p c)
+            ≡ set (contents_of (heap_of a) a.cells.items) p (HasArray m)
+        put-contents =
+            let g : Heap = record { arrays = ls; stacks = a.stacks.lists } in
+            contents-set g a.cells.items p c
+            ∙ ap (λ k. set (contents_of g a.cells.items) p (content_in g k)) e
+            ∙ ap (λ m. set (contents_of g a.cells.items) p (HasArray m)) (ap (λ ls. list_of ls (length a.arrays)) f ∙ list-last a.arrays m)
+            ∙ ap (λ xs. set xs p (HasArray m)) (same-contents (heap_of a) g a.cells.items
+            (λ k n. ap (λ ls. list_of ls k) f ∙ list-front a.arrays m k (owned.array-known (length a.arrays) a.stacks.spare a.cells.items k i.owned n))
+            (λ k n. refl))
 
-      pub put-kept : IsKept {L = L} (record { cells = changed; base = a.base; arrays = ls; stacks = a.stacks; writes = a.writes })
-      put-kept =
-          let was = there helds.Nothing w in
-          let long : suc (length a.arrays) ≡ length ls = omega (arith, ap length f, length-append a.arrays (m ∷ [])) in
-          record {
-            owned = subst (λ n. AreOwned n a.stacks.spare (set a.cells.items p c)) long
-                (owned.array-owned (length a.arrays) a.stacks.spare a.cells.items p c i.owned l w e);
-            counted = subst (AreCounted a.stacks.spare a.stacks.lists) (sym put-contents)
-                (owned.counted-set a.stacks.spare a.stacks.spare a.stacks.lists a.stacks.lists (contents_of (heap_of a) a.cells.items) p (HasArray m) i.counted place
-                (omega (arith, ap stack_count was)) (omega (arith, ap value_count was)));
-          }
+        pub put-kept : IsKept {L = L} (record { cells = changed; base = a.base; arrays = ls; stacks = a.stacks; writes = a.writes })
+        put-kept =
+            let was = there helds.Nothing w in
+            let long : suc (length a.arrays) ≡ length ls = omega (arith, ap length f, length-append a.arrays (m ∷ [])) in
+            record {
+              owned = subst (λ n. AreOwned n a.stacks.spare (set a.cells.items p c)) long
+                  (owned.array-owned (length a.arrays) a.stacks.spare a.cells.items p c i.owned l w e);
+              counted = subst (AreCounted a.stacks.spare a.stacks.lists) (sym put-contents)
+                  (owned.counted-set a.stacks.spare a.stacks.spare a.stacks.lists a.stacks.lists (contents_of (heap_of a) a.cells.items) p (HasArray m) i.counted place
+                  (omega (arith, ap stack_count was)) (omega (arith, ap value_count was)));
+            }
 
-      pub put-seen : c.number ≡ (cell_at a.cells.items p).number
-          → memory_of {L = L} (record { cells = changed; base = a.base; arrays = ls; stacks = a.stacks; writes = a.writes })
-          ≡ with_content (memory_of a) p (HasArray m)
-      put-seen h =
-          let o = memory_of a in
-          ap (λ ns. record o { numbers = ns; contents = contents_of (record { arrays = ls; stacks = a.stacks.lists }) (set a.cells.items p c) }) (numbers-left h)
-          ∙ ap (λ xs. record o { contents = xs }) put-contents
+        pub put-seen : c.number ≡ (cell_at a.cells.items p).number
+            → memory_of {L = L} (record { cells = changed; base = a.base; arrays = ls; stacks = a.stacks; writes = a.writes })
+            ≡ with_content (memory_of a) p (HasArray m)
+        put-seen h =
+            let o = memory_of a in
+            ap (λ ns. record o { numbers = ns; contents = contents_of (record { arrays = ls; stacks = a.stacks.lists }) (set a.cells.items p c) }) (numbers-left h)
+            ∙ ap (λ xs. record o { contents = xs }) put-contents
 
     -- an array that is let go
 
@@ -266,8 +266,8 @@ module _ {L : Type 0} (a : Inside L) (i : IsKept a) (p j : ℕ) (l : p < length 
           let g : Heap = record { arrays = ls; stacks = a.stacks.lists } in
           same-contents (heap_of a) g (set a.cells.items p c)
           (λ n m.
-              let r = owned.array-kept (length a.arrays) a.stacks.spare a.cells.items p j c n i.owned l w e m in
-              (f n r.0 r.1).1)
+          let r = owned.array-kept (length a.arrays) a.stacks.spare a.cells.items p j c n i.owned l w e m in
+          (f n r.0 r.1).1)
           (λ n m. refl)
           ∙ contents-now helds.Nothing e
 

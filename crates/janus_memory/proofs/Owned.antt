@@ -1,19 +1,18 @@
 -- Each array and each stack has one cell, also behind changes.
-use Rattle.std.proofs.Common.{◌≡◌, ◌≢◌, ℕ, zero, suc, ◌+◌, ◌<◌, ◌≤◌, ℤ, List, [], ◌∷◌, ◌++◌, length, length-append, set, get_or, refl, ap, ◌∙◌, sym, subst, arith}
-use Rattle.std.proofs.Common.{get_or-set_other, ⊎_elim, true, false, Bool, nat_eq}
+use Rattle.std.proofs.Common.{◌≡◌, ◌≢◌, ℕ, suc, ◌+◌, ◌<◌, ◌≤◌, ℤ, List, [], ◌∷◌, ◌++◌, length, set, get_or, refl, ap, ◌∙◌, sym, arith}
+use Rattle.std.proofs.Common.{⊎_elim, true, false, Bool, nat_eq}
 use Rattle.std.proofs.lemmas.Bool.{cases_lt}
 use Rattle.cell_pool.specs.Chains.{times, one_if}
 use Rattle.cell_pool.proofs.Chains.{once_here, nowhere, differ}
 use Rattle.janus_meaning.specs.Limit.{live_stack_limit}
 use Rattle.janus_memory.specs.Lists.{list_of}
-use Rattle.janus_memory.specs.Memory.{Content, Plain, HasArray, HasStack, stack_count, value_count, stacks_among, values_among, amount}
+use Rattle.janus_memory.specs.Memory.{Content, Plain, HasArray, HasStack, stack_count, value_count}
 use Rattle.janus_memory.specs.Stacks.{total}
 use Rattle.janus_memory.specs.Inside.{Heap, content_in, contents_of, array_times, stack_times, arrays_at, stacks_at, AreOwned, AreCounted}
 use Rattle.janus_memory.specs.declared.cell.Cell.{Cell}
-use Rattle.janus_memory.specs.declared.cell.Held.{Held}
 use Rattle.janus_memory.specs.declared.cell.Held.TheVariants as helds
 use Rattle.janus_memory.proofs.Amounts.{amount-set, amount-at}
-use Rattle.janus_memory.proofs.Cells.{plain_cell, cell_at, held_at, one-changed, same-contents, content-here, contents-long}
+use Rattle.janus_memory.proofs.Cells.{plain_cell, held_at, one-changed}
 use Rattle.janus_memory.proofs.Pooled.{times_more}
 
 -- ---- how often an index stands in changed cells
@@ -57,8 +56,8 @@ array-changed a s h ls cs p j w l e r =
     let g : Heap = record { arrays = ls; stacks = h.stacks } in
     one-changed h g cs p l
     (λ i m. r i (λ f.
-        let one : array_times i (held_at cs p) ≡ 1 = ap (array_times i) e ∙ ap (λ j. one_if (nat_eq i j)) (sym f) ∙ once_here i in
-        let most = w.arrays_once i in omega (arith, one, most, m)))
+    let one : array_times i (held_at cs p) ≡ 1 = ap (array_times i) e ∙ ap (λ j. one_if (nat_eq i j)) (sym f) ∙ once_here i in
+    let most = w.arrays_once i in omega (arith, one, most, m)))
     (λ i m. refl)
     ∙ ap (λ k. set (contents_of h cs) p (content_in g k)) e
 
@@ -70,8 +69,8 @@ stack-changed a s h ls cs p j w l e r =
     one-changed h g cs p l
     (λ i m. refl)
     (λ i m. r i (λ f.
-        let one : stack_times i (held_at cs p) ≡ 1 = ap (stack_times i) e ∙ ap (λ j. one_if (nat_eq i j)) (sym f) ∙ once_here i in
-        let most = stacks-most a s cs i w in omega (arith, one, most, m)))
+    let one : stack_times i (held_at cs p) ≡ 1 = ap (stack_times i) e ∙ ap (λ j. one_if (nat_eq i j)) (sym f) ∙ once_here i in
+    let most = stacks-most a s cs i w in omega (arith, one, most, m)))
     ∙ ap (λ k. set (contents_of h cs) p (content_in g k)) e
 
 -- ---- other cells
@@ -103,6 +102,7 @@ open-owned a s t cs p j c w l e f g = record {
   where
     alike : (i : ℕ) → arrays_at i (set cs p c) ≡ arrays_at i cs
     alike i = let z = arrays-set cs p c i l in let x = ap (array_times i) e in let y = ap (array_times i) f in omega (arith, x, y, z)
+
     sums : (i : ℕ) → times i t + stacks_at i (set cs p c) ≡ times i s + stacks_at i cs
     sums i =
         let z = stacks-set cs p c i l in
@@ -123,6 +123,7 @@ close-owned a s t cs p j c w l e f g = record {
   where
     alike : (i : ℕ) → arrays_at i (set cs p c) ≡ arrays_at i cs
     alike i = let z = arrays-set cs p c i l in let x = ap (array_times i) e in let y = ap (array_times i) f in omega (arith, x, y, z)
+
     sums : (i : ℕ) → times i t + stacks_at i (set cs p c) ≡ times i s + stacks_at i cs
     sums i =
         let z = stacks-set cs p c i l in
@@ -151,8 +152,10 @@ array-owned a s cs p c w l e f = record {
     most : (b : Bool) → one_if b ≤ 1
     most true = omega arith
     most false = omega arith
+
     alike : (i : ℕ) → stacks_at i (set cs p c) ≡ stacks_at i cs
     alike i = let z = stacks-set cs p c i l in let x = ap (stack_times i) e in let y = ap (stack_times i) f in omega (arith, x, y, z)
+
     sums : (i : ℕ) → arrays_at i (set cs p c) ≡ arrays_at i cs + one_if (nat_eq i a)
     sums i = let z = arrays-set cs p c i l in let x = ap (array_times i) e in let y = ap (array_times i) f in omega (arith, x, y, z)
 
@@ -168,8 +171,10 @@ release-owned a b s cs p j c w l e f g = record {
   where
     alike : (i : ℕ) → stacks_at i (set cs p c) ≡ stacks_at i cs
     alike i = let z = stacks-set cs p c i l in let x = ap (stack_times i) e in let y = ap (stack_times i) f in omega (arith, x, y, z)
+
     sums : (i : ℕ) → arrays_at i (set cs p c) + one_if (nat_eq i j) ≡ arrays_at i cs
     sums i = let z = arrays-set cs p c i l in let x = ap (array_times i) e in let y = ap (array_times i) f in omega (arith, x, y, z)
+
     known : (i : ℕ) → b ≤ i → (q : Bool) → nat_eq i j ≡ q → arrays_at i (set cs p c) ≡ 0
     known i m true q = let z = sums i in let y = w.arrays_once i in let n = ap one_if q in omega (arith, z, y, n)
     known i m false q =

@@ -1,9 +1,9 @@
 -- What the fields have at a place, read from the state that contracts see.
-use Rattle.std.proofs.Common.{◌≡◌, ℕ, ◌+◌, ◌<◌, ◌≤◌, ℤ, List, [], ◌∷◌, length, get_or, ap, ◌∙◌, sym, subst, arith}
+use Rattle.std.proofs.Common.{◌≡◌, ℕ, ◌+◌, ◌<◌, [], length, get_or, ap, ◌∙◌, sym, arith}
 use Rattle.janus_meaning.specs.Limit.{live_stack_limit}
 use Rattle.cell_pool.specs.Chains.{times}
 use Rattle.janus_memory.specs.Lists.{list_of}
-use Rattle.janus_memory.specs.Memory.{MemoryState, Content, Plain, HasArray, HasStack, Gone, content_at, number_at, stack_of, values_among}
+use Rattle.janus_memory.specs.Memory.{MemoryState, content_at, number_at, stack_of, values_among}
 use Rattle.janus_memory.specs.Stacks.{total}
 use Rattle.janus_memory.specs.Inside.{heap_of, content_in, memory_of, IsKept}
 use Rattle.janus_memory.specs.declared.cell.Cell.{Cell}

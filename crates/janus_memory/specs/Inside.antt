@@ -68,13 +68,13 @@ heap_of a = record { arrays = a.arrays; stacks = a.stacks.lists }
 -- what the fields hold
 abbrev pub memory_of : {L : Type 0} → Inside L → MemoryState
 memory_of a = record {
-    numbers = numbers_of a.cells.items;
-    contents = contents_of (heap_of a) a.cells.items;
-    base = a.base;
-    spare = length a.stacks.spare;
-    room = vec_capacity a.cells;
-    writes = a.writes
-  }
+  numbers = numbers_of a.cells.items;
+  contents = contents_of (heap_of a) a.cells.items;
+  base = a.base;
+  spare = length a.stacks.spare;
+  room = vec_capacity a.cells;
+  writes = a.writes;
+}
 
 -- the invariant of the memory
 pub record IsKept {L : Type 0} (a : Inside L) : Type 0 where

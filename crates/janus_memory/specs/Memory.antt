@@ -1,5 +1,5 @@
 -- The cells of all frames, as contracts see them.
-use Rattle.std.specs.Prelude.{◌≡◌, ℕ, zero, suc, ◌+◌, ◌-◌, ◌≤◌, ℤ, pos, List, [], ◌∷◌, ◌++◌, length, replicate, slice_index_or, slice_set, get_or, refl}
+use Rattle.std.specs.Prelude.{◌≡◌, ℕ, ◌+◌, ◌-◌, ℤ, pos, List, [], ◌∷◌, ◌++◌, length, replicate, slice_index_or, slice_set, get_or, refl}
 use Rattle.std.specs.Coded.{Coded, code_by, coded×, coded_ℕ, coded_ℤ, coded_list}
 use Rattle.janus_meaning.specs.Limit.{live_stack_limit}
 use Rattle.janus_meaning.specs.Store.{Val, Num, Arr, Stk, Lent, set_element}
@@ -162,16 +162,16 @@ released m p = released_from (content_at m p) m p
 -- what a cell has comes to another, and this stays
 abbrev pub carried : Content → MemoryState → ℕ → ℕ → MemoryState
 carried left m from to = record m {
-    numbers = slice_set (slice_set m.numbers to (number_at m from)) from (pos 0);
-    contents = slice_set (slice_set m.contents to (content_at m from)) from left
-  }
+  numbers = slice_set (slice_set m.numbers to (number_at m from)) from (pos 0);
+  contents = slice_set (slice_set m.contents to (content_at m from)) from left;
+}
 
 -- plain cells of the number 0, until there are so many
 abbrev pub reached : MemoryState → ℕ → MemoryState
 reached m n = record m {
-    numbers = m.numbers ++ replicate (n - length m.numbers) (pos 0);
-    contents = m.contents ++ replicate (n - length m.contents) Plain
-  }
+  numbers = m.numbers ++ replicate (n - length m.numbers) (pos 0);
+  contents = m.contents ++ replicate (n - length m.contents) Plain;
+}
 
 -- no cell, with room for so many
 abbrev pub no_cells : ℕ → MemoryState

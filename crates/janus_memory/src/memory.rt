@@ -55,7 +55,11 @@ impl<L: Ledger> Memory<L> {
     /// # Errors
     ///
     /// `AllocError` where there is no memory.
-    pub fn new(alloc: Global, room: usize, blank: Blank) -> Result<(Memory<L>, Tally<L>), AllocError>
+    pub fn new(
+        alloc: Global,
+        room: usize,
+        blank: Blank,
+    ) -> Result<(Memory<L>, Tally<L>), AllocError>
         requires name { blank.name ≡ L.name }
         requires parts { blank.parts ≡ L.parts }
         requires two { 1 < L.parts }
@@ -347,7 +351,9 @@ impl<L: Ledger> Memory<L> {
         match self.cells[at].held {
             Held::Nothing => ValueView::Number(self.cells[at].number),
             Held::Array(array) => ValueView::Array(self.arrays.items(array as usize)),
-            Held::Stack(stack) => ValueView::Stack(stack_view::lend(self.stacks.values(stack as usize))),
+            Held::Stack(stack) => ValueView::Stack(stack_view::lend(
+                self.stacks.values(stack as usize),
+            )),
             Held::Lent => unreachable!(),
         }
     }

@@ -1,9 +1,9 @@
-use Rattle.std.proofs.Common.{◌≡◌, ◌+◌, ◌<◌, length, ap, ◌∙◌, sym, w32, to_z, of_z}
+use Rattle.std.proofs.Common.{◌≡◌, ◌+◌, ap, ◌∙◌, w32, to_z, of_z}
 use Rattle.std.proofs.lemmas.Int.{to_z-of_z}
 use Rattle.janus_memory.specs.Memory.{MemoryState, with_number}
 use Rattle.janus_memory.specs.declared.cell.Cell.{Cell}
 use Rattle.janus_memory.proofs.Changing as changing
-use Rattle.janus_memory.proofs.Cells.{read-cell, held_at}
+use Rattle.janus_memory.proofs.Cells.{read-cell}
 use Rattle.janus_memory.proofs.Reading as reading
 use Rattle.janus_memory.proofs.memory.Memory.keep.Goals as goal
 

@@ -1,4 +1,4 @@
-use Rattle.std.proofs.Common.{◌≡◌, ◌+◌, ℤ, List, [], ◌∷◌, length, set, ap, ◌∙◌, sym, subst, arith, w32, to_z, of_z}
+use Rattle.std.proofs.Common.{◌≡◌, ◌+◌, ◌∷◌, length, ap, ◌∙◌, sym, arith, w32, to_z, of_z}
 use Rattle.std.proofs.lemmas.Int.{to_z-of_z}
 use Rattle.janus_memory.specs.Lists.{list_of}
 use Rattle.janus_memory.specs.Memory.{MemoryState, HasStack, content_at, with_content, with_write}
@@ -46,12 +46,11 @@ returns-else-length-eq0-clause-some g c =
     let e = reading.held-read a p c.index.result.now l c.index.ensures (helds.Stack j) c.in-Stack.is in
     let r = list_of c.pop.new.self.lists j in
     let same = reading.same-place a c.args.self.now c.self.view_is c.args.k in
-    let z : to_z w32 (of_z w32 c.pop.result) ≡ c.pop.result = grind (arith, to_z-of_z) in
-    (
+    let z : to_z w32 (of_z w32 c.pop.result) ≡ c.pop.result = grind (arith, to_z-of_z) in (
       r,
       ap (content_at c.args.self.now) (sym same)
-      ∙ reading.held-seen a c.args.self.now c.self.view_is p c.index.result.now (helds.Stack j) l c.index.ensures c.in-Stack.is
-      ∙ ap HasStack (c.pop.ensures.top ∙ ap (λ n. n ∷ r) (sym z)),
+          ∙ reading.held-seen a c.args.self.now c.self.view_is p c.index.result.now (helds.Stack j) l c.index.ensures c.in-Stack.is
+          ∙ ap HasStack (c.pop.ensures.top ∙ ap (λ n. n ∷ r) (sym z)),
       changing.stack-seen a c.self.invariant p j l e c.pop.new.self c.pop.ensures.rest c.add.new.self c.add.ensures
-      ∙ ap (λ (m : MemoryState). with_write (with_content m (m.base + c.args.k) (HasStack r))) c.self.view_is
+          ∙ ap (λ (m : MemoryState). with_write (with_content m (m.base + c.args.k) (HasStack r))) c.self.view_is,
     )
