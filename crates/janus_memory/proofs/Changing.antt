@@ -1,5 +1,6 @@
 -- What changes of the fields do: the invariant is kept, and what is seen of them.
-use Rattle.std.proofs.Common.{◌≡◌, ◌≢◌, ℕ, suc, ◌+◌, ◌-◌, ◌<◌, ℤ, pos, List, [], ◌∷◌, ◌++◌, length, length-append, set, get_or, refl, ap, ◌∙◌, sym, subst, arith}
+use Rattle.std.proofs.Common.{◌≡◌, ◌≢◌, ℕ, suc, ◌+◌, ◌-◌, ◌<◌, ℤ, pos, List, [], ◌∷◌, ◌++◌, length, length-append, set, get_or, refl, ap, ◌∙◌, sym, subst}
+use Rattle.std.proofs.Common.{arith}
 use Rattle.std.proofs.Common.{get_or-set_other, length-set, replicate, vec_capacity}
 use Rattle.std.specs.Global.{Vec}
 use Rattle.std.specs.Vec.{with_item}
@@ -7,7 +8,8 @@ use Rattle.std.proofs.lemmas.List.{set-get_or}
 use Rattle.janus_meaning.specs.Limit.{live_stack_limit}
 use Rattle.janus_memory.specs.Lists.{list_of}
 use Rattle.janus_memory.specs.Memory.{Content, Plain, HasArray, HasStack, Gone, IsBare, amount, stack_count, value_count}
-use Rattle.janus_memory.specs.Memory.{with_number, with_content, with_write, opened, opened_from, closed, closed_from, released, released_from, carried, reached}
+use Rattle.janus_memory.specs.Memory.{with_number, with_content, with_write, opened, opened_from, closed, closed_from, released, released_from, carried}
+use Rattle.janus_memory.specs.Memory.{reached}
 use Rattle.janus_memory.specs.Stacks.{Pooled, total}
 use Rattle.janus_memory.specs.Inside.{Heap, heap_of, content_in, numbers_of, contents_of, memory_of, array_times, stack_times, AreOwned, AreCounted, IsKept}
 use Rattle.janus_memory.specs.declared.cell.Cell.{Cell}
@@ -69,7 +71,8 @@ module _ {L : Type 0} (a : Inside L) (i : IsKept a) (p j : ℕ) (l : p < length 
         record {
           owned = subst (λ s. AreOwned (length a.arrays) s a.cells.items) (sym spare) i.owned;
           counted = subst (λ xs. AreCounted t.spare t.lists xs) (sym stack-contents)
-              (owned.counted-set a.stacks.spare t.spare a.stacks.lists t.lists (contents_of (heap_of a) a.cells.items) p (HasStack (list_of t.lists j)) i.counted
+              (owned.counted-set a.stacks.spare t.spare a.stacks.lists t.lists (contents_of (heap_of a) a.cells.items) p (HasStack
+                  (list_of t.lists j)) i.counted
               place (omega (arith, ap length spare, ap stack_count was)) (omega (arith, s, ap value_count was)));
         }
 
@@ -122,7 +125,8 @@ module _ {L : Type 0} (a : Inside L) (i : IsKept a) (p j : ℕ) (l : p < length 
         ∙ ap (set (numbers_of a.cells.items) p) (sym (number-here a.cells.items p l))
         ∙ set-get_or (numbers_of a.cells.items) p (pos 0)
 
-    contents-now : (k : Held) → c.held ≡ k → contents_of (heap_of a) (set a.cells.items p c) ≡ set (contents_of (heap_of a) a.cells.items) p (content_in (heap_of a) k)
+    contents-now : (k : Held) → c.held ≡ k → contents_of (heap_of a) (set a.cells.items p c)
+        ≡ set (contents_of (heap_of a) a.cells.items) p (content_in (heap_of a) k)
     contents-now k e = contents-set (heap_of a) a.cells.items p c ∙ ap (λ k. set (contents_of (heap_of a) a.cells.items) p (content_in (heap_of a) k)) e
 
     -- what a cell had
@@ -173,7 +177,8 @@ module _ {L : Type 0} (a : Inside L) (i : IsKept a) (p j : ℕ) (l : p < length 
       open-seen h =
           let m = memory_of a in
           let less : length t.spare ≡ length a.stacks.spare - 1 = omega (arith, ap length f, length-append t.spare (j ∷ [])) in
-          ap (λ ns. record m { numbers = ns; contents = contents_of (record { arrays = a.arrays; stacks = t.lists }) (set a.cells.items p c); spare = length t.spare })
+          ap (λ ns. record m { numbers = ns; contents = contents_of (record { arrays = a.arrays; stacks = t.lists })
+              (set a.cells.items p c); spare = length t.spare })
           (numbers-left h)
           ∙ ap (λ xs. record m { contents = xs; spare = length t.spare }) open-contents
           ∙ ap (λ n. record m { contents = set m.contents p (HasStack []); spare = n }) less
@@ -206,7 +211,8 @@ module _ {L : Type 0} (a : Inside L) (i : IsKept a) (p j : ℕ) (l : p < length 
           ≡ record (memory_of a) { contents = set (memory_of a).contents p Plain; spare = (memory_of a).spare + 1 }
       close-state h =
           let m = memory_of a in
-          ap (λ ns. record m { numbers = ns; contents = contents_of (record { arrays = a.arrays; stacks = t.lists }) (set a.cells.items p c); spare = length t.spare })
+          ap (λ ns. record m { numbers = ns; contents = contents_of (record { arrays = a.arrays; stacks = t.lists })
+              (set a.cells.items p c); spare = length t.spare })
           (numbers-left h)
           ∙ ap (λ xs. record m { contents = xs; spare = length t.spare }) close-contents
           ∙ ap (λ n. record m { contents = set m.contents p Plain; spare = n }) more
@@ -221,7 +227,8 @@ module _ {L : Type 0} (a : Inside L) (i : IsKept a) (p j : ℕ) (l : p < length 
 
     -- a new array
 
-    module _ (w : held_at a.cells.items p ≡ helds.Nothing) (ls : List (List ℤ)) (m : List ℤ) (f : ls ≡ a.arrays ++ m ∷ []) (e : c.held ≡ helds.Array (length a.arrays))
+    module _ (w : held_at a.cells.items p ≡ helds.Nothing) (ls : List (List ℤ)) (m : List ℤ) (f : ls ≡ a.arrays ++ m ∷ []) (e : c.held
+        ≡ helds.Array (length a.arrays))
       where
         put-contents : contents_of (record { arrays = ls; stacks = a.stacks.lists }) (set a.cells.items p c)
             ≡ set (contents_of (heap_of a) a.cells.items) p (HasArray m)
@@ -242,7 +249,8 @@ module _ {L : Type 0} (a : Inside L) (i : IsKept a) (p j : ℕ) (l : p < length 
               owned = subst (λ n. AreOwned n a.stacks.spare (set a.cells.items p c)) long
                   (owned.array-owned (length a.arrays) a.stacks.spare a.cells.items p c i.owned l w e);
               counted = subst (AreCounted a.stacks.spare a.stacks.lists) (sym put-contents)
-                  (owned.counted-set a.stacks.spare a.stacks.spare a.stacks.lists a.stacks.lists (contents_of (heap_of a) a.cells.items) p (HasArray m) i.counted place
+                  (owned.counted-set a.stacks.spare a.stacks.spare a.stacks.lists a.stacks.lists (contents_of (heap_of a) a.cells.items) p
+                      (HasArray m) i.counted place
                   (omega (arith, ap stack_count was)) (omega (arith, ap value_count was)));
             }
 
@@ -251,7 +259,8 @@ module _ {L : Type 0} (a : Inside L) (i : IsKept a) (p j : ℕ) (l : p < length 
             ≡ with_content (memory_of a) p (HasArray m)
         put-seen h =
             let o = memory_of a in
-            ap (λ ns. record o { numbers = ns; contents = contents_of (record { arrays = ls; stacks = a.stacks.lists }) (set a.cells.items p c) }) (numbers-left h)
+            ap (λ ns. record o { numbers = ns; contents = contents_of (record { arrays = ls; stacks = a.stacks.lists }) (set a.cells.items p c) })
+                (numbers-left h)
             ∙ ap (λ xs. record o { contents = xs }) put-contents
 
     -- an array that is let go
@@ -261,7 +270,8 @@ module _ {L : Type 0} (a : Inside L) (i : IsKept a) (p j : ℕ) (l : p < length 
       freed : AreOwned (length ls) a.stacks.spare (set a.cells.items p c)
       freed = owned.release-owned (length a.arrays) (length ls) a.stacks.spare a.cells.items p j c i.owned l w e (λ n m d. (f n m d).0)
 
-      free-contents : contents_of (record { arrays = ls; stacks = a.stacks.lists }) (set a.cells.items p c) ≡ set (contents_of (heap_of a) a.cells.items) p Plain
+      free-contents : contents_of (record { arrays = ls; stacks = a.stacks.lists }) (set a.cells.items p c)
+          ≡ set (contents_of (heap_of a) a.cells.items) p Plain
       free-contents =
           let g : Heap = record { arrays = ls; stacks = a.stacks.lists } in
           same-contents (heap_of a) g (set a.cells.items p c)
@@ -285,7 +295,8 @@ module _ {L : Type 0} (a : Inside L) (i : IsKept a) (p j : ℕ) (l : p < length 
           → memory_of {L = L} (record { cells = changed; base = a.base; arrays = ls; stacks = a.stacks; writes = a.writes }) ≡ released (memory_of a) p
       free-seen h =
           let o = memory_of a in
-          ap (λ ns. record o { numbers = ns; contents = contents_of (record { arrays = ls; stacks = a.stacks.lists }) (set a.cells.items p c) }) (numbers-left h)
+          ap (λ ns. record o { numbers = ns; contents = contents_of (record { arrays = ls; stacks = a.stacks.lists }) (set a.cells.items p c) })
+              (numbers-left h)
           ∙ ap (λ xs. record o { contents = xs }) free-contents
           ∙ sym (ap (λ x. released_from x o p) (there (helds.Array j) w))
 
@@ -315,7 +326,8 @@ module _ {L : Type 0} (a : Inside L) (i : IsKept a) (from to : ℕ) (l : from < 
       ∙ ap (set (contents_of (heap_of a) a.cells.items) to)
       (ap (λ (c : Cell). content_in (heap_of a) c.held) e ∙ sym (content-here (heap_of a) a.cells.items from l)))
 
-  same-counts : (f : Content → ℕ) → ((x : Content) → IsBare x → f x ≡ 0) → amount f (contents_of (heap_of a) carried_cells) ≡ amount f (contents_of (heap_of a) a.cells.items)
+  same-counts : (f : Content → ℕ) → ((x : Content) → IsBare x → f x ≡ 0) → amount f (contents_of (heap_of a) carried_cells)
+      ≡ amount f (contents_of (heap_of a) a.cells.items)
   same-counts f z =
       let xs = contents_of (heap_of a) a.cells.items in
       ap (amount f) carry-contents
@@ -336,7 +348,8 @@ module _ {L : Type 0} (a : Inside L) (i : IsKept a) (from to : ℕ) (l : from < 
   }
 
   pub carry-seen : (x : Content) → content_in (heap_of a) left.held ≡ x → left.number ≡ pos 0
-      → memory_of {L = L} (record { cells = with_item (with_item a.cells to c) from left; base = a.base; arrays = a.arrays; stacks = a.stacks; writes = a.writes })
+      → memory_of {L = L} (record { cells = with_item (with_item a.cells to c) from left; base = a.base; arrays = a.arrays; stacks = a.stacks; writes =
+          a.writes })
       ≡ carried x (memory_of a) from to
   carry-seen x f g =
       let m = memory_of a in
@@ -347,7 +360,8 @@ module _ {L : Type 0} (a : Inside L) (i : IsKept a) (from to : ℕ) (l : from < 
 
 -- ---- more cells
 
-module _ {L : Type 0} (a : Inside L) (i : IsKept a) (n : ℕ) (v : Vec Cell) (e : v.items ≡ a.cells.items ++ replicate (n - length a.cells.items) plain_cell) where
+module _ {L : Type 0} (a : Inside L) (i : IsKept a) (n : ℕ) (v : Vec Cell) (e : v.items ≡ a.cells.items ++ replicate
+    (n - length a.cells.items) plain_cell) where
   reach-contents : contents_of (heap_of a) v.items ≡ contents_of (heap_of a) a.cells.items ++ replicate (n - length a.cells.items) Plain
   reach-contents = ap (contents_of (heap_of a)) e ∙ contents-more (heap_of a) a.cells.items (n - length a.cells.items)
 

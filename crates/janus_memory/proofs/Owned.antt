@@ -85,7 +85,8 @@ same-owned a s cs ds w f g = record {
 }
 
 -- a cell has the same as before, beside another number
-pub number-owned : (a : ℕ) (s : List ℕ) (cs : List Cell) (p : ℕ) (c : Cell) → AreOwned a s cs → p < length cs → c.held ≡ held_at cs p → AreOwned a s (set cs p c)
+pub number-owned : (a : ℕ) (s : List ℕ) (cs : List Cell) (p : ℕ) (c : Cell) → AreOwned a s cs → p < length cs → c.held ≡ held_at cs p
+    → AreOwned a s (set cs p c)
 number-owned a s cs p c w l e = same-owned a s cs (set cs p c) w
     (λ i. let z = arrays-set cs p c i l in let y = ap (array_times i) e in omega (arith, z, y))
     (λ i. let z = stacks-set cs p c i l in let y = ap (stack_times i) e in omega (arith, z, y))

@@ -32,11 +32,14 @@ module _ {L : Type 0} (a : Inside L) (m : MemoryState) (e : memory_of a ≡ m) w
   content-seen p l = ap (λ (m : MemoryState). content_at m p) (sym e) ∙ content-here (heap_of a) a.cells.items p l
 
   -- where a cell that was read has this
-  pub held-seen : (p : ℕ) (c : Cell) (k : Held) → p < length a.cells.items → c ≡ get_or a.cells.items p c → c.held ≡ k → content_at m p ≡ content_in (heap_of a) k
-  held-seen p c k l r h = content-seen p l ∙ ap (λ (c : Cell). content_in (heap_of a) c.held) (sym (read-cell a.cells.items p c l r)) ∙ ap (content_in (heap_of a)) h
+  pub held-seen : (p : ℕ) (c : Cell) (k : Held) → p < length a.cells.items → c ≡ get_or a.cells.items p c → c.held ≡ k
+      → content_at m p ≡ content_in (heap_of a) k
+  held-seen p c k l r h = content-seen p l ∙ ap (λ (c : Cell). content_in (heap_of a) c.held) (sym (read-cell a.cells.items p c l r))
+      ∙ ap (content_in (heap_of a)) h
 
   -- a stack of which no value is seen
-  pub empty-seen : (p : ℕ) (c : Cell) (j : ℕ) → p < length a.cells.items → c ≡ get_or a.cells.items p c → c.held ≡ helds.Stack j → stack_of (content_at m p) ≡ []
+  pub empty-seen : (p : ℕ) (c : Cell) (j : ℕ) → p < length a.cells.items → c ≡ get_or a.cells.items p c → c.held ≡ helds.Stack j
+      → stack_of (content_at m p) ≡ []
       → list_of a.stacks.lists j ≡ []
   empty-seen p c j l r h z = ap stack_of (sym (held-seen p c (helds.Stack j) l r h)) ∙ z
 

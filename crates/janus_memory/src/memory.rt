@@ -1,6 +1,7 @@
 //! The cells of all frames, with all arrays and stacks.
 
-ghost use Rattle.std.specs.Prelude.{◌≡◌, ◌≢◌, ◌+◌, ◌-◌, ◌<◌, ◌≤◌, ◌↔◌, ◌^◌, ℤ, List, [], ◌∷◌, ◌++◌, length, replicate, IsTrue, IfOk, IfSome, OnOk, OnErr, None, vec_capacity};
+ghost use Rattle.std.specs.Prelude.{◌≡◌, ◌≢◌, ◌+◌, ◌-◌, ◌<◌, ◌≤◌, ◌↔◌, ◌^◌, ℤ, List, [], ◌∷◌, ◌++◌, length, replicate, IsTrue, IfOk, IfSome, OnOk, OnErr};
+ghost use Rattle.std.specs.Prelude.{None, vec_capacity};
 ghost use Rattle.janus_meaning.specs.Fault.{IndexRange, TopEmpty};
 ghost use Rattle.janus_meaning.specs.Limit.{live_stack_limit, value_limit};
 ghost use Rattle.janus_meaning.specs.Store.{element};

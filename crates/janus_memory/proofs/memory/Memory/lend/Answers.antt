@@ -13,7 +13,8 @@ invariant_of-self g c =
     let n = reading.place-low a c.args.self.now c.self.view_is c.args.to c.requires.to in
     let b = subst IsBare (reading.content-seen a c.args.self.now c.self.view_is c.args.to n) c.requires.bare in
     let r = read-cell a.cells.items c.args.from c.index-cell.result.now l c.index-cell.ensures in
-    changing.carry-kept a c.self.invariant c.args.from c.args.to l n c.requires.apart b c.index-cell.result.now (record { number = pos 0; held = helds.Lent }) r tt
+    changing.carry-kept a c.self.invariant c.args.from c.args.to l n c.requires.apart b c.index-cell.result.now
+        (record { number = pos 0; held = helds.Lent }) r tt
 
 pub returns : goal.returns
 returns g c =
@@ -22,6 +23,7 @@ returns g c =
     let n = reading.place-low a c.args.self.now c.self.view_is c.args.to c.requires.to in
     let b = subst IsBare (reading.content-seen a c.args.self.now c.self.view_is c.args.to n) c.requires.bare in
     let r = read-cell a.cells.items c.args.from c.index-cell.result.now l c.index-cell.ensures in
-    changing.carry-seen a c.self.invariant c.args.from c.args.to l n c.requires.apart b c.index-cell.result.now (record { number = pos 0; held = helds.Lent }) r tt
+    changing.carry-seen a c.self.invariant c.args.from c.args.to l n c.requires.apart b c.index-cell.result.now
+        (record { number = pos 0; held = helds.Lent }) r tt
     Gone refl refl
     ∙ ap (λ m. carried Gone m c.args.from c.args.to) c.self.view_is
