@@ -2,16 +2,13 @@
 use Rattle.std.proofs.Common.{◌≡◌, ℕ, ℤ, ◌+◌, ◌-◌, ◌<◌, ◌≤◌, List, ◌∷◌, length, get_or, refl, ap, ◌∙◌, sym, subst, arith, cond}
 use Rattle.janus_meaning.specs.Fault.{Fine}
 use Rattle.janus_meaning.specs.Store.{Val, Store, pull, unbind, fill}
-use Rattle.janus_frames.specs.Cells.{stored, IsPresent, from, cell_at, value_at, Heap, AreOwned, AreBelow, AreApart, has, lent_cell, parameters}
+use Rattle.janus_frames.specs.Cells.{stored, IsPresent, from, AreBelow, AreApart, parameters}
 use Rattle.janus_frames.specs.Calls.{Enters, Returns, names_of, slots_of}
 use Rattle.janus_frames.specs.Inside.{AreFrames, AreCounted, AreNested, AreLent, state_at, callers_of}
-use Rattle.janus_frames.specs.declared.cell.Cell.{Cell}
 use Rattle.janus_frames.specs.declared.frames.OpenCall.{OpenCall}
-use Rattle.janus_frames.proofs.Among.{below-at}
-use Rattle.janus_frames.proofs.Calling.{AreMoved, AreGiven, same-cell, as-many, entered, left, lent-frame, new-present, back-present}
+use Rattle.janus_frames.proofs.Calling.{AreMoved, AreGiven, as-many, entered, left, lent-frame, new-present, back-present}
 use Rattle.janus_frames.proofs.Counted.{counted-entered, counted-left}
 use Rattle.janus_frames.proofs.Holding.{nested-same, callers-same, enough}
-use Rattle.janus_frames.proofs.Owned.{moved-owned, given-owned}
 use Rattle.janus_frames.proofs.Reading.{can-lend}
 use Rattle.janus_frames.proofs.Stored.{unbind-all, ArePresent, down}
 
@@ -56,29 +53,14 @@ module _ (old new : ℕ → Val) (base top : ℕ) (call : OpenCall) (rest : List
       ap (λ k. unbind (parameters (length (names_of call.args))) (stored (from old base) k)) (alone ∙ sym many)
       ∙ unbind-all (from old base) (length (names_of call.args))
 
-  pub left-counted : (spare : List ℕ) (ls : List (List ℤ)) (room : ℕ) → AreCounted spare ls (state_at old base top (call ∷ rest) room)
-      → AreCounted spare ls (state_at new call.base base rest room)
-  left-counted spare ls room h =
-      counted-left spare ls (state_at old base top (call ∷ rest) room) (state_at new call.base base rest room)
+  pub left-counted : (spare values room writes : ℕ) → AreCounted spare values (state_at old base top (call ∷ rest) room writes)
+      → AreCounted spare values (state_at new call.base base rest room writes)
+  left-counted spare values room writes h =
+      counted-left spare values (state_at old base top (call ∷ rest) room writes) (state_at new call.base base rest room writes)
       (record { args = names_of call.args; store = stored (from old call.base) (base - call.base) }) (callers_of old call.base rest)
       (down (from old base) (length (names_of call.args))) refl l_told left-returns h
 
-  pub left-owned : (a : ℕ) (s : List ℕ) → AreOwned a s cs top → AreOwned a s ds base
-  left-owned a s w =
-      let o = f.order in
-      let z : top ≡ base + length (slots_of call.args) = omega (arith, o, alone) in
-      given-owned a s cs ds call.base base (slots_of call.args) m (subst (AreOwned a s cs) z w)
-
 -- ---- a call is entered
-
--- cells that were moved, where more stood behind them
-pub moved-front : (cs bs ds : List Cell) (base top : ℕ) (xs : List ℕ) → AreMoved bs ds base top xs → base ≤ top → AreBelow (top - base) xs
-    → ((p : ℕ) → p < top → cell_at bs p ≡ cell_at cs p) → AreMoved old new base top xs
-moved-front cs bs ds base top xs m o b h = record {
-  before = λ p l. m.before p l ∙ h p (omega arith);
-  frame = λ k l. m.frame k l ∙ ap (cond (has xs k) lent_cell) (h (base + k) (omega arith));
-  moved = λ i l. let low = below-at (top - base) xs i b l in m.moved i l ∙ h (base + get_or xs i 0) (omega arith);
-}
 
 module _ (old new : ℕ → Val) (base top : ℕ) (call : OpenCall) (calls : List OpenCall) (f : AreFrames old base top calls)
     (at : call.base ≡ base)
@@ -124,11 +106,8 @@ module _ (old new : ℕ → Val) (base top : ℕ) (call : OpenCall) (calls : Lis
         e_callers ∙ ap (λ s. record { args = names_of call.args; store = s } ∷ callers_of old base calls) (sym e.1),
       )
 
-  pub entered-counted : (spare : List ℕ) (ls : List (List ℤ)) (room : ℕ) → AreCounted spare ls (state_at old base top calls room)
-      → AreCounted spare ls (state_at new top (top + length (slots_of call.args)) (call ∷ calls) room)
-  entered-counted spare ls room h =
-      counted-entered spare ls (state_at old base top calls room)
-      (state_at new top (top + length (slots_of call.args)) (call ∷ calls) room) (names_of call.args) (t, can) entered-enters h
-
-  pub entered-owned : (a : ℕ) (s : List ℕ) → AreOwned a s cs top → AreOwned a s ds (top + length (slots_of call.args))
-  entered-owned a s w = moved-owned a s cs ds base top (slots_of call.args) m e_can.0 e_can.1 f.order w
+  pub entered-counted : (spare values room writes : ℕ) → AreCounted spare values (state_at old base top calls room writes)
+      → AreCounted spare values (state_at new top (top + length (slots_of call.args)) (call ∷ calls) room writes)
+  entered-counted spare values room writes h =
+      counted-entered spare values (state_at old base top calls room writes)
+      (state_at new top (top + length (slots_of call.args)) (call ∷ calls) room writes) (names_of call.args) (t, can) entered-enters h

@@ -3,14 +3,9 @@ pub mod Stored
 pub mod Reading
 pub mod Moving
 pub mod Calling
-pub mod Owned
 pub mod Holding
-pub mod Pooled
-pub mod Elements
 pub mod WritesAlone
-pub mod ArrayLists
 pub mod Totals
-pub mod CellKinds
 pub mod Following
 pub mod Counted
 pub mod Sight
