@@ -1,10 +1,12 @@
 -- Frames as a call is left, and as one is entered.
 use Rattle.std.proofs.Common.{◌≡◌, ℕ, ℤ, ◌+◌, ◌-◌, ◌<◌, ◌≤◌, List, ◌∷◌, length, get_or, refl, ap, ◌∙◌, sym, subst, arith, cond}
 use Rattle.janus_meaning.specs.Fault.{Fine}
-use Rattle.janus_meaning.specs.Store.{Val, Store, pull, unbind, fill}
-use Rattle.janus_frames.specs.Cells.{stored, IsPresent, from, AreBelow, AreApart, parameters}
+use Rattle.janus_meaning.specs.Store.{Val, Lent, Store, pull, unbind, fill}
+use Rattle.janus_frames.specs.Cells.{stored, IsPresent, from, AreBelow, AreApart, has, parameters}
 use Rattle.janus_frames.specs.Calls.{Enters, Returns, names_of, slots_of}
-use Rattle.janus_frames.specs.Inside.{AreFrames, AreCounted, AreNested, AreLent, state_at, callers_of}
+use Rattle.janus_frames.specs.Inside.{AreFrames, AreCounted, AreNested, AreLent, AreIn, HoldsAlike, state_at, callers_of, frames_in}
+use Rattle.janus_frames.specs.FramesState.{stacks_there}
+use Rattle.janus_memory.specs.Memory.{MemoryState, Plain, val_at, content_at, values_among}
 use Rattle.janus_frames.specs.declared.frames.OpenCall.{OpenCall}
 use Rattle.janus_frames.proofs.Calling.{AreMoved, AreGiven, as-many, entered, left, lent-frame, new-present, back-present}
 use Rattle.janus_frames.proofs.Counted.{counted-entered, counted-left}
@@ -60,7 +62,36 @@ module _ (old new : ℕ → Val) (base top : ℕ) (call : OpenCall) (rest : List
       (record { args = names_of call.args; store = stored (from old call.base) (base - call.base) }) (callers_of old call.base rest)
       (down (from old base) (length (names_of call.args))) refl l_told left-returns h
 
+-- the memory behind that
+module _ (m n : MemoryState) (top : ℕ) (call : OpenCall) (rest : List OpenCall) (i : AreIn m top (call ∷ rest))
+    (alone : top - m.base ≡ length (slots_of call.args)) (g : AreGiven (val_at m) (val_at n) call.base m.base (slots_of call.args)) (h : HoldsAlike m n)
+    (above : (p : ℕ) → m.base ≤ p → content_at n p ≡ Plain) where
+  pub left-in : AreIn (record n { base = call.base }) m.base rest
+  left-in =
+      let x = left-counted (val_at m) (val_at n) m.base top call rest i.frames alone g m.spare (values_among m.contents) m.room m.writes i.counted in
+      let s = h.spare in
+      let v = h.values in
+      let l = h.size in
+      let o = i.frames.order in
+      let long = i.long in
+      let xs = x.stacks in
+      let xv = x.values in
+      record {
+        frames = left-frames (val_at m) (val_at n) m.base top call rest i.frames alone g;
+        counted = record { stacks = ap (λ s. s + stacks_there (state_at (val_at n) call.base m.base rest m.room m.writes)) s ∙ xs; values = v ∙ xv };
+        above = above;
+        long = omega (arith, l, o, long);
+      }
+
 -- ---- a call is entered
+
+-- values that were moved, where other cells were reached before
+pub moved-front : (old mid new : ℕ → Val) (base top : ℕ) (xs : List ℕ) → AreMoved mid new base top xs → ((p : ℕ) → mid p ≡ old p) → AreMoved old new base top xs
+moved-front old mid new base top xs m h = record {
+  before = λ p l. m.before p l ∙ h p;
+  frame = λ k l. m.frame k l ∙ ap (cond (has xs k) Lent) (h (base + k));
+  moved = λ i l. m.moved i l ∙ h (base + get_or xs i 0);
+}
 
 module _ (old new : ℕ → Val) (base top : ℕ) (call : OpenCall) (calls : List OpenCall) (f : AreFrames old base top calls)
     (at : call.base ≡ base)
@@ -111,3 +142,23 @@ module _ (old new : ℕ → Val) (base top : ℕ) (call : OpenCall) (calls : Lis
   entered-counted spare values room writes h =
       counted-entered spare values (state_at old base top calls room writes)
       (state_at new top (top + length (slots_of call.args)) (call ∷ calls) room writes) (names_of call.args) (t, can) entered-enters h
+
+-- the memory behind that
+module _ (m n : MemoryState) (top : ℕ) (call : OpenCall) (calls : List OpenCall) (i : AreIn m top calls) (at : call.base ≡ m.base) (t : List Val × Store)
+    (can : pull (names_of call.args) (frames_in m top calls).slots ≡ Fine t) (g : AreMoved (val_at m) (val_at n) m.base top (slots_of call.args))
+    (s : n.spare ≡ m.spare) (v : values_among n.contents ≡ values_among m.contents) (long : top + length (slots_of call.args) ≤ length n.numbers)
+    (above : (p : ℕ) → top + length (slots_of call.args) ≤ p → content_at n p ≡ Plain) where
+  pub entered-in : AreIn (record n { base = top }) (top + length (slots_of call.args)) (call ∷ calls)
+  entered-in =
+      let x = entered-counted (val_at m) (val_at n) m.base top call calls i.frames at t can g m.spare (values_among m.contents) m.room m.writes i.counted in
+      let xs = x.stacks in
+      let xv = x.values in
+      record {
+        frames = entered-frames (val_at m) (val_at n) m.base top call calls i.frames at t can g;
+        counted = record {
+          stacks = ap (λ s. s + stacks_there (state_at (val_at n) top (top + length (slots_of call.args)) (call ∷ calls) m.room m.writes)) s ∙ xs;
+          values = v ∙ xv;
+        };
+        above = above;
+        long = long;
+      }

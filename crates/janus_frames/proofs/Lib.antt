@@ -16,3 +16,4 @@ pub mod Opening
 pub mod Leaving
 pub mod Declared
 pub mod Inwards
+pub mod Reserving

@@ -17,7 +17,8 @@ use Rattle.janus_frames.specs.declared.frames.OpenCall.{OpenCall}
 use Rattle.janus_frames.proofs.Calling.{as-many}
 use Rattle.janus_frames.proofs.Counted.{counted-more, counted-fewer}
 use Rattle.janus_frames.proofs.Holding.{opened as opened-frames, opened-callers, opened-slots, closed, closed-callers, closed-slots, IsEnough, callers-same}
-use Rattle.janus_frames.proofs.Sight.{in-sight}
+use Rattle.janus_frames.proofs.Holding.{nested-same, enough}
+use Rattle.janus_frames.proofs.Sight.{in-sight, num-content}
 use Rattle.janus_frames.proofs.Stored.{stored-same}
 use Rattle.janus_frames.proofs.Totals.{one_stack}
 
@@ -159,6 +160,20 @@ module _ (m : MemoryState) (top n : ℕ) (calls : List OpenCall) (i : AreIn m to
       (stored-same (from (val_at (reached m n)) m.base) (from (val_at m) m.base) (top - m.base) (λ k l. reach-value m n (m.base + k)))
       (sym (callers-same (val_at m) (val_at (reached m n)) m.base (top - m.base) calls i.frames.nested (λ q l. sym (reach-value m n q))))
 
+  pub reach-in : AreIn (reached m n) top calls
+  reach-in = record {
+    frames = record {
+      order = i.frames.order;
+      present = λ k l. subst IsPresent (sym (reach-value m n (m.base + k))) (i.frames.present k l);
+      nested = nested-same (val_at m) (val_at (reached m n)) m.base (top - m.base) (top - m.base) calls i.frames.nested
+          (enough (val_at m) m.base (top - m.base) (top - m.base) calls (omega arith) i.frames.nested) (λ q l. sym (reach-value m n q));
+    };
+    counted = subst (AreCounted m.spare (values_among (reached m n).contents)) (sym reach-state)
+        (record { stacks = i.counted.stacks; values = reach-values m n ∙ i.counted.values });
+    above = λ p l. reach-content m n p ∙ i.above p l;
+    long = let a = i.long in let b = reach-more m n in omega (arith, a, b);
+  }
+
 -- ---- one fewer
 
 enough_own : (v : ℕ → Val) (b n : ℕ) (cs : List OpenCall) → own_names 0 (callers_of v b cs) < n → IsEnough (n - 1) cs
@@ -261,6 +276,21 @@ no_values n (HasArray l) p = refl
 no_values n (HasStack l) p = refl
 no_values n Gone p = absurd p
 
+-- a place is another one or behind it
+data Order (q t : ℕ) : Type 0 where
+  Same : (e : q ≡ t) → Order q t
+  More : (l : t < q) → Order q t
+
+order : (q t : ℕ) → t ≤ q → Order q t
+order zero zero h = Same refl
+order (suc q) zero h = More (omega arith)
+order zero (suc t) h = absurd (omega arith)
+order (suc q) (suc t) h = later (order q t (omega arith))
+  where
+    later : Order q t → Order (suc q) (suc t)
+    later (Same e) = Same (ap suc e)
+    later (More l) = More (omega arith)
+
 pub release-closed : (m : MemoryState) (top : ℕ) (calls : List OpenCall) → AreIn m top calls → length m.contents ≡ length m.numbers → 0 < top
     → IsPresent (val_at m (top - 1)) → held_by (val_at m (top - 1)) ≡ 0
     → IsClosed m (record m { contents = set m.contents (top - 1) Plain; spare = m.spare + one_stack (val_at m (top - 1)) }) top
@@ -276,20 +306,20 @@ release-closed m top calls i wide l p z =
       none = z;
     }
   where
-    data Order (q t : ℕ) : Type 0 where
-      Same : (e : q ≡ t) → Order q t
-      More : (l : t < q) → Order q t
-
-    order : (q t : ℕ) → t ≤ q → Order q t
-    order zero zero h = Same refl
-    order (suc q) zero h = More (omega arith)
-    order zero (suc t) h = absurd (omega arith)
-    order (suc q) (suc t) h = later (order q t (omega arith))
-      where
-        later : Order q t → Order (suc q) (suc t)
-        later (Same e) = Same (ap suc e)
-        later (More l) = More (omega arith)
-
     by : (q : ℕ) → Order q (top - 1) → top - 1 < length m.contents → get_or (set m.contents (top - 1) Plain) q Plain ≡ Plain
     by q (Same e) low = ap (λ q. get_or (set m.contents (top - 1) Plain) q Plain) e ∙ get_or-set_same m.contents (top - 1) Plain Plain low
     by q (More g) low = get_or-set_other m.contents (top - 1) q Plain Plain (λ e. omega (arith, e, g)) ∙ i.above q (omega (arith, g, l))
+
+-- a cell that is plain already
+pub close-closed : (m : MemoryState) (top : ℕ) (calls : List OpenCall) → AreIn m top calls → 0 < top → (n : ℤ) → val_at m (top - 1) ≡ Num n → IsClosed m m top
+close-closed m top calls i l n e = record {
+  same = λ q h. refl;
+  above = λ q h. by q (order q (top - 1) h);
+  stacks = let s = ap one_stack e in omega (arith, s);
+  values = refl;
+  none = ap held_by e;
+}
+  where
+    by : (q : ℕ) → Order q (top - 1) → content_at m q ≡ Plain
+    by q (Same f) = ap (content_at m) f ∙ (num-content (number_at m (top - 1)) (content_at m (top - 1)) n e).0
+    by q (More g) = i.above q (omega (arith, g, l))

@@ -270,6 +270,7 @@ impl<L: Ledger> Frames<L> {
         requires { names_there self.old < self.old.room }
         ensures { self.new ≡ with_names (Slot (slot (size_of self.old.slots)) (Num number) self.old.slots) self.old }
     {
+        self.memory.law();
         self.memory.reach(self.top + 1);
         self.memory.law();
         self.memory.keep(self.top - self.memory.base(), number);
@@ -282,6 +283,7 @@ impl<L: Ledger> Frames<L> {
         requires few { stacks_there self.old < live_stack_limit }
         ensures { self.new ≡ with_names (Slot (slot (size_of self.old.slots)) (Stk []) self.old.slots) self.old }
     {
+        self.memory.law();
         self.memory.reach(self.top + 1);
         self.memory.law();
         self.memory.open_stack(self.top - self.memory.base());
@@ -294,6 +296,7 @@ impl<L: Ledger> Frames<L> {
         ensures ok { OnOk result (self.new ≡ with_names (Slot (slot (size_of self.old.slots)) (Arr items.items) self.old.slots) self.old) }
         ensures err { OnErr result (self.new ≡ self.old) }
     {
+        self.memory.law();
         self.memory.reach(self.top + 1);
         self.memory.law();
         self.memory.put_array(self.top, items)?;
@@ -350,8 +353,8 @@ impl<L: Ledger> Frames<L> {
     {
         let slots = args.slots();
         let base = self.memory.base();
-        self.memory.reach(self.top + slots.len());
         self.memory.law();
+        self.memory.reach(self.top + slots.len());
         lend(&mut self.memory, base, self.top, slots);
         self.calls.push_reserved(OpenCall { args: *args, base });
         self.memory.set_base(self.top);
