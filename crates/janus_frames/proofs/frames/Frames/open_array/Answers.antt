@@ -1,5 +1,6 @@
 use Rattle.std.proofs.Common.{◌≡◌, ◌≢◌, ◌+◌, ◌-◌, ◌<◌, ◌≤◌, ◌^◌, ℕ, ℤ, List, [], ◌∷◌, length, map, set, get_or, refl, ap, ◌∙◌, sym, subst, arith, w32, to_z, of_z}
-use Rattle.std.specs.Prelude.{reverse}
+use Rattle.std.specs.Prelude.{reverse, OnErr, Ok, Err}
+use Rattle.std.specs.declared.result.Result.{Result}
 use Rattle.std.proofs.lemmas.Int.{to_z-of_z}
 use Rattle.std.proofs.lemmas.List.{reverse-append, length-reverse}
 use Rattle.janus_meaning.specs.Fault.{Fine}
@@ -32,6 +33,10 @@ use Rattle.janus_frames.proofs.Reserving.{room-in}
 use Rattle.janus_frames.proofs.Sight as sight
 use Rattle.janus_frames.proofs.Totals.{one_stack}
 use Rattle.janus_frames.proofs.frames.Frames.open_array.Goals as goal
+
+on_err : {T E P : Type 0} (r : Result T E) → P → OnErr r P
+on_err (Ok x) h = tt
+on_err (Err x) h = h
 
 pub overflow_add-self-inside : goal.overflow_add-self-inside
 overflow_add-self-inside g c =
@@ -104,4 +109,5 @@ returns-in_err-put_array-clause-err g c =
     let cs = reverse a.calls.items in
     let i = c.self.invariant.inside in
     let new : c.put_array.new.self ≡ (reached m (t + 1)) = c.in_err-put_array.ensures.err ∙ c.reach.ensures in
-    ap (λ n. frames_in n t cs) new ∙ opening.reach-state m t (t + 1) cs i ∙ c.self.view_is
+    let w = ap (λ n. frames_in n t cs) new ∙ opening.reach-state m t (t + 1) cs i ∙ c.self.view_is in
+    on_err c.from_residual.result w
