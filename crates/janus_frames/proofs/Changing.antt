@@ -1,13 +1,13 @@
 -- A name in sight of frames has another number, another element, or one value more or fewer on its stack.
-use Rattle.std.proofs.Common.{◌≡◌, ◌≢◌, ℕ, ℤ, ◌+◌, ◌-◌, ◌<◌, List, [], ◌∷◌, length, set, get_or, refl, ap, ◌∙◌, sym, subst, arith, pos, zero, suc, negsuc}
+use Rattle.std.proofs.Common.{◌≡◌, ◌≢◌, ℕ, ℤ, ◌+◌, ◌-◌, ◌<◌, List, [], ◌∷◌, length, refl, ap, ◌∙◌, sym, subst, arith, pos, zero, suc, negsuc}
 use Rattle.std.proofs.Common.{get_or-set_same, get_or-set_other, length-set}
 use Rattle.janus_meaning.specs.Fault.{Fine}
-use Rattle.janus_meaning.specs.Store.{Val, Num, Arr, Stk, look, cleared_val, zeros, set_element, set_nth, held_by}
+use Rattle.janus_meaning.specs.Store.{Val, Num, look, cleared_val, zeros, set_element, set_nth, held_by}
 use Rattle.janus_slots.specs.Slots.{slot}
-use Rattle.janus_memory.specs.Memory.{MemoryState, Content, Plain, HasArray, HasStack, val_of, val_at, content_at, number_at, values_among, value_count}
+use Rattle.janus_memory.specs.Memory.{MemoryState, Content, Plain, val_of, val_at, content_at, number_at, values_among, value_count}
 use Rattle.janus_memory.specs.Memory.{with_number, with_content, with_write}
 use Rattle.janus_memory.proofs.Amounts.{amount-set}
-use Rattle.janus_frames.specs.Cells.{stored, IsPresent, from}
+use Rattle.janus_frames.specs.Cells.{IsPresent}
 use Rattle.janus_frames.specs.FramesState.{HasShape}
 use Rattle.janus_frames.specs.Inside.{AreIn, frames_in}
 use Rattle.janus_frames.specs.Stores.{write}
@@ -15,7 +15,7 @@ use Rattle.janus_frames.specs.declared.frames.OpenCall.{OpenCall}
 use Rattle.janus_frames.proofs.Counted.{changed-counted}
 use Rattle.janus_frames.proofs.Holding.{changed, changed-written, changed-callers, changed-shape}
 use Rattle.janus_frames.proofs.Totals.{one_stack}
-use Rattle.janus_frames.proofs.Sight.{name-low, name-value, name-place, name-cell, number-there, array-there, stack-there}
+use Rattle.janus_frames.proofs.Sight.{name-low, name-value, name-place}
 
 -- ---- another value at one place
 

@@ -1,5 +1,5 @@
 -- The stacks that live and what they hold are counted, as names change, come and go, and as calls are entered and left.
-use Rattle.std.proofs.Common.{◌≡◌, ◌≢◌, ℕ, ℤ, ◌+◌, ◌-◌, ◌<◌, List, ◌∷◌, length, refl, ap, ◌∙◌, sym, arith}
+use Rattle.std.proofs.Common.{◌≡◌, ◌≢◌, ℕ, ◌+◌, ◌-◌, ◌<◌, List, ◌∷◌, length, refl, ap, ◌∙◌, sym, arith}
 use Rattle.janus_meaning.specs.Fault.{Fine}
 use Rattle.janus_meaning.specs.Syntax.{Name}
 use Rattle.janus_meaning.specs.Store.{Val, Lent, Store, Slot, unbind, total, held_by, held_in}

@@ -1,5 +1,5 @@
 -- Frames as a call is left, and as one is entered.
-use Rattle.std.proofs.Common.{◌≡◌, ℕ, ℤ, ◌+◌, ◌-◌, ◌<◌, ◌≤◌, List, ◌∷◌, length, get_or, refl, ap, ◌∙◌, sym, subst, arith, cond}
+use Rattle.std.proofs.Common.{◌≡◌, ℕ, ◌+◌, ◌-◌, ◌<◌, ◌≤◌, List, ◌∷◌, length, get_or, refl, ap, ◌∙◌, sym, subst, arith, cond}
 use Rattle.janus_meaning.specs.Fault.{Fine}
 use Rattle.janus_meaning.specs.Store.{Val, Lent, Store, pull, unbind, fill}
 use Rattle.janus_frames.specs.Cells.{stored, IsPresent, from, AreBelow, AreApart, has, parameters}

@@ -1,9 +1,9 @@
 -- One value more that is moved between frames.
-use Rattle.std.proofs.Common.{◌≡◌, ◌≢◌, ℕ, ℤ, pos, suc, ◌+◌, ◌<◌, Bool, true, false, ◌||◌, nat_eq, List, length, take, get_or, set, refl, ap, ◌∙◌, sym}
+use Rattle.std.proofs.Common.{◌≡◌, ◌≢◌, ℕ, pos, suc, ◌+◌, ◌<◌, Bool, true, false, ◌||◌, nat_eq, List, length, take, get_or, set, refl, ap, ◌∙◌, sym}
 use Rattle.std.proofs.Common.{subst, arith, cond, get_or-set_other, get_or-set_same, length-set}
 use Rattle.janus_meaning.specs.Store.{Val, Lent}
 use Rattle.janus_memory.specs.Memory.{MemoryState, Content, Plain, HasArray, HasStack, Gone, IsBare, val_of, val_at, content_at, number_at, carried}
-use Rattle.janus_memory.specs.Memory.{values_among, value_count}
+use Rattle.janus_memory.specs.Memory.{value_count}
 use Rattle.janus_memory.proofs.Amounts.{amount-carried}
 use Rattle.janus_frames.specs.Cells.{has, AreApart}
 use Rattle.janus_frames.specs.Inside.{HoldsAlike}
@@ -48,7 +48,8 @@ bare_values (HasArray l) b = absurd b
 bare_values (HasStack l) b = absurd b
 bare_values Gone b = refl
 
-module _ (left : Content) (m : MemoryState) (from to : ℕ) (wide : length m.contents ≡ length m.numbers) (l : from < length m.numbers) (n : to < length m.numbers)
+module _ (left : Content) (m : MemoryState) (from to : ℕ) (wide : length m.contents ≡ length m.numbers) (l : from < length m.numbers)
+    (n : to < length m.numbers)
     (d : from ≢ to) where
   e : to ≢ from
   e f = d (sym f)

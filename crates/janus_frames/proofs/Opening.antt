@@ -1,18 +1,20 @@
 -- A name more in sight of frames, and one fewer.
-use Rattle.std.proofs.Common.{◌≡◌, ℕ, ℤ, suc, ◌+◌, ◌-◌, ◌<◌, ◌≤◌, List, [], ◌∷◌, ◌++◌, length, length-append, replicate, set, get_or, pos, refl, ap, ◌∙◌, sym, subst}
+use Rattle.std.proofs.Common.{◌≡◌, ℕ, ℤ, suc, ◌+◌, ◌-◌, ◌<◌, ◌≤◌, List, [], ◌∷◌, ◌++◌, length, length-append, replicate, set, get_or, pos, refl, ap, ◌∙◌, sym}
+use Rattle.std.proofs.Common.{subst}
 use Rattle.std.proofs.Common.{arith, get_or-set_same, get_or-set_other, length-set, zero}
 use Rattle.std.proofs.lemmas.List.{set-get_or}
 use Rattle.janus_meaning.specs.Syntax.{Name}
 use Rattle.janus_meaning.specs.Store.{Val, Num, Arr, Stk, Lent, Store, Slot, cleared_val, held_by}
 use Rattle.janus_meaning.specs.World.{size_of}
 use Rattle.janus_slots.specs.Slots.{slot}
-use Rattle.janus_memory.specs.Memory.{MemoryState, Content, Plain, HasArray, HasStack, Gone, val_of, val_at, content_at, number_at, stack_of, values_among, value_count}
-use Rattle.janus_memory.specs.Memory.{reached, with_number, with_content, opened, opened_from, released, released_from}
+use Rattle.janus_memory.specs.Memory.{MemoryState, Content, Plain, HasArray, HasStack, Gone, val_of, val_at, content_at, number_at, stack_of, values_among}
+use Rattle.janus_memory.specs.Memory.{value_count}
+use Rattle.janus_memory.specs.Memory.{reached, with_number, opened, opened_from, released, released_from}
 use Rattle.janus_memory.proofs.Amounts.{amount-set, amount-none}
 use Rattle.janus_frames.specs.Cells.{stored, IsPresent, from}
 use Rattle.janus_frames.specs.Calls.{Caller, own_names, slots_of}
 use Rattle.janus_frames.specs.FramesState.{FramesState, with_names}
-use Rattle.janus_frames.specs.Inside.{AreIn, frames_in, AreFrames, AreCounted, state_at, callers_of}
+use Rattle.janus_frames.specs.Inside.{AreIn, frames_in, AreCounted, callers_of}
 use Rattle.janus_frames.specs.declared.frames.OpenCall.{OpenCall}
 use Rattle.janus_frames.proofs.Calling.{as-many}
 use Rattle.janus_frames.proofs.Counted.{counted-more, counted-fewer}

@@ -1,5 +1,5 @@
 -- Frames in a memory that has taken more room.
-use Rattle.std.proofs.Common.{◌≡◌, ℕ, List}
+use Rattle.std.proofs.Common.{ℕ, List}
 use Rattle.janus_memory.specs.Memory.{MemoryState}
 use Rattle.janus_frames.specs.Inside.{AreIn}
 use Rattle.janus_frames.specs.declared.frames.OpenCall.{OpenCall}

@@ -1,5 +1,5 @@
 -- A name in sight of frames: where its cell is, and what that has.
-use Rattle.std.proofs.Common.{◌≡◌, ℕ, ℤ, ◌+◌, ◌-◌, ◌<◌, pos, List, length, refl, arith}
+use Rattle.std.proofs.Common.{◌≡◌, ℕ, ℤ, ◌+◌, ◌-◌, ◌<◌, List, length, refl, arith}
 use Rattle.janus_meaning.specs.Fault.{Fine}
 use Rattle.janus_meaning.specs.Store.{Val, Num, Arr, Stk, Lent, look}
 use Rattle.janus_meaning.specs.World.{size_of}

@@ -68,7 +68,11 @@ impl<L: Ledger> Frames<L> {
     /// # Errors
     ///
     /// `AllocError` where there is no memory.
-    pub(crate) fn new(alloc: Global, room: usize, blank: Blank) -> Result<(Frames<L>, Tally<L>), AllocError>
+    pub(crate) fn new(
+        alloc: Global,
+        room: usize,
+        blank: Blank,
+    ) -> Result<(Frames<L>, Tally<L>), AllocError>
         requires name { blank.name ≡ L.name }
         requires parts { blank.parts ≡ L.parts }
         requires two { 1 < L.parts }

@@ -1,5 +1,4 @@
-use Rattle.std.proofs.Common.{◌≡◌, ◌≢◌, ◌<◌, ◌≤◌, ◌+◌, ◌-◌, ℕ, Bool, true, false, nat_eq, length, get_or, refl, ap, arith, sym, subst, ◌∙◌, below_more}
-use Rattle.janus_meaning.specs.Store.{Lent}
+use Rattle.std.proofs.Common.{◌≡◌, ◌≢◌, ◌<◌, ◌+◌, ◌-◌, ℕ, Bool, true, false, nat_eq, length, get_or, refl, ap, arith, sym, subst, ◌∙◌, below_more}
 use Rattle.janus_memory.specs.Memory.{MemoryState, Plain, IsBare, content_at, number_at, val_at, carried}
 use Rattle.janus_frames.specs.Inside.{HoldsAlike}
 use Rattle.janus_frames.proofs.Among.{below-at, not-equal, equal, apart-at, has-less, none-before}

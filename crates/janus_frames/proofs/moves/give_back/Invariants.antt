@@ -1,4 +1,4 @@
-use Rattle.std.proofs.Common.{◌≡◌, ◌<◌, ◌≤◌, ◌+◌, ◌-◌, ℕ, length, take, get_or, false}
+use Rattle.std.proofs.Common.{◌≡◌, ◌<◌, ◌≤◌, ◌+◌, ◌-◌, ℕ, take, get_or, false}
 use Rattle.janus_memory.specs.Memory.{Plain, content_at, val_at}
 use Rattle.janus_frames.specs.Cells.{has}
 use Rattle.janus_frames.specs.Inside.{HoldsAlike}

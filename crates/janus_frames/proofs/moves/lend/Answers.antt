@@ -1,5 +1,4 @@
-use Rattle.std.proofs.Common.{◌≡◌, ◌≢◌, ◌<◌, ◌+◌, ◌-◌, ℕ, length, get_or, refl, ap, arith, sym, subst, ◌∙◌, below_more}
-use Rattle.janus_meaning.specs.Store.{Lent}
+use Rattle.std.proofs.Common.{◌≡◌, ◌≢◌, ◌<◌, ◌+◌, ◌-◌, ℕ, length, get_or, ap, arith, sym, subst, ◌∙◌, below_more}
 use Rattle.janus_memory.specs.Memory.{MemoryState, Gone, IsBare, content_at, val_at}
 use Rattle.janus_frames.specs.Inside.{HoldsAlike}
 use Rattle.janus_frames.proofs.Among.{below-at}

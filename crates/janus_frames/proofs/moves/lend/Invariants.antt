@@ -1,4 +1,4 @@
-use Rattle.std.proofs.Common.{◌≡◌, ◌<◌, ◌≤◌, ◌+◌, ◌-◌, ℕ, length, cond, take, get_or}
+use Rattle.std.proofs.Common.{◌≡◌, ◌<◌, ◌≤◌, ◌+◌, ◌-◌, ℕ, cond, take, get_or}
 use Rattle.janus_meaning.specs.Store.{Lent}
 use Rattle.janus_memory.specs.Memory.{Plain, content_at, val_at}
 use Rattle.janus_frames.specs.Cells.{has}

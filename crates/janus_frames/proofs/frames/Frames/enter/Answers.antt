@@ -1,36 +1,22 @@
-use Rattle.std.proofs.Common.{◌≡◌, ◌≢◌, ◌+◌, ◌-◌, ◌<◌, ◌≤◌, ◌^◌, ℕ, ℤ, List, [], ◌∷◌, length, map, set, get_or, refl, ap, ◌∙◌, sym, subst, arith, w32, to_z, of_z}
+use Rattle.std.proofs.Common.{◌≡◌, ◌+◌, ◌-◌, ◌≤◌, ℕ, [], ◌∷◌, length, map, ap, ◌∙◌, sym, subst, arith}
 use Rattle.std.specs.Prelude.{reverse}
-use Rattle.std.proofs.lemmas.Int.{to_z-of_z}
 use Rattle.std.proofs.lemmas.List.{reverse-append, length-reverse}
 use Rattle.janus_meaning.specs.Fault.{Fine}
-use Rattle.janus_meaning.specs.Syntax.{Name}
-use Rattle.janus_meaning.specs.Store.{Store as Values, Val, Num, Arr, Stk, Slot, look, element, set_element, pull, cleared_val, held_by}
-use Rattle.janus_meaning.specs.Value.{first}
-use Rattle.janus_meaning.specs.World.{size_of}
-use Rattle.janus_meaning.proofs.Results.{fine_inj}
+use Rattle.janus_meaning.specs.Store.{pull}
 use Rattle.janus_slots.specs.Slots.{slot}
-use Rattle.janus_memory.specs.Memory.{MemoryState, Content, Plain, HasArray, HasStack, Gone, IsHere, val_at, content_at, number_at, array_of, stack_of, element_set}
-use Rattle.janus_memory.specs.Memory.{pushed, with_number, with_content, with_write, reached, opened, released, values_among}
-use Rattle.janus_memory.specs.Values.{kind_of}
-use Rattle.janus_frames.specs.Cells.{from, stored, IsPresent, AreBelow, AreApart, has}
-use Rattle.janus_frames.specs.Calls.{given_back, own_names, slots_of, names_of, AreAlone, Enters, Returns}
-use Rattle.janus_frames.specs.FramesState.{FramesState, HasShape, names_there, stacks_there, with_names}
-use Rattle.janus_frames.specs.Inside.{frames_in, frames_of, AreIn, HoldsAlike, AreFrames}
-use Rattle.janus_frames.specs.Shown.{IsStored, through, outer_count, AreLow}
-use Rattle.janus_frames.specs.Stores.{write, rest_of}
+use Rattle.janus_memory.specs.Memory.{MemoryState, Plain, val_at, content_at}
+use Rattle.janus_memory.specs.Memory.{reached, values_among}
+use Rattle.janus_frames.specs.Cells.{from, AreBelow, AreApart}
+use Rattle.janus_frames.specs.Calls.{slots_of, Enters}
+use Rattle.janus_frames.specs.FramesState.{FramesState, names_there}
+use Rattle.janus_frames.specs.Inside.{frames_in, AreIn}
 use Rattle.janus_frames.specs.declared.frames.OpenCall.{OpenCall}
-use Rattle.janus_frames.proofs.Calling.{AreMoved, AreGiven, as-many}
-use Rattle.janus_frames.proofs.Changing as changing
-use Rattle.janus_frames.proofs.Following.{given-back-is, through-present, calls-low}
+use Rattle.janus_frames.proofs.Calling.{AreMoved}
 use Rattle.janus_frames.proofs.Holding.{many-callers}
-use Rattle.janus_frames.proofs.Inwards as inwards
 use Rattle.janus_frames.proofs.Leaving as leaving
-use Rattle.janus_frames.proofs.Moving as moving
 use Rattle.janus_frames.proofs.Opening as opening
-use Rattle.janus_frames.proofs.Reading.{look-there, can-lend, size-stored}
-use Rattle.janus_frames.proofs.Reserving.{room-in}
+use Rattle.janus_frames.proofs.Reading.{can-lend}
 use Rattle.janus_frames.proofs.Sight as sight
-use Rattle.janus_frames.proofs.Totals.{one_stack}
 use Rattle.janus_frames.proofs.frames.Frames.enter.Goals as goal
 
 pub overflow_add-self-inside : goal.overflow_add-self-inside
@@ -334,4 +320,5 @@ returns-clause-unwritten g c =
     let above : (p : ℕ) → t + length xs ≤ p → content_at n p ≡ Plain = λ p l. c.lend.ensures.above p (omega (arith, l, many)) in
     let z : t + length xs ≡ end = ap (λ n. t + n) (sym many) in
     let memory : c.set_base.new.self ≡ record n { base = t } = c.set_base.ensures in
-    ap (λ (n : MemoryState). n.writes) memory ∙ k.writes ∙ ap (λ (r : MemoryState). r.writes) c.reach.ensures ∙ ap (λ (h : FramesState). h.writes) c.self.view_is
+    ap (λ (n : MemoryState). n.writes) memory ∙ k.writes ∙ ap (λ (r : MemoryState). r.writes) c.reach.ensures
+        ∙ ap (λ (h : FramesState). h.writes) c.self.view_is

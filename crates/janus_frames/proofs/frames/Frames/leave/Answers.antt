@@ -1,36 +1,14 @@
-use Rattle.std.proofs.Common.{◌≡◌, ◌≢◌, ◌+◌, ◌-◌, ◌<◌, ◌≤◌, ◌^◌, ℕ, ℤ, List, [], ◌∷◌, length, map, set, get_or, refl, ap, ◌∙◌, sym, subst, arith, w32, to_z, of_z}
+use Rattle.std.proofs.Common.{◌≡◌, ◌-◌, ◌≤◌, ℕ, [], ◌∷◌, length, ap, ◌∙◌, sym, subst, arith}
 use Rattle.std.specs.Prelude.{reverse}
-use Rattle.std.proofs.lemmas.Int.{to_z-of_z}
-use Rattle.std.proofs.lemmas.List.{reverse-append, length-reverse}
-use Rattle.janus_meaning.specs.Fault.{Fine}
-use Rattle.janus_meaning.specs.Syntax.{Name}
-use Rattle.janus_meaning.specs.Store.{Store as Values, Val, Num, Arr, Stk, Slot, look, element, set_element, pull, cleared_val, held_by}
-use Rattle.janus_meaning.specs.Value.{first}
-use Rattle.janus_meaning.specs.World.{size_of}
-use Rattle.janus_meaning.proofs.Results.{fine_inj}
-use Rattle.janus_slots.specs.Slots.{slot}
-use Rattle.janus_memory.specs.Memory.{MemoryState, Content, Plain, HasArray, HasStack, Gone, IsHere, val_at, content_at, number_at, array_of, stack_of, element_set}
-use Rattle.janus_memory.specs.Memory.{pushed, with_number, with_content, with_write, reached, opened, released, values_among}
-use Rattle.janus_memory.specs.Values.{kind_of}
-use Rattle.janus_frames.specs.Cells.{from, stored, IsPresent, AreBelow, AreApart, has}
-use Rattle.janus_frames.specs.Calls.{given_back, own_names, slots_of, names_of, AreAlone, Enters, Returns}
-use Rattle.janus_frames.specs.FramesState.{FramesState, HasShape, names_there, stacks_there, with_names}
-use Rattle.janus_frames.specs.Inside.{frames_in, frames_of, AreIn, HoldsAlike, AreFrames}
-use Rattle.janus_frames.specs.Shown.{IsStored, through, outer_count, AreLow}
-use Rattle.janus_frames.specs.Stores.{write, rest_of}
-use Rattle.janus_frames.specs.declared.frames.OpenCall.{OpenCall}
-use Rattle.janus_frames.proofs.Calling.{AreMoved, AreGiven, as-many}
-use Rattle.janus_frames.proofs.Changing as changing
-use Rattle.janus_frames.proofs.Following.{given-back-is, through-present, calls-low}
-use Rattle.janus_frames.proofs.Holding.{many-callers}
-use Rattle.janus_frames.proofs.Inwards as inwards
+use Rattle.std.proofs.lemmas.List.{reverse-append}
+use Rattle.janus_memory.specs.Memory.{MemoryState, Plain, val_at, content_at}
+use Rattle.janus_frames.specs.Cells.{from, AreBelow, AreApart, has}
+use Rattle.janus_frames.specs.Calls.{slots_of, AreAlone, Returns}
+use Rattle.janus_frames.specs.FramesState.{FramesState}
+use Rattle.janus_frames.specs.Inside.{frames_in, AreIn}
+use Rattle.janus_frames.proofs.Calling.{AreGiven, as-many}
 use Rattle.janus_frames.proofs.Leaving as leaving
-use Rattle.janus_frames.proofs.Moving as moving
-use Rattle.janus_frames.proofs.Opening as opening
-use Rattle.janus_frames.proofs.Reading.{look-there, can-lend, size-stored}
-use Rattle.janus_frames.proofs.Reserving.{room-in}
-use Rattle.janus_frames.proofs.Sight as sight
-use Rattle.janus_frames.proofs.Totals.{one_stack}
+use Rattle.janus_frames.proofs.Reading.{size-stored}
 use Rattle.janus_frames.proofs.frames.Frames.leave.Goals as goal
 
 pub give_back-requires-clause-order : goal.give_back-requires-clause-order
@@ -201,7 +179,8 @@ invariant_of-self g c =
     let long = i.long in
     let w = c.give_back.new.memory in
     let given : AreGiven (val_at m) (val_at w) call.base m.base xs =
-    subst (AreGiven (val_at m) (val_at w) call.base m.base) slice (subst (λ b. AreGiven (val_at m) (val_at w) call.base b c.slots.result.now) c.base-base.ensures
+    subst (AreGiven (val_at m) (val_at w) call.base m.base) slice (subst (λ b. AreGiven (val_at m)
+        (val_at w) call.base b c.slots.result.now) c.base-base.ensures
     (record { before = c.give_back.ensures.before; frame = c.give_back.ensures.frame; moved = c.give_back.ensures.moved })) in
     let above : (p : ℕ) → m.base ≤ p → content_at w p ≡ Plain = λ p l. c.give_back.ensures.above p (omega (arith, l, c.base-base.ensures)) in
     let memory : c.set_base.new.self ≡ record w { base = call.base } = c.set_base.ensures in
@@ -237,7 +216,8 @@ returns-clause-left g c =
     let long = i.long in
     let w = c.give_back.new.memory in
     let given : AreGiven (val_at m) (val_at w) call.base m.base xs =
-    subst (AreGiven (val_at m) (val_at w) call.base m.base) slice (subst (λ b. AreGiven (val_at m) (val_at w) call.base b c.slots.result.now) c.base-base.ensures
+    subst (AreGiven (val_at m) (val_at w) call.base m.base) slice (subst (λ b. AreGiven (val_at m)
+        (val_at w) call.base b c.slots.result.now) c.base-base.ensures
     (record { before = c.give_back.ensures.before; frame = c.give_back.ensures.frame; moved = c.give_back.ensures.moved })) in
     let above : (p : ℕ) → m.base ≤ p → content_at w p ≡ Plain = λ p l. c.give_back.ensures.above p (omega (arith, l, c.base-base.ensures)) in
     let memory : c.set_base.new.self ≡ record w { base = call.base } = c.set_base.ensures in
@@ -246,7 +226,8 @@ returns-clause-left g c =
     let old = frames_in m t (call ∷ rest) in
     let e1 = subst (λ q. Returns old.callers old.slots (frames_in (record w { base = call.base }) q rest).slots
     (frames_in (record w { base = call.base }) q rest).callers) (sym c.base-base.ensures) after in
-    let e2 = subst (λ n. Returns old.callers old.slots (frames_in n c.base-base.result rest).slots (frames_in n c.base-base.result rest).callers) (sym memory) e1 in
+    let e2 = subst (λ n. Returns old.callers old.slots (frames_in n c.base-base.result rest).slots (frames_in n c.base-base.result rest).callers)
+        (sym memory) e1 in
     let new = frames_in c.set_base.new.self c.base-base.result rest in
     subst (λ (h : FramesState). Returns h.callers h.slots new.slots new.callers) c.self.view_is
     (subst (λ cs. Returns (frames_in m t cs).callers (frames_in m t cs).slots new.slots new.callers) (sym calls) e2)
@@ -275,7 +256,8 @@ returns-clause-room g c =
     let long = i.long in
     let w = c.give_back.new.memory in
     let given : AreGiven (val_at m) (val_at w) call.base m.base xs =
-    subst (AreGiven (val_at m) (val_at w) call.base m.base) slice (subst (λ b. AreGiven (val_at m) (val_at w) call.base b c.slots.result.now) c.base-base.ensures
+    subst (AreGiven (val_at m) (val_at w) call.base m.base) slice (subst (λ b. AreGiven (val_at m)
+        (val_at w) call.base b c.slots.result.now) c.base-base.ensures
     (record { before = c.give_back.ensures.before; frame = c.give_back.ensures.frame; moved = c.give_back.ensures.moved })) in
     let above : (p : ℕ) → m.base ≤ p → content_at w p ≡ Plain = λ p l. c.give_back.ensures.above p (omega (arith, l, c.base-base.ensures)) in
     let memory : c.set_base.new.self ≡ record w { base = call.base } = c.set_base.ensures in
@@ -306,7 +288,8 @@ returns-clause-unwritten g c =
     let long = i.long in
     let w = c.give_back.new.memory in
     let given : AreGiven (val_at m) (val_at w) call.base m.base xs =
-    subst (AreGiven (val_at m) (val_at w) call.base m.base) slice (subst (λ b. AreGiven (val_at m) (val_at w) call.base b c.slots.result.now) c.base-base.ensures
+    subst (AreGiven (val_at m) (val_at w) call.base m.base) slice (subst (λ b. AreGiven (val_at m)
+        (val_at w) call.base b c.slots.result.now) c.base-base.ensures
     (record { before = c.give_back.ensures.before; frame = c.give_back.ensures.frame; moved = c.give_back.ensures.moved })) in
     let above : (p : ℕ) → m.base ≤ p → content_at w p ≡ Plain = λ p l. c.give_back.ensures.above p (omega (arith, l, c.base-base.ensures)) in
     let memory : c.set_base.new.self ≡ record w { base = call.base } = c.set_base.ensures in

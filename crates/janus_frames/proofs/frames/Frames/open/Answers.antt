@@ -1,36 +1,16 @@
-use Rattle.std.proofs.Common.{◌≡◌, ◌≢◌, ◌+◌, ◌-◌, ◌<◌, ◌≤◌, ◌^◌, ℕ, ℤ, List, [], ◌∷◌, length, map, set, get_or, refl, ap, ◌∙◌, sym, subst, arith, w32, to_z, of_z}
+use Rattle.std.proofs.Common.{◌≡◌, ◌+◌, ◌-◌, length, set, ap, ◌∙◌, sym, subst, arith, w32, to_z}
+use Rattle.std.proofs.Common.{of_z}
 use Rattle.std.specs.Prelude.{reverse}
 use Rattle.std.proofs.lemmas.Int.{to_z-of_z}
-use Rattle.std.proofs.lemmas.List.{reverse-append, length-reverse}
-use Rattle.janus_meaning.specs.Fault.{Fine}
-use Rattle.janus_meaning.specs.Syntax.{Name}
-use Rattle.janus_meaning.specs.Store.{Store as Values, Val, Num, Arr, Stk, Slot, look, element, set_element, pull, cleared_val, held_by}
-use Rattle.janus_meaning.specs.Value.{first}
+use Rattle.janus_meaning.specs.Store.{Num, Slot}
 use Rattle.janus_meaning.specs.World.{size_of}
-use Rattle.janus_meaning.proofs.Results.{fine_inj}
 use Rattle.janus_slots.specs.Slots.{slot}
-use Rattle.janus_memory.specs.Memory.{MemoryState, Content, Plain, HasArray, HasStack, Gone, IsHere, val_at, content_at, number_at, array_of, stack_of, element_set}
-use Rattle.janus_memory.specs.Memory.{pushed, with_number, with_content, with_write, reached, opened, released, values_among}
-use Rattle.janus_memory.specs.Values.{kind_of}
-use Rattle.janus_frames.specs.Cells.{from, stored, IsPresent, AreBelow, AreApart}
-use Rattle.janus_frames.specs.Calls.{given_back, own_names, slots_of, names_of, AreAlone, Enters, Returns}
-use Rattle.janus_frames.specs.FramesState.{FramesState, HasShape, names_there, stacks_there, with_names}
-use Rattle.janus_frames.specs.Inside.{frames_in, frames_of, AreIn, HoldsAlike, AreFrames}
-use Rattle.janus_frames.specs.Shown.{IsStored, through, outer_count, AreLow}
-use Rattle.janus_frames.specs.Stores.{write, rest_of}
-use Rattle.janus_frames.specs.declared.frames.OpenCall.{OpenCall}
-use Rattle.janus_frames.proofs.Calling.{AreMoved, AreGiven, as-many}
-use Rattle.janus_frames.proofs.Changing as changing
-use Rattle.janus_frames.proofs.Following.{given-back-is, through-present, calls-low}
-use Rattle.janus_frames.proofs.Holding.{many-callers}
-use Rattle.janus_frames.proofs.Inwards as inwards
-use Rattle.janus_frames.proofs.Leaving as leaving
-use Rattle.janus_frames.proofs.Moving as moving
+use Rattle.janus_memory.specs.Memory.{MemoryState}
+use Rattle.janus_memory.specs.Memory.{with_number, reached}
+use Rattle.janus_frames.specs.FramesState.{FramesState, names_there, with_names}
+use Rattle.janus_frames.specs.Inside.{frames_in, AreIn}
 use Rattle.janus_frames.proofs.Opening as opening
-use Rattle.janus_frames.proofs.Reading.{look-there, can-lend, size-stored}
-use Rattle.janus_frames.proofs.Reserving.{room-in}
 use Rattle.janus_frames.proofs.Sight as sight
-use Rattle.janus_frames.proofs.Totals.{one_stack}
 use Rattle.janus_frames.proofs.frames.Frames.open.Goals as goal
 
 pub overflow_add-self-inside : goal.overflow_add-self-inside
@@ -66,10 +46,12 @@ invariant_of-self g c =
     let at : r.base + (t - c.base.result) ≡ t = omega (arith, o, c.base.ensures, ap (λ (m : MemoryState). m.base) c.reach.ensures) in
     let wide = subst (λ (r : MemoryState). length r.contents ≡ length r.numbers) c.reach.ensures c.law-2.ensures.contents in
     let z : to_z w32 (of_z w32 c.args.number) ≡ c.args.number = to_z-of_z w32 c.args.number c.ranges.number in
-    let new : c.keep.new.self ≡ with_number (reached m (t + 1)) t c.args.number = c.keep.ensures ∙ ap (λ p. with_number r p (to_z w32 (of_z w32 c.args.number))) at
+    let new : c.keep.new.self ≡ with_number (reached m (t + 1)) t c.args.number = c.keep.ensures
+        ∙ ap (λ p. with_number r p (to_z w32 (of_z w32 c.args.number))) at
     ∙ ap (λ r. with_number r t (to_z w32 (of_z w32 c.args.number))) c.reach.ensures ∙ ap (with_number (reached m (t + 1)) t) z in
     record {
-      inside = subst (λ n. AreIn n (t + 1) cs) (sym new) (opening.more-in m t cs i (set (reached m (t + 1)).numbers t c.args.number) (reached m (t + 1)).contents m.spare (Num c.args.number) (opening.number-opened m t cs i wide c.args.number));
+      inside = subst (λ n. AreIn n (t + 1) cs) (sym new) (opening.more-in m t cs i (set (reached m (t + 1)).numbers t c.args.number) (reached m
+          (t + 1)).contents m.spare (Num c.args.number) (opening.number-opened m t cs i wide c.args.number));
       call_room = c.self.invariant.call_room;
     }
 
@@ -85,7 +67,9 @@ returns g c =
     let at : r.base + (t - c.base.result) ≡ t = omega (arith, o, c.base.ensures, ap (λ (m : MemoryState). m.base) c.reach.ensures) in
     let wide = subst (λ (r : MemoryState). length r.contents ≡ length r.numbers) c.reach.ensures c.law-2.ensures.contents in
     let z : to_z w32 (of_z w32 c.args.number) ≡ c.args.number = to_z-of_z w32 c.args.number c.ranges.number in
-    let new : c.keep.new.self ≡ with_number (reached m (t + 1)) t c.args.number = c.keep.ensures ∙ ap (λ p. with_number r p (to_z w32 (of_z w32 c.args.number))) at
+    let new : c.keep.new.self ≡ with_number (reached m (t + 1)) t c.args.number = c.keep.ensures
+        ∙ ap (λ p. with_number r p (to_z w32 (of_z w32 c.args.number))) at
     ∙ ap (λ r. with_number r t (to_z w32 (of_z w32 c.args.number))) c.reach.ensures ∙ ap (with_number (reached m (t + 1)) t) z in
-    ap (λ n. frames_in n (t + 1) cs) new ∙ opening.more-state m t cs i (set (reached m (t + 1)).numbers t c.args.number) (reached m (t + 1)).contents m.spare (Num c.args.number) (opening.number-opened m t cs i wide c.args.number)
+    ap (λ n. frames_in n (t + 1) cs) new ∙ opening.more-state m t cs i (set (reached m (t + 1)).numbers t c.args.number) (reached m
+        (t + 1)).contents m.spare (Num c.args.number) (opening.number-opened m t cs i wide c.args.number)
     ∙ ap (λ (h : FramesState). with_names (Slot (slot (size_of h.slots)) (Num c.args.number) h.slots) h) c.self.view_is

@@ -1,37 +1,15 @@
-use Rattle.std.proofs.Common.{◌≡◌, ◌≢◌, ◌+◌, ◌-◌, ◌<◌, ◌≤◌, ◌^◌, ℕ, ℤ, List, [], ◌∷◌, length, map, set, get_or, refl, ap, ◌∙◌, sym, subst, arith, w32, to_z, of_z}
+use Rattle.std.proofs.Common.{◌≡◌, ◌+◌, length, set, refl, ap, ◌∙◌, sym, subst, arith}
 use Rattle.std.specs.Prelude.{reverse, OnErr, Ok, Err}
 use Rattle.std.specs.declared.result.Result.{Result}
-use Rattle.std.proofs.lemmas.Int.{to_z-of_z}
-use Rattle.std.proofs.lemmas.List.{reverse-append, length-reverse}
-use Rattle.janus_meaning.specs.Fault.{Fine}
-use Rattle.janus_meaning.specs.Syntax.{Name}
-use Rattle.janus_meaning.specs.Store.{Store as Values, Val, Num, Arr, Stk, Slot, look, element, set_element, pull, cleared_val, held_by}
-use Rattle.janus_meaning.specs.Value.{first}
+use Rattle.janus_meaning.specs.Store.{Arr, Slot}
 use Rattle.janus_meaning.specs.World.{size_of}
-use Rattle.janus_meaning.proofs.Results.{fine_inj}
 use Rattle.janus_slots.specs.Slots.{slot}
-use Rattle.janus_memory.specs.Memory.{MemoryState, Content, Plain, HasArray, HasStack, Gone, IsHere, val_at, content_at, number_at, array_of, stack_of, element_set}
-use Rattle.janus_memory.specs.Memory.{pushed, with_number, with_content, with_write, reached, opened, released, values_among}
-use Rattle.janus_memory.specs.Values.{kind_of}
-use Rattle.janus_frames.specs.Cells.{from, stored, IsPresent, AreBelow, AreApart}
-use Rattle.janus_frames.specs.Calls.{given_back, own_names, slots_of, names_of, AreAlone, Enters, Returns}
-use Rattle.janus_frames.specs.FramesState.{FramesState, HasShape, names_there, stacks_there, with_names}
-use Rattle.janus_frames.specs.Inside.{frames_in, frames_of, AreIn, HoldsAlike, AreFrames}
-use Rattle.janus_frames.specs.Shown.{IsStored, through, outer_count, AreLow}
-use Rattle.janus_frames.specs.Stores.{write, rest_of}
-use Rattle.janus_frames.specs.declared.frames.OpenCall.{OpenCall}
-use Rattle.janus_frames.proofs.Calling.{AreMoved, AreGiven, as-many}
-use Rattle.janus_frames.proofs.Changing as changing
-use Rattle.janus_frames.proofs.Following.{given-back-is, through-present, calls-low}
-use Rattle.janus_frames.proofs.Holding.{many-callers}
-use Rattle.janus_frames.proofs.Inwards as inwards
-use Rattle.janus_frames.proofs.Leaving as leaving
-use Rattle.janus_frames.proofs.Moving as moving
+use Rattle.janus_memory.specs.Memory.{MemoryState, HasArray}
+use Rattle.janus_memory.specs.Memory.{with_content, reached}
+use Rattle.janus_frames.specs.FramesState.{FramesState, names_there, with_names}
+use Rattle.janus_frames.specs.Inside.{frames_in, AreIn}
 use Rattle.janus_frames.proofs.Opening as opening
-use Rattle.janus_frames.proofs.Reading.{look-there, can-lend, size-stored}
-use Rattle.janus_frames.proofs.Reserving.{room-in}
 use Rattle.janus_frames.proofs.Sight as sight
-use Rattle.janus_frames.proofs.Totals.{one_stack}
 use Rattle.janus_frames.proofs.frames.Frames.open_array.Goals as goal
 
 on_err : {T E P : Type 0} (r : Result T E) → P → OnErr r P
@@ -72,7 +50,9 @@ invariant_of-self-2 g c =
     let new : c.put_array.new.self ≡ record (reached m (t + 1)) { contents = set (reached m (t + 1)).contents t (HasArray c.args.items.items) } =
     c.in_ok-put_array.ensures.ok ∙ ap (λ r. with_content r t (HasArray c.args.items.items)) c.reach.ensures in
     record {
-      inside = subst (λ n. AreIn n (t + 1) cs) (sym new) (opening.more-in m t cs i (reached m (t + 1)).numbers (set (reached m (t + 1)).contents t (HasArray c.args.items.items)) m.spare (Arr c.args.items.items) (opening.content-opened m t cs i wide (HasArray c.args.items.items) (Arr c.args.items.items) refl tt refl refl m.spare (omega arith)));
+      inside = subst (λ n. AreIn n (t + 1) cs) (sym new) (opening.more-in m t cs i (reached m (t + 1)).numbers (set (reached m (t + 1)).contents t
+          (HasArray c.args.items.items)) m.spare (Arr c.args.items.items) (opening.content-opened m t cs i wide (HasArray c.args.items.items)
+              (Arr c.args.items.items) refl tt refl refl m.spare (omega arith)));
       call_room = c.self.invariant.call_room;
     }
 
@@ -88,7 +68,9 @@ returns-clause-ok g c =
     let wide = subst (λ (r : MemoryState). length r.contents ≡ length r.numbers) c.reach.ensures c.law-2.ensures.contents in
     let new : c.put_array.new.self ≡ record (reached m (t + 1)) { contents = set (reached m (t + 1)).contents t (HasArray c.args.items.items) } =
     c.in_ok-put_array.ensures.ok ∙ ap (λ r. with_content r t (HasArray c.args.items.items)) c.reach.ensures in
-    ap (λ n. frames_in n (t + 1) cs) new ∙ opening.more-state m t cs i (reached m (t + 1)).numbers (set (reached m (t + 1)).contents t (HasArray c.args.items.items)) m.spare (Arr c.args.items.items) (opening.content-opened m t cs i wide (HasArray c.args.items.items) (Arr c.args.items.items) refl tt refl refl m.spare (omega arith))
+    ap (λ n. frames_in n (t + 1) cs) new ∙ opening.more-state m t cs i (reached m (t + 1)).numbers (set (reached m (t + 1)).contents t
+        (HasArray c.args.items.items)) m.spare (Arr c.args.items.items) (opening.content-opened m t cs i wide (HasArray c.args.items.items)
+            (Arr c.args.items.items) refl tt refl refl m.spare (omega arith))
     ∙ ap (λ (h : FramesState). with_names (Slot (slot (size_of h.slots)) (Arr c.args.items.items) h.slots) h) c.self.view_is
 
 pub invariant_of-self : goal.invariant_of-self

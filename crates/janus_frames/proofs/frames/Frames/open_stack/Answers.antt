@@ -1,36 +1,14 @@
-use Rattle.std.proofs.Common.{◌≡◌, ◌≢◌, ◌+◌, ◌-◌, ◌<◌, ◌≤◌, ◌^◌, ℕ, ℤ, List, [], ◌∷◌, length, map, set, get_or, refl, ap, ◌∙◌, sym, subst, arith, w32, to_z, of_z}
+use Rattle.std.proofs.Common.{◌≡◌, ◌+◌, ◌-◌, [], length, set, refl, ap, ◌∙◌, sym, subst, arith}
 use Rattle.std.specs.Prelude.{reverse}
-use Rattle.std.proofs.lemmas.Int.{to_z-of_z}
-use Rattle.std.proofs.lemmas.List.{reverse-append, length-reverse}
-use Rattle.janus_meaning.specs.Fault.{Fine}
-use Rattle.janus_meaning.specs.Syntax.{Name}
-use Rattle.janus_meaning.specs.Store.{Store as Values, Val, Num, Arr, Stk, Slot, look, element, set_element, pull, cleared_val, held_by}
-use Rattle.janus_meaning.specs.Value.{first}
+use Rattle.janus_meaning.specs.Store.{Stk, Slot}
 use Rattle.janus_meaning.specs.World.{size_of}
-use Rattle.janus_meaning.proofs.Results.{fine_inj}
 use Rattle.janus_slots.specs.Slots.{slot}
-use Rattle.janus_memory.specs.Memory.{MemoryState, Content, Plain, HasArray, HasStack, Gone, IsHere, val_at, content_at, number_at, array_of, stack_of, element_set}
-use Rattle.janus_memory.specs.Memory.{pushed, with_number, with_content, with_write, reached, opened, released, values_among}
-use Rattle.janus_memory.specs.Values.{kind_of}
-use Rattle.janus_frames.specs.Cells.{from, stored, IsPresent, AreBelow, AreApart}
-use Rattle.janus_frames.specs.Calls.{given_back, own_names, slots_of, names_of, AreAlone, Enters, Returns}
-use Rattle.janus_frames.specs.FramesState.{FramesState, HasShape, names_there, stacks_there, with_names}
-use Rattle.janus_frames.specs.Inside.{frames_in, frames_of, AreIn, HoldsAlike, AreFrames}
-use Rattle.janus_frames.specs.Shown.{IsStored, through, outer_count, AreLow}
-use Rattle.janus_frames.specs.Stores.{write, rest_of}
-use Rattle.janus_frames.specs.declared.frames.OpenCall.{OpenCall}
-use Rattle.janus_frames.proofs.Calling.{AreMoved, AreGiven, as-many}
-use Rattle.janus_frames.proofs.Changing as changing
-use Rattle.janus_frames.proofs.Following.{given-back-is, through-present, calls-low}
-use Rattle.janus_frames.proofs.Holding.{many-callers}
-use Rattle.janus_frames.proofs.Inwards as inwards
-use Rattle.janus_frames.proofs.Leaving as leaving
-use Rattle.janus_frames.proofs.Moving as moving
+use Rattle.janus_memory.specs.Memory.{MemoryState, HasStack}
+use Rattle.janus_memory.specs.Memory.{reached, opened}
+use Rattle.janus_frames.specs.FramesState.{FramesState, names_there, stacks_there, with_names}
+use Rattle.janus_frames.specs.Inside.{frames_in, AreIn}
 use Rattle.janus_frames.proofs.Opening as opening
-use Rattle.janus_frames.proofs.Reading.{look-there, can-lend, size-stored}
-use Rattle.janus_frames.proofs.Reserving.{room-in}
 use Rattle.janus_frames.proofs.Sight as sight
-use Rattle.janus_frames.proofs.Totals.{one_stack}
 use Rattle.janus_frames.proofs.frames.Frames.open_stack.Goals as goal
 
 pub overflow_add-self-inside : goal.overflow_add-self-inside
@@ -69,7 +47,8 @@ invariant_of-self g c =
     let new : c.open_stack.new.self ≡ record (reached m (t + 1)) { contents = set (reached m (t + 1)).contents t (HasStack []); spare = m.spare - 1 } =
     c.open_stack.ensures ∙ ap (opened r) at ∙ ap (λ r. opened r t) c.reach.ensures ∙ opening.stack-opened m t cs i wide in
     record {
-      inside = subst (λ n. AreIn n (t + 1) cs) (sym new) (opening.more-in m t cs i (reached m (t + 1)).numbers (set (reached m (t + 1)).contents t (HasStack [])) (m.spare - 1) (Stk []) (opening.content-opened m t cs i wide (HasStack []) (Stk []) refl tt refl refl (m.spare - 1) left));
+      inside = subst (λ n. AreIn n (t + 1) cs) (sym new) (opening.more-in m t cs i (reached m (t + 1)).numbers (set (reached m (t + 1)).contents t
+          (HasStack [])) (m.spare - 1) (Stk []) (opening.content-opened m t cs i wide (HasStack []) (Stk []) refl tt refl refl (m.spare - 1) left));
       call_room = c.self.invariant.call_room;
     }
 
@@ -87,5 +66,6 @@ returns g c =
     let left : m.spare - 1 + 1 ≡ m.spare = omega (arith, i.counted.stacks, ap stacks_there c.self.view_is, c.requires.few) in
     let new : c.open_stack.new.self ≡ record (reached m (t + 1)) { contents = set (reached m (t + 1)).contents t (HasStack []); spare = m.spare - 1 } =
     c.open_stack.ensures ∙ ap (opened r) at ∙ ap (λ r. opened r t) c.reach.ensures ∙ opening.stack-opened m t cs i wide in
-    ap (λ n. frames_in n (t + 1) cs) new ∙ opening.more-state m t cs i (reached m (t + 1)).numbers (set (reached m (t + 1)).contents t (HasStack [])) (m.spare - 1) (Stk []) (opening.content-opened m t cs i wide (HasStack []) (Stk []) refl tt refl refl (m.spare - 1) left)
+    ap (λ n. frames_in n (t + 1) cs) new ∙ opening.more-state m t cs i (reached m (t + 1)).numbers (set (reached m (t + 1)).contents t (HasStack []))
+        (m.spare - 1) (Stk []) (opening.content-opened m t cs i wide (HasStack []) (Stk []) refl tt refl refl (m.spare - 1) left)
     ∙ ap (λ (h : FramesState). with_names (Slot (slot (size_of h.slots)) (Stk []) h.slots) h) c.self.view_is
