@@ -17,3 +17,4 @@ pub mod Leaving
 pub mod Declared
 pub mod Inwards
 pub mod Reserving
+pub mod Running
