@@ -1,7 +1,6 @@
 -- Frames behind a run over the cells of the frame in sight, which left those in front of it.
-use Rattle.std.proofs.Common.{◌≡◌, ℕ, ◌+◌, ◌-◌, ◌<◌, ◌≤◌, List, length, refl, ap, ◌∙◌, sym, subst, arith}
+use Rattle.std.proofs.Common.{◌≡◌, ℕ, ◌+◌, ◌-◌, ◌<◌, ◌≤◌, List, length, ap, ◌∙◌, sym, subst, arith}
 use Rattle.janus_memory.specs.Memory.{MemoryState, Plain, val_at, content_at, values_among}
-use Rattle.janus_frames.specs.Calls.{Caller}
 use Rattle.janus_frames.specs.Cells.{IsPresent, from, stored}
 use Rattle.janus_frames.specs.Inside.{AreIn, AreCounted, AreNested, frames_in, callers_of}
 use Rattle.janus_frames.specs.declared.frames.OpenCall.{OpenCall}

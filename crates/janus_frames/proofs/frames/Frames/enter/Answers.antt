@@ -321,4 +321,4 @@ returns-clause-unwritten g c =
     let z : t + length xs ≡ end = ap (λ n. t + n) (sym many) in
     let memory : c.set_base.new.self ≡ record n { base = t } = c.set_base.ensures in
     ap (λ (n : MemoryState). n.writes) memory ∙ k.writes ∙ ap (λ (r : MemoryState). r.writes) c.reach.ensures
-        ∙ ap (λ (h : FramesState). h.writes) c.self.view_is
+    ∙ ap (λ (h : FramesState). h.writes) c.self.view_is

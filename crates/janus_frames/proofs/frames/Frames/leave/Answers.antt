@@ -180,7 +180,7 @@ invariant_of-self g c =
     let w = c.give_back.new.memory in
     let given : AreGiven (val_at m) (val_at w) call.base m.base xs =
     subst (AreGiven (val_at m) (val_at w) call.base m.base) slice (subst (λ b. AreGiven (val_at m)
-        (val_at w) call.base b c.slots.result.now) c.base-base.ensures
+    (val_at w) call.base b c.slots.result.now) c.base-base.ensures
     (record { before = c.give_back.ensures.before; frame = c.give_back.ensures.frame; moved = c.give_back.ensures.moved })) in
     let above : (p : ℕ) → m.base ≤ p → content_at w p ≡ Plain = λ p l. c.give_back.ensures.above p (omega (arith, l, c.base-base.ensures)) in
     let memory : c.set_base.new.self ≡ record w { base = call.base } = c.set_base.ensures in
@@ -217,7 +217,7 @@ returns-clause-left g c =
     let w = c.give_back.new.memory in
     let given : AreGiven (val_at m) (val_at w) call.base m.base xs =
     subst (AreGiven (val_at m) (val_at w) call.base m.base) slice (subst (λ b. AreGiven (val_at m)
-        (val_at w) call.base b c.slots.result.now) c.base-base.ensures
+    (val_at w) call.base b c.slots.result.now) c.base-base.ensures
     (record { before = c.give_back.ensures.before; frame = c.give_back.ensures.frame; moved = c.give_back.ensures.moved })) in
     let above : (p : ℕ) → m.base ≤ p → content_at w p ≡ Plain = λ p l. c.give_back.ensures.above p (omega (arith, l, c.base-base.ensures)) in
     let memory : c.set_base.new.self ≡ record w { base = call.base } = c.set_base.ensures in
@@ -227,7 +227,7 @@ returns-clause-left g c =
     let e1 = subst (λ q. Returns old.callers old.slots (frames_in (record w { base = call.base }) q rest).slots
     (frames_in (record w { base = call.base }) q rest).callers) (sym c.base-base.ensures) after in
     let e2 = subst (λ n. Returns old.callers old.slots (frames_in n c.base-base.result rest).slots (frames_in n c.base-base.result rest).callers)
-        (sym memory) e1 in
+    (sym memory) e1 in
     let new = frames_in c.set_base.new.self c.base-base.result rest in
     subst (λ (h : FramesState). Returns h.callers h.slots new.slots new.callers) c.self.view_is
     (subst (λ cs. Returns (frames_in m t cs).callers (frames_in m t cs).slots new.slots new.callers) (sym calls) e2)
@@ -257,7 +257,7 @@ returns-clause-room g c =
     let w = c.give_back.new.memory in
     let given : AreGiven (val_at m) (val_at w) call.base m.base xs =
     subst (AreGiven (val_at m) (val_at w) call.base m.base) slice (subst (λ b. AreGiven (val_at m)
-        (val_at w) call.base b c.slots.result.now) c.base-base.ensures
+    (val_at w) call.base b c.slots.result.now) c.base-base.ensures
     (record { before = c.give_back.ensures.before; frame = c.give_back.ensures.frame; moved = c.give_back.ensures.moved })) in
     let above : (p : ℕ) → m.base ≤ p → content_at w p ≡ Plain = λ p l. c.give_back.ensures.above p (omega (arith, l, c.base-base.ensures)) in
     let memory : c.set_base.new.self ≡ record w { base = call.base } = c.set_base.ensures in
@@ -289,7 +289,7 @@ returns-clause-unwritten g c =
     let w = c.give_back.new.memory in
     let given : AreGiven (val_at m) (val_at w) call.base m.base xs =
     subst (AreGiven (val_at m) (val_at w) call.base m.base) slice (subst (λ b. AreGiven (val_at m)
-        (val_at w) call.base b c.slots.result.now) c.base-base.ensures
+    (val_at w) call.base b c.slots.result.now) c.base-base.ensures
     (record { before = c.give_back.ensures.before; frame = c.give_back.ensures.frame; moved = c.give_back.ensures.moved })) in
     let above : (p : ℕ) → m.base ≤ p → content_at w p ≡ Plain = λ p l. c.give_back.ensures.above p (omega (arith, l, c.base-base.ensures)) in
     let memory : c.set_base.new.self ≡ record w { base = call.base } = c.set_base.ensures in

@@ -17,7 +17,7 @@ length-requires g c =
     let cs = reverse a.calls.items in
     let i = c.self.invariant.inside in
     let e : look (slot c.args.k) (frames_in m t cs).slots ≡ Fine (Stk c.requires.0) = ap (λ (h : FramesState). look
-        (slot c.args.k) h.slots) c.self.view_is ∙ c.requires.1 in
+    (slot c.args.k) h.slots) c.self.view_is ∙ c.requires.1 in
     sight.name-cell m t cs i c.args.k (Stk c.requires.0) e
 
 pub returns : goal.returns

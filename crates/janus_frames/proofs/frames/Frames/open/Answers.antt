@@ -47,7 +47,7 @@ invariant_of-self g c =
     let wide = subst (λ (r : MemoryState). length r.contents ≡ length r.numbers) c.reach.ensures c.law-2.ensures.contents in
     let z : to_z w32 (of_z w32 c.args.number) ≡ c.args.number = to_z-of_z w32 c.args.number c.ranges.number in
     let new : c.keep.new.self ≡ with_number (reached m (t + 1)) t c.args.number = c.keep.ensures
-        ∙ ap (λ p. with_number r p (to_z w32 (of_z w32 c.args.number))) at
+    ∙ ap (λ p. with_number r p (to_z w32 (of_z w32 c.args.number))) at
     ∙ ap (λ r. with_number r t (to_z w32 (of_z w32 c.args.number))) c.reach.ensures ∙ ap (with_number (reached m (t + 1)) t) z in
     record {
       inside = subst (λ n. AreIn n (t + 1) cs) (sym new) (opening.more-in m t cs i (set (reached m (t + 1)).numbers t c.args.number) (reached m
@@ -68,8 +68,8 @@ returns g c =
     let wide = subst (λ (r : MemoryState). length r.contents ≡ length r.numbers) c.reach.ensures c.law-2.ensures.contents in
     let z : to_z w32 (of_z w32 c.args.number) ≡ c.args.number = to_z-of_z w32 c.args.number c.ranges.number in
     let new : c.keep.new.self ≡ with_number (reached m (t + 1)) t c.args.number = c.keep.ensures
-        ∙ ap (λ p. with_number r p (to_z w32 (of_z w32 c.args.number))) at
+    ∙ ap (λ p. with_number r p (to_z w32 (of_z w32 c.args.number))) at
     ∙ ap (λ r. with_number r t (to_z w32 (of_z w32 c.args.number))) c.reach.ensures ∙ ap (with_number (reached m (t + 1)) t) z in
     ap (λ n. frames_in n (t + 1) cs) new ∙ opening.more-state m t cs i (set (reached m (t + 1)).numbers t c.args.number) (reached m
-        (t + 1)).contents m.spare (Num c.args.number) (opening.number-opened m t cs i wide c.args.number)
+    (t + 1)).contents m.spare (Num c.args.number) (opening.number-opened m t cs i wide c.args.number)
     ∙ ap (λ (h : FramesState). with_names (Slot (slot (size_of h.slots)) (Num c.args.number) h.slots) h) c.self.view_is

@@ -52,7 +52,7 @@ invariant_of-self-2 g c =
     record {
       inside = subst (λ n. AreIn n (t + 1) cs) (sym new) (opening.more-in m t cs i (reached m (t + 1)).numbers (set (reached m (t + 1)).contents t
           (HasArray c.args.items.items)) m.spare (Arr c.args.items.items) (opening.content-opened m t cs i wide (HasArray c.args.items.items)
-              (Arr c.args.items.items) refl tt refl refl m.spare (omega arith)));
+          (Arr c.args.items.items) refl tt refl refl m.spare (omega arith)));
       call_room = c.self.invariant.call_room;
     }
 
@@ -69,8 +69,8 @@ returns-clause-ok g c =
     let new : c.put_array.new.self ≡ record (reached m (t + 1)) { contents = set (reached m (t + 1)).contents t (HasArray c.args.items.items) } =
     c.in_ok-put_array.ensures.ok ∙ ap (λ r. with_content r t (HasArray c.args.items.items)) c.reach.ensures in
     ap (λ n. frames_in n (t + 1) cs) new ∙ opening.more-state m t cs i (reached m (t + 1)).numbers (set (reached m (t + 1)).contents t
-        (HasArray c.args.items.items)) m.spare (Arr c.args.items.items) (opening.content-opened m t cs i wide (HasArray c.args.items.items)
-            (Arr c.args.items.items) refl tt refl refl m.spare (omega arith))
+    (HasArray c.args.items.items)) m.spare (Arr c.args.items.items) (opening.content-opened m t cs i wide (HasArray c.args.items.items)
+    (Arr c.args.items.items) refl tt refl refl m.spare (omega arith))
     ∙ ap (λ (h : FramesState). with_names (Slot (slot (size_of h.slots)) (Arr c.args.items.items) h.slots) h) c.self.view_is
 
 pub invariant_of-self : goal.invariant_of-self

@@ -67,5 +67,5 @@ returns g c =
     let new : c.open_stack.new.self ≡ record (reached m (t + 1)) { contents = set (reached m (t + 1)).contents t (HasStack []); spare = m.spare - 1 } =
     c.open_stack.ensures ∙ ap (opened r) at ∙ ap (λ r. opened r t) c.reach.ensures ∙ opening.stack-opened m t cs i wide in
     ap (λ n. frames_in n (t + 1) cs) new ∙ opening.more-state m t cs i (reached m (t + 1)).numbers (set (reached m (t + 1)).contents t (HasStack []))
-        (m.spare - 1) (Stk []) (opening.content-opened m t cs i wide (HasStack []) (Stk []) refl tt refl refl (m.spare - 1) left)
+    (m.spare - 1) (Stk []) (opening.content-opened m t cs i wide (HasStack []) (Stk []) refl tt refl refl (m.spare - 1) left)
     ∙ ap (λ (h : FramesState). with_names (Slot (slot (size_of h.slots)) (Stk []) h.slots) h) c.self.view_is
