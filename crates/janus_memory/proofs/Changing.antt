@@ -72,7 +72,7 @@ module _ {L : Type 0} (a : Inside L) (i : IsKept a) (p j : ℕ) (l : p < length 
           owned = subst (λ s. AreOwned (length a.arrays) s a.cells.items) (sym spare) i.owned;
           counted = subst (λ xs. AreCounted t.spare t.lists xs) (sym stack-contents)
               (owned.counted-set a.stacks.spare t.spare a.stacks.lists t.lists (contents_of (heap_of a) a.cells.items) p (HasStack
-                  (list_of t.lists j)) i.counted
+              (list_of t.lists j)) i.counted
               place (omega (arith, ap length spare, ap stack_count was)) (omega (arith, s, ap value_count was)));
         }
 
@@ -177,8 +177,12 @@ module _ {L : Type 0} (a : Inside L) (i : IsKept a) (p j : ℕ) (l : p < length 
       open-seen h =
           let m = memory_of a in
           let less : length t.spare ≡ length a.stacks.spare - 1 = omega (arith, ap length f, length-append t.spare (j ∷ [])) in
-          ap (λ ns. record m { numbers = ns; contents = contents_of (record { arrays = a.arrays; stacks = t.lists })
-              (set a.cells.items p c); spare = length t.spare })
+          ap (λ ns. record m {
+            numbers = ns;
+            contents = contents_of (record { arrays = a.arrays; stacks = t.lists })
+                (set a.cells.items p c);
+            spare = length t.spare;
+          })
           (numbers-left h)
           ∙ ap (λ xs. record m { contents = xs; spare = length t.spare }) open-contents
           ∙ ap (λ n. record m { contents = set m.contents p (HasStack []); spare = n }) less
@@ -211,8 +215,12 @@ module _ {L : Type 0} (a : Inside L) (i : IsKept a) (p j : ℕ) (l : p < length 
           ≡ record (memory_of a) { contents = set (memory_of a).contents p Plain; spare = (memory_of a).spare + 1 }
       close-state h =
           let m = memory_of a in
-          ap (λ ns. record m { numbers = ns; contents = contents_of (record { arrays = a.arrays; stacks = t.lists })
-              (set a.cells.items p c); spare = length t.spare })
+          ap (λ ns. record m {
+            numbers = ns;
+            contents = contents_of (record { arrays = a.arrays; stacks = t.lists })
+                (set a.cells.items p c);
+            spare = length t.spare;
+          })
           (numbers-left h)
           ∙ ap (λ xs. record m { contents = xs; spare = length t.spare }) close-contents
           ∙ ap (λ n. record m { contents = set m.contents p Plain; spare = n }) more
@@ -250,7 +258,7 @@ module _ {L : Type 0} (a : Inside L) (i : IsKept a) (p j : ℕ) (l : p < length 
                   (owned.array-owned (length a.arrays) a.stacks.spare a.cells.items p c i.owned l w e);
               counted = subst (AreCounted a.stacks.spare a.stacks.lists) (sym put-contents)
                   (owned.counted-set a.stacks.spare a.stacks.spare a.stacks.lists a.stacks.lists (contents_of (heap_of a) a.cells.items) p
-                      (HasArray m) i.counted place
+                  (HasArray m) i.counted place
                   (omega (arith, ap stack_count was)) (omega (arith, ap value_count was)));
             }
 
@@ -260,7 +268,7 @@ module _ {L : Type 0} (a : Inside L) (i : IsKept a) (p j : ℕ) (l : p < length 
         put-seen h =
             let o = memory_of a in
             ap (λ ns. record o { numbers = ns; contents = contents_of (record { arrays = ls; stacks = a.stacks.lists }) (set a.cells.items p c) })
-                (numbers-left h)
+            (numbers-left h)
             ∙ ap (λ xs. record o { contents = xs }) put-contents
 
     -- an array that is let go
@@ -296,7 +304,7 @@ module _ {L : Type 0} (a : Inside L) (i : IsKept a) (p j : ℕ) (l : p < length 
       free-seen h =
           let o = memory_of a in
           ap (λ ns. record o { numbers = ns; contents = contents_of (record { arrays = ls; stacks = a.stacks.lists }) (set a.cells.items p c) })
-              (numbers-left h)
+          (numbers-left h)
           ∙ ap (λ xs. record o { contents = xs }) free-contents
           ∙ sym (ap (λ x. released_from x o p) (there (helds.Array j) w))
 
@@ -348,8 +356,14 @@ module _ {L : Type 0} (a : Inside L) (i : IsKept a) (from to : ℕ) (l : from < 
   }
 
   pub carry-seen : (x : Content) → content_in (heap_of a) left.held ≡ x → left.number ≡ pos 0
-      → memory_of {L = L} (record { cells = with_item (with_item a.cells to c) from left; base = a.base; arrays = a.arrays; stacks = a.stacks; writes =
-          a.writes })
+      → memory_of {L = L} (record {
+        cells = with_item (with_item a.cells to c) from left;
+        base = a.base;
+        arrays = a.arrays;
+        stacks = a.stacks;
+        writes =
+            a.writes;
+      })
       ≡ carried x (memory_of a) from to
   carry-seen x f g =
       let m = memory_of a in

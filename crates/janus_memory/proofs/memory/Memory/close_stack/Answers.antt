@@ -35,5 +35,5 @@ returns-in-Stack g c =
     changing.close-seen a c.self.invariant p c.in-Stack.stack l (record { number = c.index_mut.result.now.number; held = helds.Nothing }) e refl
     c.give.new.self c.give.ensures (reading.empty-seen a c.args.self.now c.self.view_is p c.index.result.now c.in-Stack.stack l c.index.ensures c.in-Stack.is
     (ap (λ p. stack_of (content_at c.args.self.now p)) (reading.same-place a c.args.self.now c.self.view_is c.args.k)
-        ∙ c.requires.empty)) (ap (λ (c : Cell). c.number) r)
+    ∙ c.requires.empty)) (ap (λ (c : Cell). c.number) r)
     ∙ ap (λ (m : MemoryState). closed m (m.base + c.args.k)) c.self.view_is

@@ -14,7 +14,7 @@ invariant_of-self g c =
     let b = subst IsBare (reading.content-seen a c.args.self.now c.self.view_is c.args.to n) c.requires.bare in
     let r = read-cell a.cells.items c.args.from c.index-cell.result.now l c.index-cell.ensures in
     changing.carry-kept a c.self.invariant c.args.from c.args.to l n c.requires.apart b c.index-cell.result.now
-        (record { number = pos 0; held = helds.Lent }) r tt
+    (record { number = pos 0; held = helds.Lent }) r tt
 
 pub returns : goal.returns
 returns g c =
@@ -24,6 +24,6 @@ returns g c =
     let b = subst IsBare (reading.content-seen a c.args.self.now c.self.view_is c.args.to n) c.requires.bare in
     let r = read-cell a.cells.items c.args.from c.index-cell.result.now l c.index-cell.ensures in
     changing.carry-seen a c.self.invariant c.args.from c.args.to l n c.requires.apart b c.index-cell.result.now
-        (record { number = pos 0; held = helds.Lent }) r tt
+    (record { number = pos 0; held = helds.Lent }) r tt
     Gone refl refl
     ∙ ap (λ m. carried Gone m c.args.from c.args.to) c.self.view_is

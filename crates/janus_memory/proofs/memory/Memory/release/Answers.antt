@@ -11,7 +11,7 @@ pub release-requires : goal.release-requires
 release-requires g c =
     let a = c.self.inside in
     reading.array-low a c.args.at c.index.result.now (reading.place-low a c.args.self.now c.self.view_is c.args.at c.requires.there) c.index.ensures
-        c.in-Array.array
+    c.in-Array.array
     c.self.invariant c.in-Array.is
 
 pub give-requires-clause-room : goal.give-requires-clause-room
