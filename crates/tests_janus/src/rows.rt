@@ -1,0 +1,48 @@
+//! Rows of whole statements, laid over the cells of a frame, in which the names `x`, `y`, `a` and `s` are in sight, and inside of a local `z` too.
+//!
+//! A call is how many of the names are in sight, and behind `|` such statements as rows of `whole` have, or none. It is told how many instructions they are,
+//! how many cells a frame needs, and how many frames may be opened.
+use crate::whole::code_of_text;
+use janus_code::{Block, Code};
+use janus_linear::{Order, link};
+use janus_row_laying::row::{LaidRow, lay};
+use std::alloc::{AllocError, Global};
+use tests_rows::{Sheet, cut_cell, number};
+
+/// Writes the answer to a call.
+pub(crate) fn answer(call: &str, sheet: &mut Sheet) {
+    let (names, text) = cut_cell(call);
+    match row_of(sheet.alloc(), number(names), text) {
+        Ok(laid) => tell_laid(&laid, sheet),
+        Err(_) => sheet.refuse(),
+    }
+}
+
+/// The statements of a text, laid over so many names.
+fn row_of(alloc: Global, names: usize, text: &str) -> Result<LaidRow, AllocError> {
+    let code = if text.is_empty() {
+        no_code(alloc)
+    } else {
+        code_of_text(alloc, text)?
+    };
+    let linear = link(alloc, code, Order::Straight)?;
+    lay(alloc, &linear, if names < 5 { names as u32 } else { 5 })
+}
+
+/// Code without statements.
+fn no_code(alloc: Global) -> Code {
+    Code {
+        statements: Vec::new(alloc),
+        members: Vec::new(alloc),
+        body: Block { start: 0, end: 0 },
+    }
+}
+
+/// What is told of a row.
+fn tell_laid(laid: &LaidRow, sheet: &mut Sheet) {
+    sheet.show(&laid.row.instructions.len());
+    sheet.write(" instructions, ");
+    sheet.show(&laid.row.width);
+    sheet.write(" cells, room ");
+    sheet.show(&laid.room);
+}
