@@ -12,7 +12,7 @@ use Rattle.frame_machine.proofs.cursor.Cursor.enter_inverse.Goals as goal
 pub returns-clause-place : goal.returns-clause-place
 returns-clause-place c = λ t hs.
     let b = c.args.book.now.code.now in
-    let z : block_size (block_in b Inverse) - suc c.last-self.result ≡ 0 = omega (arith, c.last-self.ensures xs) in
+    let z : block_size (block_in b Inverse) - suc c.last-self.result ≡ 0 = omega (arith, c.last-self.ensures) in
     ap (λ cs. within (frames_outside t b Inverse (reverse cs) hs)
     (row_place (book_in t b (reverse cs)) Inverse (block_size (block_in (book_in t b (reverse cs)) Inverse) - suc c.last-self.result)))
     c.clear.ensures.items

@@ -1,12 +1,13 @@
 use Rattle.std.proofs.Common.{◌≡◌, ℕ, suc, ◌+◌, ◌-◌, ap, ◌∙◌, sym, subst, arith}
 use Rattle.std.specs.Prelude.{reverse}
 use Rattle.janus_code.specs.CodeBlock.{code_block}
-use Rattle.janus_linear.specs.declared.code.Linear.{Linear}
+use Rattle.janus_code.specs.Slotted.{all_slots}
+use Rattle.frame_machine.specs.LaidCode.{LaidCode}
 use Rattle.janus_linear.specs.Layout.{block_size}
 use Rattle.janus_linear.specs.Within.{within, frames_in}
 use Rattle.frame_machine.specs.declared.linked_code.LinkedCode.{LinkedCode}
 use Rattle.frame_machine.specs.declared.direction.Direction.{Direction}
-use Rattle.frame_machine.specs.Places.{linear_in, block_in}
+use Rattle.frame_machine.specs.Places.{laid_in, block_in}
 use Rattle.frame_machine.specs.Cursor.{calls_of}
 use Rattle.frame_machine.specs.Nested.{row_place, book_in, frames_outside, AreOpenCalls}
 use Rattle.frame_machine.proofs.Turning.{outside_turned, open_turned, frames_turned}
@@ -27,8 +28,8 @@ returns-clause-place c = λ h stands.
     let to = c.saturating_sub-self.result in
     let end : c.last.result ≡ block_size (block_in (book_in t b cs) d) - 1 =
     c.last.ensures
-    ∙ ap (λ (l : Linear). block_size (code_block l.code) - 1)
-    (c.linear-linear.ensures ∙ ap (λ (k : LinkedCode). linear_in k d) (c.running.ensures ∙ ap (λ is. book_in t b (reverse is)) c.deref.ensures.value)) in
+    ∙ ap (λ (l : LaidCode). block_size (code_block all_slots l.linear.code) - 1)
+    (c.laid-code.ensures ∙ ap (λ (k : LinkedCode). laid_in k d) (c.running.ensures ∙ ap (λ is. book_in t b (reverse is)) c.deref.ensures.value)) in
     let left : to ≡ block_size (block_in (book_in t b cs) d) - 1 - u.to_go = omega (arith, c.saturating_sub-self.ensures, end) in
     ap (λ (w : Direction). within (frames_outside t b w cs h.callers)
     (row_place (book_in t b cs) w (block_size (block_in (book_in t b cs) w) - suc to))) c.opposite-self.ensures
@@ -48,6 +49,7 @@ returns-clause-stands c = λ h stands.
       used = stands.used ∙ sym (frames_turned (frames_outside t b d cs h.callers))
           ∙ ap frames_in (sym (outside_turned t b d cs h.callers stands.calls))
           ∙ ap (λ (w : Direction). frames_in (frames_outside t b w cs h.callers)) (sym e);
+      low = stands.low;
     }
 
 pub returns-clause-agrees : goal.returns-clause-agrees
@@ -61,8 +63,8 @@ returns-clause-agrees c = λ k h stands agrees.
     let way = c.opposite-self.ensures in
     let end : c.last.result ≡ block_size (block_in (book_in t b cs) d) - 1 =
     c.last.ensures
-    ∙ ap (λ (l : Linear). block_size (code_block l.code) - 1)
-    (c.linear-linear.ensures ∙ ap (λ (k : LinkedCode). linear_in k d) (c.running.ensures ∙ ap (λ is. book_in t b (reverse is)) c.deref.ensures.value)) in
+    ∙ ap (λ (l : LaidCode). block_size (code_block all_slots l.linear.code) - 1)
+    (c.laid-code.ensures ∙ ap (λ (k : LinkedCode). laid_in k d) (c.running.ensures ∙ ap (λ is. book_in t b (reverse is)) c.deref.ensures.value)) in
     let left : to ≡ block_size (block_in (book_in t b cs) d) - 1 - u.to_go = omega (arith, c.saturating_sub-self.ensures, end) in
     let row = ap (λ (w : Direction). row_place (book_in t b cs) w (block_size (block_in (book_in t b cs) w) - suc to)) way
     ∙ place_mirrored (book_in t b cs) d u.to_go to left in
@@ -73,6 +75,7 @@ returns-clause-agrees c = λ k h stands agrees.
     record {
       stacks = agrees.stacks ∙ sym (stacks_turned k _ _ whole);
       size = agrees.size ∙ ap (λ (m : ℕ). own_names h.declared h.callers + m) (sym (locals_turned _ _ row));
+      names = agrees.names;
       callers = subst (λ (w : Direction). HaveLocals t b h.declared w cs h.callers) (sym way)
           (callers_turned t b h.declared d cs h.callers stands.calls agrees.callers);
     }
