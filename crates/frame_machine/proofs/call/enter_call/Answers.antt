@@ -48,3 +48,67 @@ push_reserved-requires g c =
     (room_for_call c.args.procedures.now c.args.book.now u c.args.store.now c.requires.standing c.args.at c.args.room_left c.args.site
     c.requires.here c.if-room_left-cursor.false c.requires.safe c.in-Some.procedure.now (sym c.in-Some.ensures)).0 in
     omega (arith, calls, u.room, u.calls.ok.0)
+
+pub overflow_sub-cursor-2 : goal.overflow_sub-cursor-2
+overflow_sub-cursor-2 g c =
+    let here = c.requires.here in
+    omega (arith, room_small c.args.procedures.now c.args.book.now c.args.cursor.now c.args.store.now c.requires.standing c.args.at c.args.room_left here.stm
+    here.here)
+
+pub returns-clause-stands : goal.returns-clause-stands
+returns-clause-stands g c =
+    let t = c.args.procedures.now in
+    let b = c.args.book.now in
+    let u = c.args.cursor.now in
+    let h = c.args.store.now in
+    let site = c.args.site in
+    let body = c.in-Some.procedure.now in
+    let end : c.last-end.result ≡ block_size (block_in (book_of t b u) u.direction) - 1 =
+    c.last-end.ensures ∙ ap (λ (k : LaidCode). block_size (code_block all_slots k.linear.code) - 1) c.requires.code in
+    let to_go : c.last-cursor.result ≡ block_size (block_in body.book site.way) - 1 =
+    c.last-cursor.ensures ∙ ap (λ (k : LaidCode). block_size (code_block all_slots k.linear.code) - 1) c.laid.ensures in
+    enters_stands t b u h c.requires.standing c.args.at c.args.room_left site c.requires.here c.if-room_left-cursor.false c.requires.safe body
+    (sym c.in-Some.ensures) _ c.bind.new.self c.turned_place.result (c.turned_place.ensures (book_of t b u) end) c.is_turned.result
+    c.push_reserved.ensures.items c.is_turned.ensures refl to_go refl refl c.bind.ensures
+
+pub returns-clause-steps : goal.returns-clause-steps
+returns-clause-steps g c = λ ps k known a.
+    let t = c.args.procedures.now in
+    let b = c.args.book.now in
+    let u = c.args.cursor.now in
+    let h = c.args.store.now in
+    let site = c.args.site in
+    let body = c.in-Some.procedure.now in
+    let end : c.last-end.result ≡ block_size (block_in (book_of t b u) u.direction) - 1 =
+    c.last-end.ensures ∙ ap (λ (k : LaidCode). block_size (code_block all_slots k.linear.code) - 1) c.requires.code in
+    let to_go : c.last-cursor.result ≡ block_size (block_in body.book site.way) - 1 =
+    c.last-cursor.ensures ∙ ap (λ (k : LaidCode). block_size (code_block all_slots k.linear.code) - 1) c.laid.ensures in
+    enters_leads t b u h c.requires.standing c.args.at c.args.room_left site c.requires.here c.if-room_left-cursor.false c.requires.safe body
+    (sym c.in-Some.ensures)
+    (record {
+      direction = site.way;
+      to_go = c.last-cursor.result;
+      calls = c.push_reserved.new.self;
+      used = u.used + (16383 - c.args.room_left) + 2;
+      count = u.count;
+      turned = u.turned;
+      room = subst (λ m. 8192 ≤ m) (sym c.push_reserved.ensures.capacity) u.room;
+    })
+    c.bind.new.self c.turned_place.result (c.turned_place.ensures (book_of t b u) end) c.is_turned.result
+    c.push_reserved.ensures.items c.is_turned.ensures refl to_go refl refl c.bind.ensures ps k known
+
+pub returns-clause-agrees : goal.returns-clause-agrees
+returns-clause-agrees g c = λ k a.
+    let t = c.args.procedures.now in
+    let b = c.args.book.now in
+    let u = c.args.cursor.now in
+    let h = c.args.store.now in
+    let site = c.args.site in
+    let body = c.in-Some.procedure.now in
+    let end : c.last-end.result ≡ block_size (block_in (book_of t b u) u.direction) - 1 =
+    c.last-end.ensures ∙ ap (λ (k : LaidCode). block_size (code_block all_slots k.linear.code) - 1) c.requires.code in
+    let to_go : c.last-cursor.result ≡ block_size (block_in body.book site.way) - 1 =
+    c.last-cursor.ensures ∙ ap (λ (k : LaidCode). block_size (code_block all_slots k.linear.code) - 1) c.laid.ensures in
+    enters_agrees t b u h c.requires.standing c.args.at c.args.room_left site c.requires.here c.if-room_left-cursor.false c.requires.safe body
+    (sym c.in-Some.ensures) _ c.bind.new.self c.turned_place.result (c.turned_place.ensures (book_of t b u) end) c.is_turned.result
+    c.push_reserved.ensures.items c.is_turned.ensures refl to_go refl refl c.bind.ensures k a
