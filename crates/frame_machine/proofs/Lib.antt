@@ -21,6 +21,7 @@ pub mod OpenTotals
 pub mod Parameters
 pub mod Paths
 pub mod Pulls
+pub mod RowLaid
 pub mod Seen
 pub mod Single
 pub mod Slotted

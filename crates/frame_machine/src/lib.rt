@@ -10,7 +10,7 @@
 //! defines it step by step.
 //!
 //! The modules, in the order in which a reader needs them:
-//! - `direction`, `site`, `laid_code`: which way code runs, its calls made ready, and linear code with its row and its calls.
+//! - `direction`, `site`, `laying`, `laid_code`: which way code runs, its calls made ready, the row of linear code, and linear code with its row and its calls.
 //! - `linked_code`: the code of a cell or of a body, both ways.
 //! - `linked_procedure`, `procedures`: a procedure as it runs, and all bodies with those that are in effect.
 //! - `book`: a cell's linked code and the procedures, lent. `counted_store`: a store with the count of the steps over it, which nothing else raises.
@@ -41,6 +41,7 @@ mod direction;
 mod in_row;
 mod laid_code;
 pub mod laws;
+mod laying;
 mod linked_code;
 mod linked_procedure;
 mod machine;

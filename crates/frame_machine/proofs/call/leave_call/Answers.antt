@@ -41,7 +41,8 @@ returns-clause-stands g c =
     (call_at caller (caller_way call.uncalled u.direction) call.place) =
     subst (λ w. c.saturating_sub-cursor.result ≡ block_size (block_in caller w) - 1 - suc (call_at caller w call.place)) turned
     (omega (arith, c.saturating_sub-cursor.ensures, c.saturating_sub.ensures, end, placed)) in
-    leaves_stands t b u h c.requires.standing call cs calls_are c.requires.ended c.requires.safe _ c.unbind.new.self refl turned to_go refl refl c.unbind.ensures
+    leaves_stands t b u h c.requires.standing call cs calls_are c.requires.ended c.requires.safe _ c.unbind.new.self refl turned to_go refl refl
+    c.unbind.ensures
 
 pub returns-clause-steps : goal.returns-clause-steps
 returns-clause-steps g c = λ ps k known a.
