@@ -1,16 +1,15 @@
 -- The place that a name of the outermost frame is followed to.
 use Rattle.std.proofs.Common.{◌≡◌, ℕ, ◌+◌, ◌-◌, ◌<◌, ◌≤◌, Bool, true, false, ltb, List, refl, ap, ◌∙◌, subst, arith, cond}
-use Rattle.std.specs.Prelude.{reverse}
 use Rattle.std.proofs.lemmas.Bool.{ltb-true, ltb-false}
 use Rattle.janus_meaning.specs.Fault.{Fine}
 use Rattle.janus_meaning.specs.Store.{Val, Lent, look}
 use Rattle.janus_meaning.specs.World.{size_of}
 use Rattle.janus_slots.specs.Slots.{slot}
 use Rattle.janus_frames.specs.Calls.{given_back}
-use Rattle.janus_frames.specs.Cells.{from, value_at, stored, IsPresent}
-use Rattle.janus_frames.specs.Inside.{IsKept, heap_of, frames_of, AreNested}
+use Rattle.janus_memory.specs.Memory.{MemoryState, val_at}
+use Rattle.janus_frames.specs.Cells.{from, stored, IsPresent}
+use Rattle.janus_frames.specs.Inside.{AreIn, frames_in, AreNested}
 use Rattle.janus_frames.specs.Shown.{through, outer_count}
-use Rattle.janus_frames.specs.declared.frames.Frames.TheInside.{Inside}
 use Rattle.janus_frames.specs.declared.frames.OpenCall.{OpenCall}
 use Rattle.janus_frames.proofs.Following.{given-back-is, through-present, outer-low}
 use Rattle.janus_frames.proofs.Holding.{nested-same, enough}
@@ -34,46 +33,40 @@ below_low top v p h = by (ltb p top) refl h
     by true e g = ltb-true p top e
     by false e g = absurd g
 
-module _ (a : Inside) (i : IsKept a) where
-  abbrev here : ℕ → Val
-  here = value_at (heap_of a) a.cells.items
+module _ (m : MemoryState) (top : ℕ) (calls : List OpenCall) (i : AreIn m top calls) where
+  back_is : given_back (frames_in m top calls).slots (frames_in m top calls).callers
+      ≡ stored (through (val_at m) (from (val_at m) m.base) calls) (outer_count (top - m.base) m.base calls)
+  back_is = given-back-is (val_at m) (from (val_at m) m.base) m.base (top - m.base) calls i.frames.nested i.frames.present
 
-  abbrev inner_calls : List OpenCall
-  inner_calls = reverse a.calls.items
-
-  back_is : given_back (frames_of a).slots (frames_of a).callers
-      ≡ stored (through here (from here a.base) inner_calls) (outer_count (a.top - a.base) a.base inner_calls)
-  back_is = given-back-is here (from here a.base) a.base (a.top - a.base) inner_calls i.frames.nested i.frames.present
-
-  pub outer-at : (k : ℕ) → k < size_of (given_back (frames_of a).slots (frames_of a).callers) → k < outer_count (a.top - a.base) a.base (reverse a.calls.items)
+  pub outer-at : (k : ℕ) → k < size_of (given_back (frames_in m top calls).slots (frames_in m top calls).callers) → k < outer_count (top - m.base) m.base calls
   outer-at k h =
-      subst (λ n. k < n) (ap size_of back_is ∙ size-stored (through here (from here a.base) inner_calls) (outer_count (a.top - a.base) a.base inner_calls)) h
+      subst (λ n. k < n) (ap size_of back_is ∙ size-stored (through (val_at m) (from (val_at m) m.base) calls) (outer_count (top - m.base) m.base calls)) h
 
-  pub outer-top : outer_count (a.top - a.base) a.base (reverse a.calls.items) ≤ a.top
-  outer-top = let l = outer-low here a.base (a.top - a.base) inner_calls i.frames.nested in let o = i.frames.order in omega (arith, l, o)
+  pub outer-top : outer_count (top - m.base) m.base calls ≤ top
+  outer-top = let l = outer-low (val_at m) m.base (top - m.base) calls i.frames.nested in let o = i.frames.order in omega (arith, l, o)
 
-  pub shown-look : (k : ℕ) → k < outer_count (a.top - a.base) a.base (reverse a.calls.items)
-      → look (slot k) (given_back (frames_of a).slots (frames_of a).callers)
-      ≡ Fine (through (value_at (heap_of a) a.cells.items) (from (value_at (heap_of a) a.cells.items) a.base) (reverse a.calls.items) k)
+  pub shown-look : (k : ℕ) → k < outer_count (top - m.base) m.base calls
+      → look (slot k) (given_back (frames_in m top calls).slots (frames_in m top calls).callers)
+      ≡ Fine (through (val_at m) (from (val_at m) m.base) calls k)
   shown-look k h =
       ap (look (slot k)) back_is
-      ∙ look-there (through here (from here a.base) inner_calls) (outer_count (a.top - a.base) a.base inner_calls) k h
-      (through-present here (from here a.base) a.base (a.top - a.base) inner_calls i.frames.nested i.frames.present k h)
+      ∙ look-there (through (val_at m) (from (val_at m) m.base) calls) (outer_count (top - m.base) m.base calls) k h
+      (through-present (val_at m) (from (val_at m) m.base) m.base (top - m.base) calls i.frames.nested i.frames.present k h)
 
-  module _ (k place : ℕ) (h : k < outer_count (a.top - a.base) a.base (reverse a.calls.items))
-      (same : (w : ℕ → Val) → through w (from w a.base) (reverse a.calls.items) k ≡ w place) where
-    pub found-present : IsPresent (value_at (heap_of a) a.cells.items place)
+  module _ (k place : ℕ) (h : k < outer_count (top - m.base) m.base calls)
+      (same : (w : ℕ → Val) → through w (from w m.base) calls k ≡ w place) where
+    pub found-present : IsPresent (val_at m place)
     found-present =
-        subst IsPresent (same here) (through-present here (from here a.base) a.base (a.top - a.base) inner_calls i.frames.nested i.frames.present k h)
+        subst IsPresent (same (val_at m)) (through-present (val_at m) (from (val_at m) m.base) m.base (top - m.base) calls i.frames.nested i.frames.present k h)
 
-    pub place-low : place < a.top
+    pub place-low : place < top
     place-low =
-        let w = below_top a.top here in
+        let w = below_top top (val_at m) in
         let o = i.frames.order in
-        let nested : AreNested w a.base (a.top - a.base) inner_calls =
-        nested-same here w a.base (a.top - a.base) (a.top - a.base) inner_calls i.frames.nested
-        (enough here a.base (a.top - a.base) (a.top - a.base) inner_calls (omega arith) i.frames.nested)
-        (λ p l. below_same a.top here p (omega (arith, l, o))) in
-        let present : (j : ℕ) → j < a.top - a.base → IsPresent (w (a.base + j)) =
-        λ j l. subst IsPresent (below_same a.top here (a.base + j) (omega (arith, l, o))) (i.frames.present j l) in
-        below_low a.top here place (subst IsPresent (same w) (through-present w (from w a.base) a.base (a.top - a.base) inner_calls nested present k h))
+        let nested : AreNested w m.base (top - m.base) calls =
+        nested-same (val_at m) w m.base (top - m.base) (top - m.base) calls i.frames.nested
+        (enough (val_at m) m.base (top - m.base) (top - m.base) calls (omega arith) i.frames.nested)
+        (λ p l. below_same top (val_at m) p (omega (arith, l, o))) in
+        let present : (j : ℕ) → j < top - m.base → IsPresent (w (m.base + j)) =
+        λ j l. subst IsPresent (below_same top (val_at m) (m.base + j) (omega (arith, l, o))) (i.frames.present j l) in
+        below_low top (val_at m) place (subst IsPresent (same w) (through-present w (from w m.base) m.base (top - m.base) calls nested present k h))

@@ -3,14 +3,9 @@ pub mod Stored
 pub mod Reading
 pub mod Moving
 pub mod Calling
-pub mod Owned
 pub mod Holding
-pub mod Pooled
-pub mod Elements
 pub mod WritesAlone
-pub mod ArrayLists
 pub mod Totals
-pub mod CellKinds
 pub mod Following
 pub mod Counted
 pub mod Sight
@@ -21,3 +16,5 @@ pub mod Opening
 pub mod Leaving
 pub mod Declared
 pub mod Inwards
+pub mod Reserving
+pub mod Running

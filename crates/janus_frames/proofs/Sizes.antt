@@ -15,7 +15,7 @@ use Rattle.janus_frames.specs.Calls.{Caller, CanLend, Enters, Returns, AreAlone,
 use Rattle.janus_frames.specs.Cells.{parameters, stored}
 use Rattle.janus_frames.specs.FramesState.{FramesState, HasShape, names_there, with_names}
 use Rattle.janus_frames.specs.Kept.{AreHeld, outer_size}
-use Rattle.janus_frames.specs.Limits.{local_limit, call_limit, bound_limit}
+use Rattle.janus_frames.specs.Limits.{local_limit, call_limit, bound_limit, result_limit}
 use Rattle.janus_frames.proofs.Reading.{size-stored}
 use Rattle.janus_frames.proofs.Stored.{unbind-all, down}
 
@@ -150,7 +150,7 @@ module _ (f : FramesState) (d : ℕ) (ts : List Name) (h : AreHeld f d ts) where
       }
 
   -- there is memory for more
-  pub held-roomy : (r : ℕ) → f.room ≤ r → AreHeld (record { slots = f.slots; callers = f.callers; room = r }) d ts
+  pub held-roomy : (r : ℕ) → f.room ≤ r → AreHeld (record { slots = f.slots; callers = f.callers; room = r; writes = f.writes }) d ts
   held-roomy r l = record {
     one_text = h.one_text;
     many = h.many;
@@ -162,7 +162,8 @@ module _ (f : FramesState) (d : ℕ) (ts : List Name) (h : AreHeld f d ts) where
   }
 
   -- a name is declared
-  pub held-declared : (x y : Name) (v : Val) (us : List Name) → f.callers ≡ [] → d ≡ size_of f.slots → d + 1 + local_limit + bound_limit ≤ f.room →
+  pub held-declared : (x y : Name) (v : Val) (us : List Name) → f.callers ≡ [] → d ≡ size_of f.slots
+      → d + 1 + local_limit + bound_limit + result_limit ≤ f.room →
       us ≡ ts ++ x ∷ []
       → HaveOneNumber us → AreHeld (with_names (Slot y v f.slots) f) (d + 1) us
   held-declared x y v us c n r u one =

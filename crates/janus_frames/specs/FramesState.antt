@@ -13,10 +13,12 @@ pub record FramesState : Type 0 where
   pub callers : List Caller
   -- for how many names the memory was taken
   pub room : ℕ
+  -- how often values were written
+  pub writes : ℕ
 
 -- no names, with room for so many
 abbrev pub no_frames : ℕ → FramesState
-no_frames n = record { slots = Bare; callers = []; room = n }
+no_frames n = record { slots = Bare; callers = []; room = n; writes = 0 }
 
 -- how many names there are
 abbrev pub names_there : FramesState → ℕ
@@ -32,9 +34,9 @@ values_there h = held_in h.slots + values_lent h.callers
 
 -- other names are in sight, in the same calls
 abbrev pub with_names : Store → FramesState → FramesState
-with_names s h = record { slots = s; callers = h.callers; room = h.room }
+with_names s h = record { slots = s; callers = h.callers; room = h.room; writes = h.writes }
 
--- all but the values stays
+-- all but the values and the count of writes stays
 pub record HasShape (old new : FramesState) : Type 0 where
   pub slots : cleared new.slots ≡ cleared old.slots
   pub callers : new.callers ≡ old.callers
@@ -42,5 +44,5 @@ pub record HasShape (old new : FramesState) : Type 0 where
 
 abbrev pub frames_code : Coded FramesState
 frames_code =
-    code_by (Store × (List Caller × ℕ)) (coded× store_code (coded× (coded_list caller_code) coded_ℕ)) (λ h. (h.slots, (h.callers, h.room)))
-    (λ p. record { slots = p.0; callers = p.1.0; room = p.1.1 }) (λ _. refl)
+    code_by (Store × (List Caller × (ℕ × ℕ))) (coded× store_code (coded× (coded_list caller_code) (coded× coded_ℕ coded_ℕ)))
+    (λ h. (h.slots, (h.callers, (h.room, h.writes)))) (λ p. record { slots = p.0; callers = p.1.0; room = p.1.1.0; writes = p.1.1.1 }) (λ _. refl)

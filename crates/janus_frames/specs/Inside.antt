@@ -1,11 +1,11 @@
 -- How the fields of frames are read, and their invariant.
-use Rattle.std.specs.Prelude.{◌≡◌, ℕ, ℤ, ◌+◌, ◌-◌, ◌<◌, ◌≤◌, List, [], ◌∷◌, length, reverse, true, false, vec_capacity}
+use Rattle.std.specs.Prelude.{◌≡◌, ℕ, ◌+◌, ◌-◌, ◌<◌, ◌≤◌, List, [], ◌∷◌, length, reverse, true, false, vec_capacity}
 use Rattle.janus_meaning.specs.Limit.{live_stack_limit}
 use Rattle.janus_meaning.specs.Store.{Val, Lent}
-use Rattle.janus_frames.specs.Cells.{stored, has, AreApart, AreBelow, Heap, value_at, from, IsPresent, AreOwned}
+use Rattle.janus_memory.specs.Memory.{MemoryState, Plain, val_at, content_at, values_among}
+use Rattle.janus_frames.specs.Cells.{stored, has, AreApart, AreBelow, from, IsPresent}
 use Rattle.janus_frames.specs.Calls.{Caller, slots_of, names_of}
 use Rattle.janus_frames.specs.FramesState.{FramesState, stacks_there, values_there}
-use Rattle.janus_frames.specs.Stacks.{total}
 use Rattle.janus_frames.specs.Limits.{call_limit}
 use Rattle.janus_frames.specs.declared.frames.OpenCall.{OpenCall}
 use Rattle.janus_frames.specs.declared.frames.Frames.TheInside.{Inside}
@@ -16,16 +16,17 @@ callers_of v b [] = []
 callers_of v b (c ∷ cs) = record { args = names_of c.args; store = stored (from v c.base) (b - c.base) } ∷ callers_of v c.base cs
 
 -- frames of cells with these values
-abbrev pub state_at : (ℕ → Val) → ℕ → ℕ → List OpenCall → ℕ → FramesState
-state_at v base top calls room = record { slots = stored (from v base) (top - base); callers = callers_of v base calls; room = room }
+abbrev pub state_at : (ℕ → Val) → ℕ → ℕ → List OpenCall → ℕ → ℕ → FramesState
+state_at v base top calls room writes =
+    record { slots = stored (from v base) (top - base); callers = callers_of v base calls; room = room; writes = writes }
 
--- all arrays and all stacks
-abbrev pub heap_of : Inside → Heap
-heap_of a = record { arrays = a.arrays; stacks = a.stacks.lists }
+-- the frames that stand in a memory up to a place
+abbrev pub frames_in : MemoryState → ℕ → List OpenCall → FramesState
+frames_in m top calls = state_at (val_at m) m.base top calls m.room m.writes
 
 -- what the fields hold
-abbrev pub frames_of : Inside → FramesState
-frames_of a = state_at (value_at (heap_of a) a.cells.items) a.base a.top (reverse a.calls.items) (vec_capacity a.cells)
+abbrev pub frames_of : {L : Type 0} → Inside L → FramesState
+frames_of a = frames_in a.memory a.top (reverse a.calls.items)
 
 -- in a frame of n cells from b on, just these are lent
 pub record AreLent (v : ℕ → Val) (b n : ℕ) (xs : List ℕ) : Type 0 where
@@ -46,15 +47,28 @@ pub record AreFrames (v : ℕ → Val) (base top : ℕ) (calls : List OpenCall) 
   pub present : (k : ℕ) → k < top - base → IsPresent (v (base + k))
   pub nested : AreNested v base (top - base) calls
 
--- the stacks that live and the spare ones are all that may be, and they hold what the pool does
-pub record AreCounted (spare : List ℕ) (lists : List (List ℤ)) (h : FramesState) : Type 0 where
-  pub stacks : length spare + stacks_there h ≡ live_stack_limit
-  pub values : total lists ≡ values_there h
+-- the stacks that live and the spare ones are all that may be, and so many values are on them
+pub record AreCounted (spare many : ℕ) (h : FramesState) : Type 0 where
+  pub stacks : spare + stacks_there h ≡ live_stack_limit
+  pub values : many ≡ values_there h
+
+-- frames stand in a memory up to a place, and behind it are plain cells alone
+pub record AreIn (m : MemoryState) (top : ℕ) (calls : List OpenCall) : Type 0 where
+  pub frames : AreFrames (val_at m) m.base top calls
+  pub counted : AreCounted m.spare (values_among m.contents) (frames_in m top calls)
+  pub above : (p : ℕ) → top ≤ p → content_at m p ≡ Plain
+  pub long : top ≤ length m.numbers
+
+-- all but where values stand is as it was
+pub record HoldsAlike (old new : MemoryState) : Type 0 where
+  pub size : length new.numbers ≡ length old.numbers
+  pub base : new.base ≡ old.base
+  pub spare : new.spare ≡ old.spare
+  pub values : values_among new.contents ≡ values_among old.contents
+  pub room : new.room ≡ old.room
+  pub writes : new.writes ≡ old.writes
 
 -- the invariant of frames
-pub record IsKept (a : Inside) : Type 0 where
-  pub frames : AreFrames (value_at (heap_of a) a.cells.items) a.base a.top (reverse a.calls.items)
-  pub owned : AreOwned (length a.arrays) a.stacks.spare a.cells.items a.top
-  pub counted : AreCounted a.stacks.spare a.stacks.lists (frames_of a)
-  pub long : a.top ≤ length a.cells.items
+pub record IsKept {L : Type 0} (a : Inside L) : Type 0 where
+  pub inside : AreIn a.memory a.top (reverse a.calls.items)
   pub call_room : call_limit ≤ vec_capacity a.calls

@@ -5,12 +5,12 @@ use Rattle.janus_meaning.specs.Syntax.{Name}
 use Rattle.janus_meaning.specs.World.{size_of}
 use Rattle.janus_frames.specs.Calls.{Caller, AreShort, params_bound}
 use Rattle.janus_frames.specs.FramesState.{FramesState, names_there}
-use Rattle.janus_frames.specs.Limits.{local_limit, call_limit, bound_limit}
+use Rattle.janus_frames.specs.Limits.{local_limit, call_limit, bound_limit, result_limit}
 use Rattle.janus_frames.specs.StoreState.{StoreState, state_of}
 use Rattle.janus_frames.specs.declared.store.Store.TheInside.{Inside}
 
 abbrev pub held_of : {L : Type 0} → Inside L → StoreState
-held_of a = state_of a.frames.slots a.declared a.texts a.frames.callers a.writes
+held_of a = state_of a.frames.slots a.declared a.texts a.frames.callers a.frames.writes
 
 -- how many names are in sight outside of calls, where n are inside
 abbrev pub outer_size : ℕ → List Caller → ℕ
@@ -26,7 +26,7 @@ pub record AreHeld (frames : FramesState) (d : ℕ) (ts : List Name) : Type 0 wh
   pub few : names_there frames ≤ d + params_bound frames.callers + local_limit
   pub short : AreShort frames.callers
   pub calls : length frames.callers ≤ call_limit
-  pub room : d + local_limit + bound_limit ≤ frames.room
+  pub room : d + local_limit + bound_limit + result_limit ≤ frames.room
 
 abbrev pub IsHeld : {L : Type 0} → Inside L → Type 0
 IsHeld a = AreHeld a.frames a.declared a.texts

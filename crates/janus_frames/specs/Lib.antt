@@ -1,8 +1,6 @@
 pub mod Limits
-pub mod Lists
 pub mod Cells
 pub mod Calls
-pub mod Stacks
 pub mod Values
 pub mod Stores
 pub mod FramesState

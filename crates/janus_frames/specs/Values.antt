@@ -1,14 +1,11 @@
--- How values are seen, and what is read.
-use Rattle.std.specs.Prelude.{ℤ, pos, [], Option, Some, None}
-use Rattle.janus_meaning.specs.Fault.{Fault, Res, Fine, Bad, Broken}
-use Rattle.janus_meaning.specs.Store.{Val, Num, Arr, Stk, Lent}
-use Rattle.janus_frames.specs.Stacks.{held}
-use Rattle.janus_frames.specs.declared.cell.Kind.{Kind}
-use Rattle.janus_frames.specs.declared.cell.Kind.TheVariants as kinds
+-- What a name is declared with, and what is found.
+use Rattle.std.specs.Prelude.{pos, [], Option, Some, None}
+use Rattle.janus_meaning.specs.Fault.{Res, Fine, Bad, Broken}
+use Rattle.janus_meaning.specs.Store.{Val, Num, Arr, Stk}
+use Rattle.janus_memory.specs.Values.{shown}
+use Rattle.janus_memory.specs.declared.value.ValueView.{ValueView}
 use Rattle.janus_frames.specs.declared.value.Declared.{Declared}
 use Rattle.janus_frames.specs.declared.value.Declared.TheVariants as firsts
-use Rattle.janus_frames.specs.declared.value.ValueView.{ValueView}
-use Rattle.janus_frames.specs.declared.value.ValueView.TheVariants as views
 
 -- what a name is declared with
 abbrev pub first_of : Declared → Val
@@ -16,25 +13,7 @@ first_of firsts.Number = Num (pos 0)
 first_of (firsts.Array v) = Arr v.items
 first_of firsts.Stack = Stk []
 
--- the kind of a value
-abbrev pub kind_of : Val → Kind
-kind_of (Num n) = kinds.Number
-kind_of (Arr l) = kinds.Array
-kind_of (Stk l) = kinds.Stack
-kind_of Lent = kinds.Lent
-
--- what a lent value shows
-abbrev pub shown : ValueView → Val
-shown (views.Number n) = Num n
-shown (views.Array l) = Arr l.now
-shown (views.Stack s) = Stk (held s)
-
 -- a value that was looked up
 abbrev pub found : Option ValueView → Res Val
 found (Some v) = Fine (shown v)
 found None = Bad Broken
-
--- a number that was read, or why there is none
-abbrev pub read_or : Fault → Option ℤ → Res ℤ
-read_or f (Some n) = Fine n
-read_or f None = Bad f

@@ -1,33 +1,31 @@
 //! The names in sight, each with its value in a cell of one frame, and the frames of the open calls around it.
 
-ghost use Rattle.std.specs.Prelude.{◌≡◌, ◌≢◌, ◌<◌, ◌≤◌, ◌+◌, ◌-◌, ℕ, ℤ, pos, List, [], ◌∷◌, ◌++◌, length, reverse, IfOk, OnOk, OnErr, IsTrue, ◌↔◌};
-ghost use Rattle.std.specs.Prelude.{vec_len, vec_capacity, IfSome, None, true, false, ◌^◌};
+ghost use Rattle.std.specs.Prelude.{◌≡◌, ◌<◌, ◌≤◌, ◌+◌, ℕ, ℤ, List, [], ◌∷◌, length, reverse, IfOk, OnOk, OnErr, IsTrue, ◌↔◌};
+ghost use Rattle.std.specs.Prelude.{IfSome, None, true, false, ◌^◌};
 ghost use Rattle.janus_meaning.specs.Fault.{Fine, IndexRange, TopEmpty};
 ghost use Rattle.janus_meaning.specs.Syntax.{Name};
 ghost use Rattle.janus_meaning.specs.Limit.{live_stack_limit, value_limit};
 ghost use Rattle.janus_meaning.specs.Store.{Store as Values, Val, Slot, Num, Arr, Stk, look, element, set_element};
 ghost use Rattle.janus_meaning.specs.Value.{first};
-ghost use Rattle.janus_meaning.specs.World.{size_of, stacks_with};
+ghost use Rattle.janus_meaning.specs.World.{size_of};
 ghost use Rattle.janus_slots.specs.Slots.{slot};
-ghost use Rattle.janus_frames.specs.Cells.{IsFit, Heap, cell_at, index_of, IsPresent, val_of, has, from, stack_in};
-ghost use Rattle.janus_frames.specs.Lists.{list_of};
+ghost use Rattle.janus_memory.specs.Values.{kind_of, shown, read_or};
+ghost use Rattle.janus_frames.specs.Cells.{has, from};
 ghost use Rattle.janus_frames.specs.Calls.{CanLend, Enters, AreAlone, Returns, given_back, own_names, slots_of, names_of};
 ghost use Rattle.janus_frames.specs.FramesState.{no_frames, names_there, stacks_there, values_there, with_names, HasShape};
 ghost use Rattle.janus_frames.specs.Limits.{call_limit};
 ghost use Rattle.janus_frames.specs.Shown.{place_in, through, AreLow, IsStored};
 ghost use Rattle.janus_frames.specs.Stores.{IsNumber, IsArray, IsStack, IsHeldStack, HasElementAt, IsFirstOnTop, rest_of, write};
-ghost use Rattle.janus_frames.specs.Values.{first_of, kind_of, shown, read_or};
+ghost use Rattle.janus_frames.specs.Values.{first_of};
 
 use crate::args::Args;
-use crate::arrays::Arrays;
-use crate::cell::{Cell, Kind, LENT, index, index_cell, number_cell};
 use crate::limit::CALL_LIMIT;
 use crate::moves::{give_back, lend};
-use crate::stack_view;
-use crate::stacks::Stacks;
-use crate::value::{Declared, ValueView};
+use crate::value::Declared;
+use janus_memory::{Kind, Memory, Tally, ValueView};
 use std::alloc::{AllocError, Global};
 use std::marker::Model;
+use std::sync::ledger::{Blank, Ledger};
 
 /// Where an open call stands.
 #[derive(Clone, Copy)]
@@ -38,23 +36,18 @@ struct OpenCall {
     base: usize,
 }
 
-/// Cells in frames, one behind another, with all arrays and stacks. Contracts see the names in sight as a store, and the stores that open calls
-/// left behind.
+/// Frames of cells, one behind another, in one memory. Contracts see the names in sight as a store, and the stores that open calls left behind.
 #[derive(Drop)]
-pub(crate) struct Frames {
-    /// Those that a frame has or had.
-    cells: Vec<Cell>,
-    /// Where the frame in sight begins.
-    base: usize,
-    /// Behind its last name.
+pub(crate) struct Frames<L: Ledger> {
+    /// The cells, and where the frame in sight begins.
+    memory: Memory<L>,
+    /// Behind its last name. From there on are plain cells.
     top: usize,
     /// The open calls, the innermost last.
     calls: Vec<OpenCall>,
-    arrays: Arrays,
-    stacks: Stacks,
 }
 
-impl Model for Frames {
+impl<L: Ledger> Model for Frames<L> {
     ghost use Rattle.janus_frames.specs.FramesState.{FramesState, frames_code};
 
     ghost Value = { FramesState };
@@ -68,45 +61,55 @@ impl Model for Frames {
     ghost invariant = { IsKept };
 }
 
-impl Frames {
-    /// No names, with the memory of this many and of all stacks and calls that may be.
+impl<L: Ledger> Frames<L> {
+    /// No names, with the memory of this many cells and of all stacks and calls that may be, and no writes so far, which are counted in the ledger that
+    /// is opened by this blank; and a tally of that ledger, at 0.
     ///
     /// # Errors
     ///
     /// `AllocError` where there is no memory.
-    pub(crate) fn new(alloc: Global, room: usize) -> Result<Frames, AllocError>
-        ensures empty { IfOk result (λ f. f ≡ no_frames f.room) }
-        ensures room { IfOk result (λ f. room ≤ f.room) }
+    pub(crate) fn new(
+        alloc: Global,
+        room: usize,
+        blank: Blank,
+    ) -> Result<(Frames<L>, Tally<L>), AllocError>
+        requires name { blank.name ≡ L.name }
+        requires parts { blank.parts ≡ L.parts }
+        requires two { 1 < L.parts }
+        ensures empty { IfOk result (λ r. r.0 ≡ no_frames r.0.room) }
+        ensures room { IfOk result (λ r. room ≤ r.0.room) }
+        ensures tally { IfOk result (λ r. r.1 ≡ 0) }
     {
-        let cells = Vec::with_capacity(alloc, room)?;
         let calls = Vec::with_capacity(alloc, CALL_LIMIT)?;
-        let stacks = Stacks::new(alloc)?;
-        Ok(Frames {
-            cells,
-            base: 0,
+        let (memory, tally) = Memory::new(alloc, room, blank)?;
+        let frames = Frames {
+            memory,
             top: 0,
             calls,
-            arrays: Arrays::new(alloc),
-            stacks,
-        })
+        };
+        Ok((frames, tally))
     }
 
-    /// Takes the memory of this many names. An error for want of memory leaves the names.
+    /// Raises a tally of the ledger, and changes nothing of the frames.
+    pub(crate) fn count(&mut self, tally: &mut Tally<L>, amount: u64)
+        ensures counted { tally.new ≡ tally.old + amount }
+        ensures same { self.new ≡ self.old }
+    {
+        self.memory.count(tally, amount);
+    }
+
+    /// Takes the memory of this many cells. An error for want of memory leaves the names.
     pub(crate) fn reserve(&mut self, room: usize) -> Result<(), AllocError>
         ensures same { self.new ≡ record self.old { room = self.new.room } }
         ensures reached { OnOk result (room ≤ self.new.room) }
         ensures room { self.old.room ≤ self.new.room }
     {
-        let long = self.cells.len();
-        if room > long {
-            self.cells.reserve(room - long)?;
-        }
-        Ok(())
+        self.memory.reserve(room)
     }
 
     /// Where its memory is from.
     pub(crate) fn allocator(&self) -> Global {
-        *self.cells.allocator()
+        self.memory.allocator()
     }
 
     /// How many names are in sight.
@@ -114,7 +117,8 @@ impl Frames {
         ensures names { result ≡ size_of self.now.slots }
         ensures low { result < 2 ^ 63 }
     {
-        self.top - self.base
+        self.memory.law();
+        self.top - self.memory.base()
     }
 
     /// The kind of the k-th name in sight.
@@ -123,7 +127,8 @@ impl Frames {
         requires { k < size_of self.now.slots }
         ensures { (v : Val) → look (slot k) self.now.slots ≡ Fine v → result ≡ kind_of v }
     {
-        self.cells[self.base + k].kind
+        self.memory.law();
+        self.memory.kind(self.memory.base() + k)
     }
 
     /// The number of the k-th name in sight.
@@ -132,7 +137,7 @@ impl Frames {
         requires { IsNumber (look (slot k) self.now.slots) }
         ensures { look (slot k) self.now.slots ≡ Fine (Num result) }
     {
-        self.cells[self.base + k].number
+        self.memory.number(k)
     }
 
     /// The element at an index of the k-th name's array; none where the index is out of its range.
@@ -141,7 +146,7 @@ impl Frames {
         requires { IsArray (look (slot k) self.now.slots) }
         ensures { (l : List ℤ) → look (slot k) self.now.slots ≡ Fine (Arr l) → read_or IndexRange result ≡ element l at }
     {
-        self.arrays.element(index(self.cells[self.base + k]), at)
+        self.memory.element(k, at)
     }
 
     /// The value on top of the k-th name's stack; none where it is empty.
@@ -150,7 +155,7 @@ impl Frames {
         requires { IsStack (look (slot k) self.now.slots) }
         ensures { (l : List ℤ) → look (slot k) self.now.slots ≡ Fine (Stk l) → read_or TopEmpty result ≡ first l }
     {
-        self.stacks.top(index(self.cells[self.base + k]))
+        self.memory.top(k)
     }
 
     /// How many values the k-th name's stack has.
@@ -159,7 +164,7 @@ impl Frames {
         requires { IsStack (look (slot k) self.now.slots) }
         ensures { (l : List ℤ) → look (slot k) self.now.slots ≡ Fine (Stk l) → result ≡ length l }
     {
-        self.stacks.length(index(self.cells[self.base + k]))
+        self.memory.length(k)
     }
 
     /// Whether no stack takes a value more.
@@ -167,14 +172,14 @@ impl Frames {
     pub(crate) fn is_full(&self) -> bool
         ensures { IsTrue result ↔ (value_limit ≤ values_there self.now) }
     {
-        self.stacks.is_full()
+        self.memory.is_full()
     }
 
     /// How many stacks more may live.
     pub(crate) fn stacks_left(&self) -> usize
         ensures { result + stacks_there self.now ≡ live_stack_limit }
     {
-        self.stacks.len()
+        self.memory.stacks_left()
     }
 
     /// The value of the k-th name in sight, lent.
@@ -182,7 +187,8 @@ impl Frames {
         requires { k < size_of self.now.slots }
         ensures { look (slot k) self.now.slots ≡ Fine (shown result) }
     {
-        view(self.cells[self.base + k], &self.arrays, &self.stacks)
+        self.memory.law();
+        self.memory.view(self.memory.base() + k)
     }
 
     /// The value of the k-th of the outermost names, lent, while calls are open: it is followed inwards through their arguments.
@@ -190,8 +196,9 @@ impl Frames {
         requires { k < size_of (given_back self.now.slots self.now.callers) }
         ensures { look (slot k) (given_back self.now.slots self.now.callers) ≡ Fine (shown result) }
     {
-        let place = place_shown(&self.calls, self.base, k);
-        view(self.cells[place], &self.arrays, &self.stacks)
+        self.memory.law();
+        let place = place_shown(&self.calls, self.memory.base(), k);
+        self.memory.view(place)
     }
 
     /// Law: the names in sight are slots, and so are those outside of calls.
@@ -200,7 +207,7 @@ impl Frames {
         ensures sight { IsStored self.now.slots }
         ensures shown { IsStored (given_back self.now.slots self.now.callers) }
     {
-        let _base = self.base;
+        let _top = self.top;
     }
 
     /// Another number for the k-th name in sight; the answer is the one that it had.
@@ -210,10 +217,11 @@ impl Frames {
         ensures former { look (slot k) self.old.slots ≡ Fine (Num result) }
         ensures written { write (slot k) (Num number) self.old.slots ≡ Fine self.new.slots }
         ensures shape { HasShape self.old self.new }
+        ensures counted { self.new.writes ≡ self.old.writes + 1 }
     {
-        let place = self.base + k;
-        let former = self.cells[place].number;
-        self.cells[place] = number_cell(number);
+        self.memory.law();
+        let former = self.memory.number(k);
+        self.memory.set(k, number);
         former
     }
 
@@ -224,9 +232,10 @@ impl Frames {
         ensures written { (l : List ℤ) → look (slot k) self.old.slots ≡ Fine (Arr l) →
             write (slot k) (Arr (set_element l at number)) self.old.slots ≡ Fine self.new.slots }
         ensures shape { HasShape self.old self.new }
+        ensures counted { self.new.writes ≡ self.old.writes + 1 }
     {
-        let array = index(self.cells[self.base + k]);
-        self.arrays.set_element(array, at, number);
+        self.memory.law();
+        self.memory.set_element(k, at, number);
     }
 
     /// One number more, on top of the k-th name's stack.
@@ -236,9 +245,10 @@ impl Frames {
         requires room { values_there self.old < value_limit }
         ensures written { (l : List ℤ) → look (slot k) self.old.slots ≡ Fine (Stk l) → write (slot k) (Stk (number ∷ l)) self.old.slots ≡ Fine self.new.slots }
         ensures shape { HasShape self.old self.new }
+        ensures counted { self.new.writes ≡ self.old.writes + 1 }
     {
-        let stack = index(self.cells[self.base + k]);
-        self.stacks.push(stack, number);
+        self.memory.law();
+        self.memory.push(k, number);
     }
 
     /// Takes the number from the top of the k-th name's stack, which isn't empty.
@@ -249,9 +259,13 @@ impl Frames {
         ensures written { (n : ℤ) (l : List ℤ) → look (slot k) self.old.slots ≡ Fine (Stk (n ∷ l)) →
             write (slot k) (Stk l) self.old.slots ≡ Fine self.new.slots }
         ensures shape { HasShape self.old self.new }
+        ensures counted { self.new.writes ≡ self.old.writes + 1 }
     {
-        let stack = index(self.cells[self.base + k]);
-        self.stacks.pop(stack)
+        self.memory.law();
+        match self.memory.pop(k) {
+            Some(number) => number,
+            None => unreachable!(),
+        }
     }
 
     /// Opens a name with a number.
@@ -260,7 +274,10 @@ impl Frames {
         requires { names_there self.old < self.old.room }
         ensures { self.new ≡ with_names (Slot (slot (size_of self.old.slots)) (Num number) self.old.slots) self.old }
     {
-        put(&mut self.cells, self.top, number_cell(number));
+        self.memory.law();
+        self.memory.reach(self.top + 1);
+        self.memory.law();
+        self.memory.keep(self.top - self.memory.base(), number);
         self.top += 1;
     }
 
@@ -270,8 +287,10 @@ impl Frames {
         requires few { stacks_there self.old < live_stack_limit }
         ensures { self.new ≡ with_names (Slot (slot (size_of self.old.slots)) (Stk []) self.old.slots) self.old }
     {
-        let stack = self.stacks.take();
-        put(&mut self.cells, self.top, index_cell(Kind::Stack, stack));
+        self.memory.law();
+        self.memory.reach(self.top + 1);
+        self.memory.law();
+        self.memory.open_stack(self.top - self.memory.base());
         self.top += 1;
     }
 
@@ -281,8 +300,10 @@ impl Frames {
         ensures ok { OnOk result (self.new ≡ with_names (Slot (slot (size_of self.old.slots)) (Arr items.items) self.old.slots) self.old) }
         ensures err { OnErr result (self.new ≡ self.old) }
     {
-        let array = self.arrays.add(items)?;
-        put(&mut self.cells, self.top, index_cell(Kind::Array, array));
+        self.memory.law();
+        self.memory.reach(self.top + 1);
+        self.memory.law();
+        self.memory.put_array(self.top, items)?;
         self.top += 1;
         Ok(())
     }
@@ -310,7 +331,7 @@ impl Frames {
         ensures { (x : Name) (n : ℤ) (r : Values) → self.old.slots ≡ Slot x (Num n) r → (result ≡ n) × (self.new ≡ with_names r self.old) }
     {
         self.top -= 1;
-        self.cells[self.top].number
+        self.memory.number(self.top - self.memory.base())
     }
 
     /// Takes the newest name away, which has the value that it was opened with: 0, zeros, or an empty stack.
@@ -319,9 +340,9 @@ impl Frames {
         requires own { own_names 0 self.old.callers < size_of self.old.slots }
         ensures { self.new ≡ with_names (rest_of self.old.slots) self.old }
     {
-        let cell = self.cells[self.top - 1];
-        release(cell, &mut self.arrays, &mut self.stacks);
+        self.memory.law();
         self.top -= 1;
+        self.memory.release(self.top);
     }
 
     /// Enters a call of these arguments.
@@ -332,15 +353,15 @@ impl Frames {
         requires room { names_there self.old + length (slots_of args.now) ≤ self.old.room }
         ensures entered { Enters (names_of args.now) self.old.slots self.old.callers self.new.slots self.new.callers }
         ensures room { self.new.room ≡ self.old.room }
+        ensures unwritten { self.new.writes ≡ self.old.writes }
     {
         let slots = args.slots();
-        reach(&mut self.cells, self.top + slots.len());
-        lend(&mut self.cells, self.base, self.top, slots);
-        self.calls.push_reserved(OpenCall {
-            args: *args,
-            base: self.base,
-        });
-        self.base = self.top;
+        let base = self.memory.base();
+        self.memory.law();
+        self.memory.reach(self.top + slots.len());
+        lend(&mut self.memory, base, self.top, slots);
+        self.calls.push_reserved(OpenCall { args: *args, base });
+        self.memory.set_base(self.top);
         self.top += slots.len();
     }
 
@@ -350,46 +371,17 @@ impl Frames {
         requires { AreAlone self.old.callers self.old.slots }
         ensures left { Returns self.old.callers self.old.slots self.new.slots self.new.callers }
         ensures room { self.new.room ≡ self.old.room }
+        ensures unwritten { self.new.writes ≡ self.old.writes }
     {
         match self.calls.pop() {
             Some(call) => {
-                give_back(&mut self.cells, call.base, self.base, call.args.slots());
-                self.top = self.base;
-                self.base = call.base;
+                let base = self.memory.base();
+                give_back(&mut self.memory, call.base, base, call.args.slots());
+                self.top = base;
+                self.memory.set_base(call.base);
             }
             None => unreachable!(),
         }
-    }
-}
-
-/// The value in a cell, lent.
-fn view<'a>(cell: Cell, arrays: &'a Arrays, stacks: &'a Stacks) -> ValueView<'a>
-    requires fit { IsFit (length arrays.now) stacks.now.spare cell cell.kind }
-    requires present { (h : Heap) → IsPresent (val_of h cell) }
-    ensures { shown result ≡ val_of (record { arrays = arrays.now; stacks = stacks.now.lists }) cell }
-{
-    match cell.kind {
-        Kind::Number => ValueView::Number(cell.number),
-        Kind::Array => ValueView::Array(arrays.items(index(cell))),
-        Kind::Stack => ValueView::Stack(stack_view::lend(stacks.values(index(cell)))),
-        Kind::Lent => unreachable!(),
-    }
-}
-
-/// Lets the array of a cell go, or its empty stack.
-fn release(cell: Cell, arrays: &mut Arrays, stacks: &mut Stacks)
-    requires fit { IsFit (length arrays.old) stacks.old.spare cell cell.kind }
-    requires empty { cell.kind ≡ Kind.Stack → list_of stacks.old.lists (index_of cell) ≡ [] }
-    requires room { cell.kind ≡ Kind.Stack → length stacks.old.spare < live_stack_limit }
-    ensures arrays { (i : ℕ) → i < length arrays.old → (cell.kind ≡ Kind.Array → i ≢ index_of cell) →
-        (i < length arrays.new) × (list_of arrays.new i ≡ list_of arrays.old i) }
-    ensures lists { stacks.new.lists ≡ stacks.old.lists }
-    ensures spare { stacks.new.spare ≡ stacks.old.spare ++ stack_in cell cell.kind }
-{
-    match cell.kind {
-        Kind::Number | Kind::Lent => {}
-        Kind::Array => arrays.release(index(cell)),
-        Kind::Stack => stacks.give(index(cell)),
     }
 }
 
@@ -422,35 +414,4 @@ fn place_in(args: &[u16], slot: usize) -> Option<usize>
         }
     }
     None
-}
-
-/// Puts a cell behind the first ones, as many as `top`.
-#[inline(always)]
-fn put(cells: &mut Vec<Cell>, top: usize, cell: Cell)
-    requires order { top ≤ vec_len cells.old }
-    requires room { top < vec_capacity cells.old }
-    ensures before { (p : ℕ) → p < top → cell_at cells.new.items p ≡ cell_at cells.old.items p }
-    ensures there { cell_at cells.new.items top ≡ cell }
-    ensures long { top < vec_len cells.new }
-    ensures room { vec_capacity cells.new ≡ vec_capacity cells.old }
-{
-    if top < cells.len() {
-        cells[top] = cell;
-    } else {
-        cells.push_reserved(cell);
-    }
-}
-
-/// Lets there be this many cells.
-#[inline(always)]
-fn reach(cells: &mut Vec<Cell>, count: usize)
-    requires { count ≤ vec_capacity cells.old }
-    ensures before { (p : ℕ) → p < vec_len cells.old → cell_at cells.new.items p ≡ cell_at cells.old.items p }
-    ensures long { count ≤ vec_len cells.new }
-    ensures more { vec_len cells.old ≤ vec_len cells.new }
-    ensures room { vec_capacity cells.new ≡ vec_capacity cells.old }
-{
-    for _i in cells.len()..count {
-        cells.push_reserved(LENT);
-    }
 }

@@ -14,45 +14,35 @@
 //! are lent.
 //!
 //! The modules, in the order in which a reader needs them:
-//! - `limit`: how many locals, calls, parameters and values a store takes memory for.
-//! - `cell`, `args`, `arguments`: a cell of a frame, and the arguments of a call.
-//! - `arrays`, `stacks`: all arrays, and all stacks that may live in one `cell_pool`, each at its index.
-//! - `value`, `stack_view`: a value as it is declared and as it is lent, and the values of a stack.
-//! - `moves`: cells that are moved from the frame of a caller to that of a call, and back.
-//! - `frames`: the frame in sight and those of the open calls around it.
-//! - `writes`: the count of the writes, and a tally beside it, which contracts alone see.
-//! - `store`: the frames with the texts of the declared names and the count of writes.
+//! - `limit`: how many locals, calls, parameters and results a store takes memory for.
+//! - `args`, `arguments`: the arguments of a call.
+//! - `value`: a value as it is declared.
+//! - `moves`: values that are moved from the frame of a caller to that of a call, and back.
+//! - `frames`: the frame in sight and those of the open calls around it, in one `janus_memory`.
+//! - `store`: the frames with the texts of the declared names.
 //! - `laws`: that a write changes its name alone.
 //!
 //! The definitions, in specs/, in reading order; `slot`, `in_slots` and `under_names` are defined in `janus_slots`, and `pull`, `bind`, `unbind` and
 //! `fill` in `janus_meaning`, after the calls by reference of the Janus paper (Yokoyama, Axelsen and Glück 2008), read as an exchange of values:
 //!
-//! - `Lists`, `Cells`: cells as stores of slots, and that each array and each stack has one cell.
+//! - `Cells`: cells as stores of slots.
 //! - `Calls`: what entering and leaving a call does, and what is shown while calls are open.
 //! - `Limits`, `StoreState`: how much may be open, and what a store holds. `Stores`, `Values`: what contracts say of a name and its value.
 //!   `Laws`: the law of writes.
-//! - `Stacks`, `FramesState`, `Shown`: the stacks of the pool, what frames hold, and how a name is followed inwards.
+//! - `FramesState`, `Shown`: what frames hold, and how a name is followed inwards.
 //! - `Inside`, `Kept`: the invariants that read the fields of the code.
 #![tactic(auto)]
 
 mod args;
 mod arguments;
-mod arrays;
-mod cell;
 mod frames;
 pub mod laws;
 mod limit;
 mod moves;
-mod stack_view;
-mod stacks;
 mod store;
 mod value;
-mod writes;
 
 pub use crate::args::Args;
-pub use crate::cell::Kind;
 pub use crate::limit::CALL_LIMIT;
-pub use crate::stack_view::StackView;
 pub use crate::store::Store;
-pub use crate::value::ValueView;
-pub use crate::writes::Tally;
+pub use janus_memory::{Kind, StackView, Tally, ValueView};

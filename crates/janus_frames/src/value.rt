@@ -1,6 +1,4 @@
-//! Values of names, as they are declared and as they are lent.
-
-use crate::stack_view::StackView;
+//! Values as names are declared with them.
 
 /// What a name is declared as.
 #[derive(Drop)]
@@ -9,14 +7,4 @@ pub(crate) enum Declared {
     /// Its elements.
     Array(Vec<i32>),
     Stack,
-}
-
-/// A value that is lent to be read.
-#[derive(Clone, Copy)]
-pub enum ValueView<'a> {
-    Number(i32),
-    /// The elements, from index 0 on.
-    Array(&'a [i32]),
-    /// The values, from the top down.
-    Stack(StackView<'a>),
 }

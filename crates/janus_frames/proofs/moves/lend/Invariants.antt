@@ -1,11 +1,16 @@
-use Rattle.std.proofs.Common.{◌≡◌, ◌<◌, ◌+◌, ◌-◌, ℕ, length, cond, take, get_or}
-use Rattle.janus_frames.specs.Cells.{has, cell_at, lent_cell}
+use Rattle.std.proofs.Common.{◌≡◌, ◌<◌, ◌≤◌, ◌+◌, ◌-◌, ℕ, cond, take, get_or}
+use Rattle.janus_meaning.specs.Store.{Lent}
+use Rattle.janus_memory.specs.Memory.{Plain, content_at, val_at}
+use Rattle.janus_frames.specs.Cells.{has}
+use Rattle.janus_frames.specs.Inside.{HoldsAlike}
 use Rattle.janus_frames.proofs.moves.lend.Given as goal
 
 abbrev pub invariant-loop-i : goal.invariant-loop-i
-invariant-loop-i l = record {
-  size : length l.cells ≡ length l.initial.cells;
-  before : (p : ℕ) → p < l.base → cell_at l.cells p ≡ cell_at l.initial.cells p;
-  frame : (k : ℕ) → k < l.top - l.base → cell_at l.cells (l.base + k) ≡ cond (has (take l.i l.args) k) lent_cell (cell_at l.initial.cells (l.base + k));
-  moved : (j : ℕ) → j < l.i → cell_at l.cells (l.top + (l.count - (j + 1))) ≡ cell_at l.initial.cells (l.base + get_or l.args j 0);
+invariant-loop-i g l = record {
+  alike : HoldsAlike l.initial.memory l.memory;
+  before : (p : ℕ) → p < l.base → val_at l.memory p ≡ val_at l.initial.memory p;
+  frame : (k : ℕ) → k < l.top - l.base → val_at l.memory (l.base + k) ≡ cond (has (take l.i l.args) k) Lent (val_at l.initial.memory (l.base + k));
+  moved : (j : ℕ) → j < l.i → val_at l.memory (l.top + (l.count - (j + 1))) ≡ val_at l.initial.memory (l.base + get_or l.args j 0);
+  free : (p : ℕ) → l.top ≤ p → p < l.top + (l.count - l.i) → content_at l.memory p ≡ Plain;
+  above : (p : ℕ) → l.top + l.count ≤ p → content_at l.memory p ≡ Plain;
 }

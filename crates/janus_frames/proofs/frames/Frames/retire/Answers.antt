@@ -1,132 +1,77 @@
-use Rattle.std.proofs.Common.{◌≡◌, ◌-◌, ◌<◌, ◌≢◌, ℕ, suc, [], ◌++◌, length, ap, refl, ◌∙◌, sym, subst, arith}
-use Rattle.std.specs.Prelude.{reverse, vec_capacity}
+use Rattle.std.proofs.Common.{◌≡◌, ◌+◌, ◌-◌, ◌<◌, set, ap, ◌∙◌, sym, subst, arith}
+use Rattle.std.specs.Prelude.{reverse}
 use Rattle.janus_meaning.specs.Store.{Slot, cleared_val}
-use Rattle.janus_meaning.specs.Limit.{live_stack_limit}
-use Rattle.janus_meaning.specs.World.{size_of, stacks_in, stacks_with}
-use Rattle.janus_frames.specs.Cells.{cell_at, index_of, value_at, from, stored, Heap, AreOwned, stack_in}
+use Rattle.janus_meaning.specs.World.{size_of}
+use Rattle.janus_memory.specs.Memory.{Plain, val_at, content_at, number_at}
+use Rattle.janus_frames.specs.Cells.{IsPresent}
 use Rattle.janus_frames.specs.Calls.{own_names}
 use Rattle.janus_frames.specs.FramesState.{FramesState, with_names}
-use Rattle.janus_frames.specs.Inside.{frames_of, heap_of, state_at, AreCounted}
-use Rattle.janus_frames.specs.Lists.{list_of}
+use Rattle.janus_frames.specs.Inside.{frames_in, AreIn}
 use Rattle.janus_frames.specs.Stores.{rest_of}
-use Rattle.janus_frames.specs.declared.cell.Cell.{Cell}
-use Rattle.janus_frames.specs.declared.cell.Kind.TheVariants as kinds
-use Rattle.janus_frames.proofs.CellKinds.{array-fit, stack-value, same-held}
 use Rattle.janus_frames.proofs.Opening as opening
-use Rattle.janus_frames.proofs.Owned.{last-owned}
-use Rattle.janus_frames.proofs.Sight.{read-cell}
+use Rattle.janus_frames.proofs.Totals.{one_stack}
 use Rattle.janus_frames.proofs.frames.Frames.retire.Goals as goal
 
 pub release-requires-clause-empty : goal.release-requires-clause-empty
-release-requires-clause-empty c =
+release-requires-clause-empty g c =
     let a = c.self.inside in
-    let i = c.self.invariant in
-    let hp = heap_of a in
-    let cs = a.cells.items in
-    let own : own_names 0 (frames_of a).callers < size_of (frames_of a).slots =
+    let m = a.memory in
+    let t = a.top in
+    let cs = reverse a.calls.items in
+    let i = c.self.invariant.inside in
+    let own : own_names 0 (frames_in m t cs).callers < size_of (frames_in m t cs).slots =
     subst (λ (h : FramesState). own_names 0 h.callers < size_of h.slots) (sym c.self.view_is) c.requires.own in
-    let low = opening.last-there a i own in
-    let b = cell_at cs (a.top - 1) in
-    let r = read-cell cs (a.top - 1) c.index-cell.result.now (let l = i.long in omega (arith, l, low)) c.index-cell.ensures in
+    let there = opening.last-there m t cs i own in
     let f = c.requires.first in
-    let e : (frames_of a).slots ≡ Slot f.0 f.1 f.2 = ap (λ (h : FramesState). h.slots) c.self.view_is ∙ f.3 in
-    let newest : value_at hp cs (a.top - 1) ≡ f.1 = opening.newest-value a i own f.0 f.1 f.2 e in
-    let first : cleared_val (value_at hp cs (a.top - 1)) ≡ value_at hp cs (a.top - 1) = ap cleared_val newest ∙ f.4 ∙ sym newest in
-    subst (λ (x : Cell). x.kind ≡ kinds.Stack → list_of a.stacks.lists (index_of x) ≡ []) (sym r) (opening.empty-stack hp b b.kind first)
-
-pub release-requires-clause-room : goal.release-requires-clause-room
-release-requires-clause-room c =
-    let a = c.self.inside in
-    let i = c.self.invariant in
-    let hp = heap_of a in
-    let cs = a.cells.items in
-    let own : own_names 0 (frames_of a).callers < size_of (frames_of a).slots =
-    subst (λ (h : FramesState). own_names 0 h.callers < size_of h.slots) (sym c.self.view_is) c.requires.own in
-    let low = opening.last-there a i own in
-    let b = cell_at cs (a.top - 1) in
-    let r = read-cell cs (a.top - 1) c.index-cell.result.now (let l = i.long in omega (arith, l, low)) c.index-cell.ensures in
-    let f = c.requires.first in
-    let e : (frames_of a).slots ≡ Slot f.0 f.1 f.2 = ap (λ (h : FramesState). h.slots) c.self.view_is ∙ f.3 in
-    let newest : value_at hp cs (a.top - 1) ≡ f.1 = opening.newest-value a i own f.0 f.1 f.2 e in
-    let first : cleared_val (value_at hp cs (a.top - 1)) ≡ value_at hp cs (a.top - 1) = ap cleared_val newest ∙ f.4 ∙ sym newest in
-    let rest = stored (from (value_at hp cs) a.base) (a.top - 1 - a.base) in
-    let fs = opening.fewer-slots a i own hp (λ q l. refl) in
-    let counted = i.counted.stacks in
-    subst (λ (x : Cell). x.kind ≡ kinds.Stack → length a.stacks.spare < live_stack_limit) (sym r)
-    (λ k. let s : stacks_in (frames_of a).slots ≡ suc (stacks_in rest) = ap stacks_in fs
-    ∙ ap (λ v. stacks_with v (stacks_in rest)) (stack-value hp b b.kind k) in
-    omega (arith, counted, s))
+    let e : (frames_in m t cs).slots ≡ Slot f.0 f.1 f.2 = ap (λ (h : FramesState). h.slots) c.self.view_is ∙ f.3 in
+    let newest : val_at m (t - 1) ≡ f.1 = opening.newest-value m t cs i own f.0 f.1 f.2 e in
+    let first : cleared_val (val_at m (t - 1)) ≡ val_at m (t - 1) = ap cleared_val newest ∙ f.4 ∙ sym newest in
+    let last : t - 1 ≡ m.base + (t - m.base - 1) = omega (arith, there) in
+    let p : IsPresent (val_at m (t - 1)) = subst (λ q. IsPresent (val_at m q)) (sym last) (i.frames.present (t - m.base - 1) (omega (arith, there))) in
+    opening.none-on (number_at m (t - 1)) (content_at m (t - 1)) first
 
 pub invariant_of-self : goal.invariant_of-self
-invariant_of-self c =
+invariant_of-self g c =
     let a = c.self.inside in
-    let i = c.self.invariant in
-    let hp = heap_of a in
-    let cs = a.cells.items in
-    let own : own_names 0 (frames_of a).callers < size_of (frames_of a).slots =
+    let m = a.memory in
+    let t = a.top in
+    let cs = reverse a.calls.items in
+    let i = c.self.invariant.inside in
+    let own : own_names 0 (frames_in m t cs).callers < size_of (frames_in m t cs).slots =
     subst (λ (h : FramesState). own_names 0 h.callers < size_of h.slots) (sym c.self.view_is) c.requires.own in
-    let low = opening.last-there a i own in
-    let b = cell_at cs (a.top - 1) in
-    let r = read-cell cs (a.top - 1) c.index-cell.result.now (let l = i.long in omega (arith, l, low)) c.index-cell.ensures in
+    let there = opening.last-there m t cs i own in
     let f = c.requires.first in
-    let e : (frames_of a).slots ≡ Slot f.0 f.1 f.2 = ap (λ (h : FramesState). h.slots) c.self.view_is ∙ f.3 in
-    let newest : value_at hp cs (a.top - 1) ≡ f.1 = opening.newest-value a i own f.0 f.1 f.2 e in
-    let first : cleared_val (value_at hp cs (a.top - 1)) ≡ value_at hp cs (a.top - 1) = ap cleared_val newest ∙ f.4 ∙ sym newest in
-    let ms = c.release.new.arrays in
-    let ls = c.release.new.stacks.lists in
-    let hq : Heap = record { arrays = ms; stacks = ls } in
-    let more : (j : ℕ) → j < length a.arrays → (b.kind ≡ kinds.Array → j ≢ index_of b) → (j < length ms) × (list_of ms j ≡ list_of a.arrays j) =
-    subst (λ (x : Cell). (j : ℕ) → j < length a.arrays → (x.kind ≡ kinds.Array → j ≢ index_of x) → (j < length ms) × (list_of ms j ≡ list_of a.arrays j)) r
-    c.release.ensures.arrays in
-    let spare : c.release.new.stacks.spare ≡ a.stacks.spare ++ stack_in b b.kind =
-    c.release.ensures.spare ∙ ap (λ (x : Cell). a.stacks.spare ++ stack_in x x.kind) r in
-    let same : (q : ℕ) → q < a.top - 1 → value_at hq cs q ≡ value_at hp cs q =
-    λ q l. same-held hp hq (cell_at cs q) (cell_at cs q).kind
-    (λ k. (more (index_of (cell_at cs q)) (array-fit (length a.arrays) a.stacks.spare (cell_at cs q) (cell_at cs q).kind k (i.owned.fit q (omega arith))).1
-    (λ kb eq. let z = i.owned.arrays_once q (a.top - 1) (omega arith) (omega arith) k kb eq in omega (arith, z, l))).1)
-    (λ k. ap (λ ls. list_of ls (index_of (cell_at cs q))) c.release.ensures.lists) in
-    let z : a.top ≡ suc (a.top - 1) = omega arith in
-    let owned = last-owned (length a.arrays) (length ms) a.stacks.spare cs (a.top - 1) (subst (AreOwned (length a.arrays) a.stacks.spare cs) z i.owned)
-    (λ j l h. (more j l h).0) in
-    let counted = opening.fewer-counted a i own hq same c.release.new.stacks.spare (ap length spare ∙ opening.stack-count hp b b.kind a.stacks.spare)
-    (opening.none-held (value_at hp cs (a.top - 1)) first) in
-    record {
-      frames = opening.fewer-frames a i own hq same;
-      owned = subst (λ s. AreOwned (length ms) s cs (a.top - 1)) (sym spare) owned;
-      counted = subst (λ ks. AreCounted c.release.new.stacks.spare ks
-          (state_at (value_at hq cs) a.base (a.top - 1) (reverse a.calls.items) (vec_capacity a.cells)))
-          (sym c.release.ensures.lists) counted;
-      long = let l = i.long in omega (arith, l);
-      call_room = i.call_room;
-    }
+    let e : (frames_in m t cs).slots ≡ Slot f.0 f.1 f.2 = ap (λ (h : FramesState). h.slots) c.self.view_is ∙ f.3 in
+    let newest : val_at m (t - 1) ≡ f.1 = opening.newest-value m t cs i own f.0 f.1 f.2 e in
+    let first : cleared_val (val_at m (t - 1)) ≡ val_at m (t - 1) = ap cleared_val newest ∙ f.4 ∙ sym newest in
+    let last : t - 1 ≡ m.base + (t - m.base - 1) = omega (arith, there) in
+    let p : IsPresent (val_at m (t - 1)) = subst (λ q. IsPresent (val_at m q)) (sym last) (i.frames.present (t - m.base - 1) (omega (arith, there))) in
+    let n = set m.contents (t - 1) Plain in
+    let s = m.spare + one_stack (val_at m (t - 1)) in
+    let new : c.release.new.self ≡ record m { contents = n; spare = s } = c.release.ensures ∙ opening.released-is m (t - 1) p in
+    let cl = opening.release-closed m t cs i c.law.ensures.contents (omega (arith, there)) p (opening.none-held (val_at m (t - 1)) first) in
+    record { inside = subst (λ n. AreIn n (t - 1) cs) (sym new) (opening.fewer-in m t cs i own n s cl); call_room = c.self.invariant.call_room }
 
 pub returns : goal.returns
-returns c =
+returns g c =
     let a = c.self.inside in
-    let i = c.self.invariant in
-    let hp = heap_of a in
-    let cs = a.cells.items in
-    let own : own_names 0 (frames_of a).callers < size_of (frames_of a).slots =
+    let m = a.memory in
+    let t = a.top in
+    let cs = reverse a.calls.items in
+    let i = c.self.invariant.inside in
+    let own : own_names 0 (frames_in m t cs).callers < size_of (frames_in m t cs).slots =
     subst (λ (h : FramesState). own_names 0 h.callers < size_of h.slots) (sym c.self.view_is) c.requires.own in
-    let low = opening.last-there a i own in
-    let b = cell_at cs (a.top - 1) in
-    let r = read-cell cs (a.top - 1) c.index-cell.result.now (let l = i.long in omega (arith, l, low)) c.index-cell.ensures in
+    let there = opening.last-there m t cs i own in
     let f = c.requires.first in
-    let e : (frames_of a).slots ≡ Slot f.0 f.1 f.2 = ap (λ (h : FramesState). h.slots) c.self.view_is ∙ f.3 in
-    let newest : value_at hp cs (a.top - 1) ≡ f.1 = opening.newest-value a i own f.0 f.1 f.2 e in
-    let first : cleared_val (value_at hp cs (a.top - 1)) ≡ value_at hp cs (a.top - 1) = ap cleared_val newest ∙ f.4 ∙ sym newest in
-    let ms = c.release.new.arrays in
-    let ls = c.release.new.stacks.lists in
-    let hq : Heap = record { arrays = ms; stacks = ls } in
-    let more : (j : ℕ) → j < length a.arrays → (b.kind ≡ kinds.Array → j ≢ index_of b) → (j < length ms) × (list_of ms j ≡ list_of a.arrays j) =
-    subst (λ (x : Cell). (j : ℕ) → j < length a.arrays → (x.kind ≡ kinds.Array → j ≢ index_of x) → (j < length ms) × (list_of ms j ≡ list_of a.arrays j)) r
-    c.release.ensures.arrays in
-    let spare : c.release.new.stacks.spare ≡ a.stacks.spare ++ stack_in b b.kind =
-    c.release.ensures.spare ∙ ap (λ (x : Cell). a.stacks.spare ++ stack_in x x.kind) r in
-    let same : (q : ℕ) → q < a.top - 1 → value_at hq cs q ≡ value_at hp cs q =
-    λ q l. same-held hp hq (cell_at cs q) (cell_at cs q).kind
-    (λ k. (more (index_of (cell_at cs q)) (array-fit (length a.arrays) a.stacks.spare (cell_at cs q) (cell_at cs q).kind k (i.owned.fit q (omega arith))).1
-    (λ kb eq. let z = i.owned.arrays_once q (a.top - 1) (omega arith) (omega arith) k kb eq in omega (arith, z, l))).1)
-    (λ k. ap (λ ls. list_of ls (index_of (cell_at cs q))) c.release.ensures.lists) in
-    opening.fewer-state a i own hq same (rest_of (frames_of a).slots) (sym (ap rest_of (opening.fewer-slots a i own hq same)))
+    let e : (frames_in m t cs).slots ≡ Slot f.0 f.1 f.2 = ap (λ (h : FramesState). h.slots) c.self.view_is ∙ f.3 in
+    let newest : val_at m (t - 1) ≡ f.1 = opening.newest-value m t cs i own f.0 f.1 f.2 e in
+    let first : cleared_val (val_at m (t - 1)) ≡ val_at m (t - 1) = ap cleared_val newest ∙ f.4 ∙ sym newest in
+    let last : t - 1 ≡ m.base + (t - m.base - 1) = omega (arith, there) in
+    let p : IsPresent (val_at m (t - 1)) = subst (λ q. IsPresent (val_at m q)) (sym last) (i.frames.present (t - m.base - 1) (omega (arith, there))) in
+    let n = set m.contents (t - 1) Plain in
+    let s = m.spare + one_stack (val_at m (t - 1)) in
+    let new : c.release.new.self ≡ record m { contents = n; spare = s } = c.release.ensures ∙ opening.released-is m (t - 1) p in
+    let cl = opening.release-closed m t cs i c.law.ensures.contents (omega (arith, there)) p (opening.none-held (val_at m (t - 1)) first) in
+    ap (λ n. frames_in n (t - 1) cs) new
+    ∙ opening.fewer-state m t cs i own n s cl (rest_of (frames_in m t cs).slots) (sym (ap rest_of (opening.fewer-slots m t cs i own n s cl)))
     ∙ ap (λ (h : FramesState). with_names (rest_of h.slots) h) c.self.view_is

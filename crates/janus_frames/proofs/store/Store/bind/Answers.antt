@@ -34,5 +34,5 @@ returns g c =
     let a = c.self.inside in
     let i = c.self.invariant in
     let f = c.enter.new.self in
-    subst (λ (h : StoreState). IsEntered (names_of c.args.args.now) h (state_of f.slots a.declared a.texts f.callers a.writes)) c.self.view_is
-    (record { declared = refl; texts = refl; unwritten = refl; entered = c.enter.ensures.entered })
+    subst (λ (h : StoreState). IsEntered (names_of c.args.args.now) h (state_of f.slots a.declared a.texts f.callers f.writes)) c.self.view_is
+    (record { declared = refl; texts = refl; unwritten = c.enter.ensures.unwritten; entered = c.enter.ensures.entered })

@@ -1,7 +1,7 @@
 use Rattle.std.proofs.Common.{OnOk, subst, ◌∙◌}
 use Rattle.janus_meaning.specs.Store.{Arr}
 use Rattle.janus_frames.specs.StoreState.{Declares}
-use Rattle.janus_frames.proofs.Elements.{zeros_are}
+use Rattle.janus_memory.proofs.Elements.{zeros_are}
 use Rattle.janus_frames.proofs.store.Store.declare_array.Goals as goal
 
 pub returns-clause-ok : goal.returns-clause-ok

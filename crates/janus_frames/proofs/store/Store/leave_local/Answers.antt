@@ -46,7 +46,7 @@ returns-clause-left g c = λ x n r f.
     let z = c.close.ensures x n r (ap (λ (h : StoreState). h.slots) c.self.view_is ∙ f) in (
       to_z-of_z w32 c.close.result (record { sfits = c.close.type_inv })
           ∙ z.0,
-      ap (λ (f : FramesState). state_of f.slots a.declared a.texts f.callers a.writes) z.1 ∙ ap (with_slots r) c.self.view_is,
+      ap (λ (f : FramesState). state_of f.slots a.declared a.texts f.callers f.writes) z.1 ∙ ap (with_slots r) c.self.view_is,
     )
 
 pub returns-clause-room : goal.returns-clause-room

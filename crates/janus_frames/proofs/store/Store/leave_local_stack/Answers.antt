@@ -36,5 +36,5 @@ returns g c = λ x r f.
     let a = c.self.inside in
     let i = c.self.invariant in
     let e : a.frames.slots ≡ Slot x (Stk []) r = ap (λ (h : StoreState). h.slots) c.self.view_is ∙ f in
-    ap (λ (f : FramesState). state_of f.slots a.declared a.texts f.callers a.writes) (c.retire.ensures ∙ ap (λ s. with_names (rest_of s) a.frames) e)
+    ap (λ (f : FramesState). state_of f.slots a.declared a.texts f.callers f.writes) (c.retire.ensures ∙ ap (λ s. with_names (rest_of s) a.frames) e)
     ∙ ap (with_slots r) c.self.view_is

@@ -54,6 +54,6 @@ returns g c =
     let t : c.truncate.new.self ≡ take (c.args.self.now.declared - 1) c.args.self.now.texts =
     c.truncate.ensures.names ∙ ap (λ (h : StoreState). take (h.declared - 1) h.texts) c.self.view_is in
     let k : new.callers ≡ [] = ap (λ (f : FramesState). f.callers) c.retire.ensures ∙ n in
-    let w : a.writes ≡ c.args.self.now.writes = ap (λ (h : StoreState). h.writes) c.self.view_is in
+    let w : new.writes ≡ c.args.self.now.writes = ap (λ (f : FramesState). f.writes) c.retire.ensures ∙ ap (λ (h : StoreState). h.writes) c.self.view_is in
     same-state new.slots (rest_of c.args.self.now.slots) (a.declared - 1) (c.args.self.now.declared - 1) c.truncate.new.self
-    (take (c.args.self.now.declared - 1) c.args.self.now.texts) new.callers [] a.writes c.args.self.now.writes s d t k w
+    (take (c.args.self.now.declared - 1) c.args.self.now.texts) new.callers [] new.writes c.args.self.now.writes s d t k w

@@ -1,7 +1,0 @@
-use Rattle.std.proofs.Common.{◌≡◌, drop}
-use Rattle.cell_pool.specs.Lent.{values_of}
-use Rattle.janus_frames.specs.Stacks.{held}
-use Rattle.janus_frames.proofs.stack_view.StackView.get.Given as goal
-
-abbrev pub invariant-loop-i : goal.invariant-loop-i
-invariant-loop-i l = values_of l.values ≡ drop l._i (held l.fn.self)

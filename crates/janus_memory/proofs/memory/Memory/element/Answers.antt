@@ -1,0 +1,10 @@
+use Rattle.std.proofs.Common.{◌+◌}
+use Rattle.janus_memory.proofs.Reading as reading
+use Rattle.janus_memory.proofs.memory.Memory.element.Goals as goal
+
+pub element-requires : goal.element-requires
+element-requires g c =
+    let a = c.self.inside in
+    let p = a.base + c.args.k in
+    reading.array-low a p c.index.result.now (reading.frame-low a c.args.self.now c.self.view_is c.args.k c.requires) c.index.ensures c.in-Array.array
+    c.self.invariant c.in-Array.is

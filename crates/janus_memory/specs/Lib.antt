@@ -1,0 +1,5 @@
+pub mod Lists
+pub mod Stacks
+pub mod Memory
+pub mod Values
+pub mod Inside
