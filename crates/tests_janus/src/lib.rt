@@ -16,6 +16,7 @@ mod lines;
 mod octets;
 mod outlines;
 mod questions;
+mod rows;
 mod schedules;
 mod stores;
 mod streams;

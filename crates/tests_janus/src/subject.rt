@@ -1,5 +1,5 @@
 //! What the rows of a block are about.
-use crate::{laid, limits, lines, stores, texts, transcripts, whole};
+use crate::{laid, limits, lines, rows, stores, texts, transcripts, whole};
 use std::alloc::AllocError;
 use std::fmt::Debug;
 use tests_rows::Sheet;
@@ -25,6 +25,7 @@ impl Subject for Plain<'_> {
             "limits" => limits::answer(call, sheet),
             "laid" => laid::answer(call, sheet),
             "whole" => whole::answer(call, sheet),
+            "rows" => rows::answer(call, sheet),
             _ => transcripts::answer(call, sheet),
         }
     }

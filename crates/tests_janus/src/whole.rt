@@ -146,7 +146,7 @@ fn row_of(alloc: Global, text: &str, frame: &FrameNames) -> Result<FlatRow, Allo
 }
 
 /// The code of a text.
-fn code_of_text(alloc: Global, text: &str) -> Result<Code, AllocError> {
+pub(crate) fn code_of_text(alloc: Global, text: &str) -> Result<Code, AllocError> {
     match parse_cell(alloc, text) {
         Ok(cell) => code_of(alloc, &cell.statements),
         Err(_) => Err(AllocError),
