@@ -7,20 +7,13 @@ use Rattle.std.proofs.sync.ledger.Book.TheSendSync.{the_send as book_send}
 use Rattle.std.proofs.sync.ledger.Share.TheSendSync.{the_send as share_send}
 use Rattle.janus_names.proofs.Crosses.{Names-send}
 use Rattle.janus_linear.proofs.Crosses.{Linear-send}
-use Rattle.janus_row.specs.contracts.code.Row as Row
-use Rattle.janus_row_laying.specs.contracts.row.LaidRow as LaidRow
+use Rattle.frame_machine.proofs.RowsCross.{LaidRow-send}
 use Rattle.janus_frames.specs.contracts.store.Store as Store
-use Rattle.janus_frames.specs.contracts.writes.Tally as Tally
+use Rattle.janus_memory.specs.contracts.writes.Tally as Tally
 use Rattle.frame_machine.specs.contracts.counted_store.CountedStore as CountedStore
 use Rattle.frame_machine.specs.contracts.laid_code.LaidCode as LaidCode
 use Rattle.frame_machine.specs.contracts.linked_code.LinkedCode as LinkedCode
 use Rattle.frame_machine.specs.contracts.procedures.Procedures as Procedures
-
-Row-send : IsSend (Row.the_field).row
-Row-send = search (crosses, sendable) depth 60 fits 20000
-
-LaidRow-send : IsSend (LaidRow.the_field).row
-LaidRow-send = search (crosses, Row-send, sendable) depth 60 fits 20000
 
 LaidCode-send : IsSend (LaidCode.the_field).row
 LaidCode-send = search (crosses, Linear-send, LaidRow-send, sendable) depth 60 fits 20000

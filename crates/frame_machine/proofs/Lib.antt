@@ -22,6 +22,7 @@ pub mod Parameters
 pub mod Paths
 pub mod Pulls
 pub mod RowLaid
+pub mod RowsCross
 pub mod Seen
 pub mod Single
 pub mod Slotted

@@ -8,8 +8,8 @@ ghost use Rattle.janus_frames.specs.Limits.{call_limit};
 use crate::book::Book;
 use crate::direction::Direction;
 use crate::running::running;
-use janus_meaning::limit::STEP_LIMIT;
 use janus_frames::CALL_LIMIT;
+use janus_meaning::limit::STEP_LIMIT;
 use std::alloc::{AllocError, Global};
 
 /// An open call.

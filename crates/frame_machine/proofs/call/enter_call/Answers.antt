@@ -52,8 +52,11 @@ push_reserved-requires g c =
 pub overflow_sub-cursor-2 : goal.overflow_sub-cursor-2
 overflow_sub-cursor-2 g c =
     let here = c.requires.here in
-    omega (arith, room_small c.args.procedures.now c.args.book.now c.args.cursor.now c.args.store.now c.requires.standing c.args.at c.args.room_left here.stm
-    here.here)
+    omega (
+      arith,
+      room_small c.args.procedures.now c.args.book.now c.args.cursor.now c.args.store.now c.requires.standing c.args.at c.args.room_left here.stm
+          here.here,
+    )
 
 pub returns-clause-stands : goal.returns-clause-stands
 returns-clause-stands g c =
