@@ -1,13 +1,10 @@
-use Rattle.std.proofs.Common.{◌≡◌, ◌-◌, ◌+◌, ◌≤◌, [], ◌∷◌, refl, ap, ◌∙◌, sym, subst, arith}
-use Rattle.std.specs.Prelude.{reverse}
-use Rattle.std.proofs.lemmas.List.{reverse-append}
+use Rattle.std.proofs.Common.{◌≡◌, ◌-◌, ◌+◌, ◌≤◌, refl, ap, ◌∙◌, sym, subst, arith}
 use Rattle.janus_code.specs.CodeBlock.{code_block}
 use Rattle.janus_code.specs.Slotted.{all_slots}
 use Rattle.janus_linear.specs.Layout.{block_size}
 use Rattle.frame_machine.specs.LaidCode.{LaidCode}
 use Rattle.frame_machine.specs.Places.{block_in}
-use Rattle.frame_machine.specs.Procedures.{body_at, in_effect}
-use Rattle.frame_machine.specs.Nested.{book_in, book_or, call_at}
+use Rattle.frame_machine.specs.Procedures.{in_effect}
 use Rattle.frame_machine.specs.Cursors.{book_of}
 use Rattle.frame_machine.proofs.Entering.{room_small, too_deep, is_known, can_lend, room_for_call, enters_stands, enters_leads, enters_agrees}
 use Rattle.frame_machine.proofs.call.enter_call.Goals as goal
