@@ -8,6 +8,10 @@
 //!
 //! It gives again what `janus_flat` cites of the store that it works on: `Values`, `Stores` and the lemma on lone writes of
 //! `janus_store`.
+//!
+//! An assignment writes once, a swap twice, a push or a pop twice at most, and what opens or closes a local never. A push meets its fault
+//! exactly where all live stacks, those of callers among them, hold 262,144 numbers. A local number is closed only where it has the value
+//! of the other expression, a local stack only where it is empty.
 #![tactic(auto)]
 
 mod assignment;
