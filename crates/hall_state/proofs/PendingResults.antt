@@ -13,8 +13,18 @@ use Rattle.kernel_audit.specs.done.Done.{Done}
 use Rattle.hall_state.specs.declared.pending_result.PendingResult.{PendingResult}
 use Rattle.hall_state.specs.declared.pending_result.LastEnd.{LastEnd}
 use Rattle.hall_state.specs.JustEnded.{HasJustEnded}
-use Rattle.hall_state.specs.PendingResults.{IsTold, IsSettled, IsBehind, HasNoEnd, SettlesLast}
-use Rattle.hall_state.specs.LastEnds.{IsLastEnd, EndsNoNumber, StandsAt, IsEndAt, last_of, number_in}
+use Rattle.std.proofs.Common.{◌⊎◌, option_map, string_bytes}
+use Rattle.std.specs.Global.{Vec}
+use Rattle.std.specs.String.{String}
+use Rattle.kernel_audit.specs.State.{Past}
+use Rattle.kernel_audit.specs.Shown.{IsShownOfNode}
+use Rattle.kernel_audit.specs.Evaluation.{AreValuesAfter}
+use Rattle.kernel_audit.specs.Making.{IsUnderWay}
+use Rattle.kernel_audit.specs.Wishes.{WishOf}
+use Rattle.kernel_audit.specs.done.NamedValue.{NamedValue}
+use Rattle.hall_state.specs.declared.open_result.OpenResult.{OpenResult}
+use Rattle.hall_state.specs.PendingResults.{IsTold, IsTakenOut, IsSettled, IsBehind, HasNoEnd, OpensLast, SettlesLast}
+use Rattle.hall_state.specs.LastEnds.{IsLastEnd, EndsNoNumber, StandsAt, IsEndAt, last_of}
 use Rattle.hall_state.proofs.Places.{last_added, below_or}
 use Rattle.hall_state.proofs.Beside.{last_index, last_outcome}
 
@@ -130,30 +140,40 @@ stands m es end b is =
 pub is_idle : (m : Machine) (es : List PendingResult) → IsBehind m es → m.state.job ≡ Idle
 is_idle m es b = b.2.idle
 
--- the one with the end's index is settled
-pub settles : (m : Machine) (es : List PendingResult) (end : LastEnd) (x left : PendingResult) → IsLastEnd m.minutes end → end.index < length es →
-    IsSettled (get_or es end.index x) end.place m.state.past end.outcome left → SettlesLast m es (slice_set es end.index left)
-settles m es end x left is low s = record {
-  index = end.index;
+-- what is to be made for it stands under way
+pub opens : (m : Machine) (es : List PendingResult) (end : LastEnd) (x left : PendingResult) (r : OpenResult) → IsLastEnd m.minutes end →
+    end.index < length es → r.index ≡ end.index → r.number ≡ end.number → r.place ≡ end.place → IsTakenOut (get_or es end.index x) left →
+    IsShownOfNode end.outcome m.state.past (option_map string_bytes r.shown) ⊎ (option_map string_bytes r.shown ≡ None) →
+    IsUnderWay end.outcome m.state.past (get_or es end.index x).wishes.items r.making → OpensLast m es (slice_set es end.index left) r
+opens m es end x left r is low index number place taken shown going = record {
   outcome = end.outcome;
   count = is.count;
   node = is.node;
-  last = is.last;
+  last = subst (λ (k : ℕ). last_of m.minutes ≡ Some (Ended (suc k) end.outcome is.count is.node)) (sym index) is.last;
+  number = number ∙ is.number ∙ ap suc (sym index);
+  place = place ∙ is.place;
   kept = get_or es end.index x;
   left = left;
-  there = slice_get-get_or es end.index x low;
-  settled = subst (λ (p : ℕ). IsSettled (get_or es end.index x) p m.state.past end.outcome left) is.place s;
-  others = refl;
+  there = subst (λ (k : ℕ). slice_get es k ≡ Some (get_or es end.index x)) (sym index) (slice_get-get_or es end.index x low);
+  taken = taken;
+  others = ap (λ (k : ℕ). slice_set es k left) (sym index);
+  is_shown = shown;
+  going = going;
 }
 
--- ---- numbers
-
--- the number of the end that stands last
-pub numbered : (entries : List Entry) (end : LastEnd) → IsLastEnd entries end → end.number ≡ number_in (last_of entries)
-numbered entries end is = is.number ∙ sym (ap number_in is.last)
-
--- where no end of a number stands last
-pub unnumbered : (o : Option Entry) → EndsNoNumber o → 0 ≡ number_in o
-unnumbered None h = refl
-unnumbered (Some (Posted lane job)) h = refl
-unnumbered (Some (Ended number out count node)) h = sym h
+-- what was made for it is kept
+pub settles : (es : List PendingResult) (x left : PendingResult) (r : OpenResult) (shown : Option String) (values : Vec NamedValue) → r.index < length es →
+    shown ≡ r.shown → IsSettled (get_or es r.index x) r.place shown values left →
+    ((o : Outcome) (s : Past) (given : List WishOf) → IsUnderWay o s given r.making → AreValuesAfter o s given values.items) →
+    SettlesLast es (slice_set es r.index left) r
+settles es x left r shown values low same s made = record {
+  kept = get_or es r.index x;
+  left = left;
+  there = slice_get-get_or es r.index x low;
+  posted = s.posted;
+  ended = s.ended;
+  untold = s.untold;
+  shown = s.shown ∙ same;
+  values = λ o p given going. subst (λ (v : Vec NamedValue). AreValuesAfter o p given v.items) (sym s.values) (made o p given going);
+  others = refl;
+}

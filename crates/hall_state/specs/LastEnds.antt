@@ -23,12 +23,6 @@ EndsNoNumber None = Unit {0}
 EndsNoNumber (Some (Posted lane job)) = Unit {0}
 EndsNoNumber (Some (Ended number o count node)) = number ≡ 0
 
--- the number of an end, or 0
-abbrev pub number_in : Option Entry → ℕ
-number_in None = 0
-number_in (Some (Posted lane job)) = 0
-number_in (Some (Ended number o count node)) = number
-
 -- the end that is told stands at this place
 abbrev pub StandsAt : List Entry → ℕ → Done → Type 0
 StandsAt entries place d = slice_get entries place ≡ Some (Ended d.number d.outcome d.count d.node)

@@ -156,7 +156,8 @@ impl<W: Ledger, L: HistoryName> Hall<W, L> {
     }
 
     /// One turn of the runner: under the lock one slice of at most `m` steps, with one look at the bell, or one begin. It is `Worn`, and
-    /// does nothing, where the bell's serials are used up.
+    /// does nothing, where the bell's serials are used up. Of a job that ends with many user expressions it makes the first values, and the next turn the
+    /// others: `work` makes them in pieces, and lets others have the lock between two.
     pub fn turn<R: Wait>(&self, rt: &R, runner: &mut RunnerSeat, m: u64) -> Turn
         requires own { runner.old.bell ≡ self.now }
         ensures worn { (result ≡ Turn.Worn) ↔ (runner.old.knows.serial ≡ 2 ^ 64 - 1) }
@@ -164,17 +165,41 @@ impl<W: Ledger, L: HistoryName> Hall<W, L> {
         ensures turn { (result ≡ Turn.Worn) ⊎ ((k k' : Machine) × IsLegalMachine k × IsTurn k runner.old m result k' runner.new) }
         ensures bell { runner.new.bell ≡ runner.old.bell }
     {
+        self.turn_on(rt, runner, m).0
+    }
+
+    /// `turn`, and whether something is still made for a job that has ended: `make` has to be called then.
+    pub(crate) fn turn_on<R: Wait>(&self, rt: &R, runner: &mut RunnerSeat, m: u64) -> (Turn, bool)
+        requires own { runner.old.bell ≡ self.now }
+        ensures worn { (result.0 ≡ Turn.Worn) ↔ (runner.old.knows.serial ≡ 2 ^ 64 - 1) }
+        ensures same { result.0 ≡ Turn.Worn → runner.new ≡ runner.old }
+        ensures turn { (result.0 ≡ Turn.Worn) ⊎ ((k k' : Machine) × IsLegalMachine k × IsTurn k runner.old m result.0 k' runner.new) }
+        ensures bell { runner.new.bell ≡ runner.old.bell }
+    {
         if runner.serial() == u64::MAX {
-            return Turn::Worn;
+            return (Turn::Worn, false);
         }
         let mut state = self.state.lock(rt);
         let turn = state.turn(&self.bell, runner, m);
-        if turn.is_end() {
-            let number = state.last_ended();
+        let is_making = state.is_making();
+        if turn.is_end() && !is_making {
+            let number = state.settled();
             drop(state);
             self.ended.wake(number);
         }
-        turn
+        (turn, is_making)
+    }
+
+    /// Makes some more of the values of a job that has ended; whether more may be left. Once all are there who waits for the job is woken.
+    pub(crate) fn make<R: Wait>(&self, rt: &R) -> bool {
+        let mut state = self.state.lock(rt);
+        if state.make() {
+            return true;
+        }
+        let number = state.settled();
+        drop(state);
+        self.ended.wake(number);
+        false
     }
 
     /// Waits until the ticket's job has ended, and answers what came of it. The end stands in the minutes that the pass has seen now. The shown text

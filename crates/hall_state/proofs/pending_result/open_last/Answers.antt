@@ -1,8 +1,8 @@
-use Rattle.std.proofs.Common.{◌<◌, List, length, rules, subst}
+use Rattle.std.proofs.Common.{◌<◌, List, length, refl, rules, subst}
 use Rattle.kernel_audit.specs.Minutes.{Entry}
 use Rattle.hall_state.specs.LastEnds.{IsLastEnd, EndsNoNumber, last_of}
-use Rattle.hall_state.proofs.PendingResults.{has_number, within, waits, stands, is_idle, settles}
-use Rattle.hall_state.proofs.pending_result.settle_last.Goals as goal
+use Rattle.hall_state.proofs.PendingResults.{within, waits, stands, opens}
+use Rattle.hall_state.proofs.pending_result.open_last.Goals as goal
 
 pub returns : goal.returns
 returns g c =
@@ -10,7 +10,8 @@ returns g c =
     let es = c.args.pending_results.now in
     let end = c.in-Some.end in
     let is = subst (λ (l : List Entry). IsLastEnd l end) c.minutes.ensures.entries c.in-Some.ensures.some in
-    settles m es end c.index-pending_results-index.result c.settle.new.self is (within m es end c.requires is) c.settle.ensures
+    opens m es end c.index-pending_results-index.result c.take_out-making.new.self _ is (within m es end c.requires is) refl refl refl c.take_out-making.ensures.taken
+    c.shown_after-shown.ensures (c.take_out-making.ensures.making m.state.past (stands m es end c.requires is))
 
 pub offset_bounds-pending_results-index : goal.offset_bounds-pending_results-index
 offset_bounds-pending_results-index g c =
@@ -29,24 +30,24 @@ bounds-pending_results-index g c =
     let is = subst (λ (l : List Entry). IsLastEnd l end) c.minutes.ensures.entries c.in-Some.ensures.some in
     within m es end c.requires is
 
-pub settle-requires-clause-still : goal.settle-requires-clause-still
-settle-requires-clause-still g c =
+pub shown_after-shown-requires-clause-still : goal.shown_after-shown-requires-clause-still
+shown_after-shown-requires-clause-still g c =
     let m = c.args.kernel.now.machine in
     let es = c.args.pending_results.now in
     let end = c.in-Some.end in
     let is = subst (λ (l : List Entry). IsLastEnd l end) c.minutes.ensures.entries c.in-Some.ensures.some in
     stands m es end c.requires is
 
-pub settle-requires-clause-empty : goal.settle-requires-clause-empty
-settle-requires-clause-empty g c =
+pub take_out-making-requires-clause-empty : goal.take_out-making-requires-clause-empty
+take_out-making-requires-clause-empty g c =
     let m = c.args.kernel.now.machine in
     let es = c.args.pending_results.now in
     let end = c.in-Some.end in
     let is = subst (λ (l : List Entry). IsLastEnd l end) c.minutes.ensures.entries c.in-Some.ensures.some in
     (waits m es end c.index-pending_results-index.result c.requires is).empty
 
-pub settle-requires-clause-room : goal.settle-requires-clause-room
-settle-requires-clause-room g c =
+pub take_out-making-requires-clause-room : goal.take_out-making-requires-clause-room
+take_out-making-requires-clause-room g c =
     let m = c.args.kernel.now.machine in
     let es = c.args.pending_results.now in
     let end = c.in-Some.end in
