@@ -25,9 +25,10 @@ use Rattle.hall_state.specs.LastEnds.{last_of, IsEndAt, EndsNowhere}
 use Rattle.hall_state.specs.JustEnded.{HasJustEnded}
 use Rattle.hall_state.specs.OpenResults.{EndedIn, IsOpen, AreSettled, GoesOn}
 use Rattle.hall_state.specs.PendingResults.{AreMadeIn, WereMade, IsWaiting, HasSettled, AreBeside, IsTold, IsUntold, HasNoEnd, OpensLast, SettlesLast}
+use Rattle.hall_state.specs.PendingResults.{IsToldOrEndless, WasTold, AreKept, AreUntold}
 use Rattle.hall_state.specs.declared.open_result.OpenResult.{OpenResult}
 use Rattle.hall_state.specs.declared.pending_result.PendingResult.{PendingResult}
-use Rattle.hall_state.proofs.Places.{below_or, some_same, there_is, length_set, set_cases, append_cases, get_stays, or_stays, or_last, last_added}
+use Rattle.hall_state.proofs.Places.{below_or, some_same, there_is, length_set, set_cases, other, append_cases, get_stays, or_stays, or_last, last_added}
 
 -- ---- as minutes go on
 
@@ -475,6 +476,43 @@ pub nowhere : (settled : ℕ) (m : Machine) (wished : List (List WishOf)) (es : 
 nowhere settled m wished es n None under_way Q legal b results none = λ _ nothing place end.
     not_there b (λ a. ends_nowhere settled m wished es n legal (all_settled settled m wished under_way nothing results) a none place end)
 nowhere settled m wished es n (Some d) under_way Q legal b results none = tt
+
+-- to the first all is told that is settled and was not told
+pub first_told : (settled : ℕ) (minutes : List Entry) (wished : List (List WishOf)) (es : List PendingResult) (n : ℕ) (r : Option Done) (Q : Type 0) →
+    ∥ AreBeside settled minutes wished es ∥₁ → IfNone r (IsToldOrEndless minutes es n) → IfNone r (Q → WasTold settled es n)
+first_told settled minutes wished es n None Q b h = λ _ e some le there.
+    ⊎_elim (λ told. told)
+    (λ endless.
+    absurd (not_there b (λ a.
+    let own : suc (n - 1) ≡ n = omega (arith, some) in
+    let s : HasSettled minutes (suc (n - 1)) (get_or wished (n - 1) []) e = a.settled (n - 1) e there (omega (arith, le, some)) in
+    endless s.place s.ended
+    (s.outcome, s.count, s.node, subst (λ (k : ℕ). slice_get minutes s.place ≡ Some (Ended k s.outcome s.count s.node)) own s.there))))
+    (h some e there)
+first_told settled minutes wished es n (Some d) Q b h = tt
+
+-- ---- what stays
+
+-- at another place than that of the one which is changed
+pub kept_but : (es : List PendingResult) (k i : ℕ) (e : PendingResult) → k ≤ i → AreKept k es (slice_set es i e)
+kept_but es k i e le = λ j low. other es i j e (λ same. omega (arith, same, low, le))
+
+pub kept_then : (k l : ℕ) (es fs gs : List PendingResult) → k ≤ l → AreKept k es fs → AreKept l fs gs → AreKept k es gs
+kept_then k l es fs gs le h g = λ i low. g i (omega (arith, low, le)) ∙ h i low
+
+pub settled_kept : (settled : ℕ) (m : Machine) (wished : List (List WishOf)) (es next : List PendingResult) (r : OpenResult) → IsOpen settled m wished r →
+    SettlesLast es next r → AreKept settled es next
+settled_kept settled m wished es next r h s =
+    let index : r.index ≡ settled = h.index in
+    subst (λ (l : List PendingResult). AreKept settled es l) (sym s.others) (kept_but es settled r.index s.left (omega (arith, index)))
+
+pub settled_untold : (settled : ℕ) (m : Machine) (wished : List (List WishOf)) (es next : List PendingResult) (r : OpenResult) → IsOpen settled m wished r →
+    SettlesLast es next r → AreUntold settled (suc settled) next
+settled_untold settled m wished es next r h s = λ i e le low there.
+    ⊎_elim
+    (λ p. subst (λ (y : PendingResult). y.is_told ≡ false) (sym p.1) s.untold)
+    (λ p. absurd (p.0 (omega (arith, le, low, h.index))))
+    (set_cases es r.index i s.left e (subst (λ (l : List PendingResult). slice_get l i ≡ Some e) s.others there))
 
 -- as many wishes are noted as there are posts
 pub many_wishes : (settled : ℕ) (minutes : List Entry) (wished : List (List WishOf)) (es : List PendingResult) → ∥ AreBeside settled minutes wished es ∥₁ →

@@ -13,7 +13,7 @@ use Rattle.kernel_audit.specs.done.Done.{Done}
 use Rattle.hall_state.specs.declared.pending_result.PendingResult.{PendingResult}
 use Rattle.hall_state.specs.declared.pending_result.LastEnd.{LastEnd}
 use Rattle.hall_state.specs.JustEnded.{HasJustEnded}
-use Rattle.std.proofs.Common.{◌⊎◌, option_map, string_bytes}
+use Rattle.std.proofs.Common.{◌⊎◌, inl, inr, option_map, string_bytes}
 use Rattle.std.specs.Global.{Vec}
 use Rattle.std.specs.String.{String}
 use Rattle.kernel_audit.specs.State.{Past}
@@ -23,7 +23,7 @@ use Rattle.kernel_audit.specs.Making.{IsUnderWay}
 use Rattle.kernel_audit.specs.Wishes.{WishOf}
 use Rattle.kernel_audit.specs.done.NamedValue.{NamedValue}
 use Rattle.hall_state.specs.declared.open_result.OpenResult.{OpenResult}
-use Rattle.hall_state.specs.PendingResults.{IsTold, IsTakenOut, IsSettled, IsBehind, HasNoEnd, OpensLast, SettlesLast}
+use Rattle.hall_state.specs.PendingResults.{IsTold, IsTakenOut, IsSettled, IsBehind, IsToldOrEndless, HasNoEnd, OpensLast, SettlesLast}
 use Rattle.hall_state.specs.LastEnds.{IsLastEnd, EndsNoNumber, StandsAt, IsEndAt, last_of}
 use Rattle.hall_state.proofs.Places.{last_added, below_or}
 use Rattle.hall_state.proofs.Beside.{last_index, last_outcome}
@@ -87,6 +87,16 @@ unended minutes es i n x None at h = λ some e there place ended end.
     let same : get_or es i x ≡ e = get_or_from_slice_get es i e x (subst (λ (j : ℕ). slice_get es j ≡ Some e) (sym at) there) in
     h place (subst (λ (y : PendingResult). y.ended ≡ Some place) (sym same) ended) end
 unended minutes es i n x (Some d) at h = tt
+
+-- it was told, or there is none
+pub was_told_already : (minutes : List Entry) (es : List PendingResult) (n : ℕ) →
+    ((e : PendingResult) → 0 < n → slice_get es (n - 1) ≡ Some e → e.is_told ≡ true) → IsToldOrEndless minutes es n
+was_told_already minutes es n h = λ some e there. inl (h e some there)
+
+pub is_endless : (minutes : List Entry) (es : List PendingResult) (n : ℕ) (r : Option Done) → IfNone r (HasNoEnd minutes es n) →
+    IfNone r (IsToldOrEndless minutes es n)
+is_endless minutes es n None h = λ some e there. inr (h some e there)
+is_endless minutes es n (Some d) h = tt
 
 -- of no number, and of one past all, nothing was
 pub none_past : (minutes : List Entry) (es : List PendingResult) (i n : ℕ) → i ≡ n - 1 → length es ≤ i → HasNoEnd minutes es n

@@ -31,6 +31,14 @@ module _ {A : Type 0} where
   set_cases (z ∷ xs) (suc j) (suc i) x y h =
       ⊎_elim (λ p. inl (ap suc p.0, p.1)) (λ p. inr ((λ e. p.0 (omega (arith, e))), p.1)) (set_cases xs j i x y h)
 
+  -- another one is as it was
+  pub other : (xs : List A) (j i : ℕ) (x : A) → (i ≡ j → ⊥) → slice_get (slice_set xs j x) i ≡ slice_get xs i
+  other [] j i x h = refl
+  other (y ∷ xs) zero zero x h = absurd (h refl)
+  other (y ∷ xs) zero (suc i) x h = refl
+  other (y ∷ xs) (suc j) zero x h = refl
+  other (y ∷ xs) (suc j) (suc i) x h = other xs j i x (λ e. h (ap suc e))
+
   -- it is one of before, or the one that was added
   pub append_cases : (xs : List A) (z : A) (i : ℕ) (y : A) → slice_get (xs ++ z ∷ []) i ≡ Some y →
       ((i < length xs) × (slice_get xs i ≡ Some y)) ⊎ ((i ≡ length xs) × (y ≡ z))

@@ -6,7 +6,7 @@ use Rattle.kernel_audit.specs.Runs.{Machine}
 use Rattle.kernel_audit.specs.State.{Past, Idle}
 use Rattle.kernel_audit.specs.LegalMinutes.{IsLegalMachine}
 use Rattle.kernel_audit.specs.Shown.{IsShownOfNode}
-use Rattle.kernel_audit.specs.Making.{IsUnderWay}
+use Rattle.kernel_audit.specs.Making.{IsUnderWay, left_of}
 use Rattle.kernel_audit.specs.outcome.Outcome.{Outcome}
 use Rattle.kernel_audit.specs.Wishes.{WishOf}
 use Rattle.hall_state.specs.LastEnds.{last_of}
@@ -40,7 +40,12 @@ abbrev pub AreSettled : ℕ → Machine → List (List WishOf) → Option OpenRe
 AreSettled settled m wished None = ended_in m.minutes ≡ settled
 AreSettled settled m wished (Some r) = IsOpen settled m wished r
 
--- more values are made, and all else stays
+-- the user expressions that are left of what is under way
+abbrev pub left_in : Option OpenResult → List WishOf
+left_in None = []
+left_in (Some r) = left_of r.making
+
+-- some more values are made, and all else stays
 pub record GoesOn (s : Past) (old new : OpenResult) : Type 0 where
   pub number : new.number ≡ old.number
   pub index : new.index ≡ old.index

@@ -122,10 +122,27 @@ pub record IsTold (minutes : List Entry) (old : List PendingResult) (n : ℕ) (d
 abbrev pub IsUntold : List PendingResult → ℕ → Type 0
 IsUntold es n = (e : PendingResult) → slice_get es (n - 1) ≡ Some e → e.is_told ≡ false
 
+-- what was made for this number is not settled, or was told
+abbrev pub WasTold : ℕ → List PendingResult → ℕ → Type 0
+WasTold settled es n = (e : PendingResult) → 0 < n → n ≤ settled → slice_get es (n - 1) ≡ Some e → e.is_told ≡ true
+
+-- the first ones, so many, are as they were
+abbrev pub AreKept : ℕ → List PendingResult → List PendingResult → Type 0
+AreKept count old new = (i : ℕ) → i < count → slice_get new i ≡ slice_get old i
+
+-- those that were settled since are not told yet
+abbrev pub AreUntold : (before settled : ℕ) → List PendingResult → Type 0
+AreUntold before settled es = (i : ℕ) (e : PendingResult) → before ≤ i → i < settled → slice_get es i ≡ Some e → e.is_told ≡ false
+
 -- nothing was taken down of an end of this number that stands in the minutes
 abbrev pub HasNoEnd : List Entry → List PendingResult → ℕ → Type 0
 HasNoEnd minutes es n =
     0 < n → (e : PendingResult) → slice_get es (n - 1) ≡ Some e → (place : ℕ) → e.ended ≡ Some place → IsEndAt minutes place n → ⊥
+
+-- it was told already, or nothing was taken down of such an end
+abbrev pub IsToldOrEndless : List Entry → List PendingResult → ℕ → Type 0
+IsToldOrEndless minutes es n =
+    0 < n → (e : PendingResult) → slice_get es (n - 1) ≡ Some e → (e.is_told ≡ true) ⊎ ((place : ℕ) → e.ended ≡ Some place → IsEndAt minutes place n → ⊥)
 
 -- The job that has just ended in this machine has what is made for it, of the wishes that stood beside its post; all others are as they were.
 pub record OpensLast (m : Machine) (old new : List PendingResult) (r : OpenResult) : Type 0 where

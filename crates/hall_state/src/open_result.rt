@@ -1,5 +1,5 @@
 //! What is being made for the job that has ended last, until all of it is there.
-ghost use Rattle.std.specs.Prelude.{◌≡◌, [], false, List};
+ghost use Rattle.std.specs.Prelude.{◌≡◌, ◌-◌, [], false, List, length};
 ghost use Rattle.kernel_audit.specs.State.{Idle};
 ghost use Rattle.kernel_audit.specs.Making.{IsUnderWay, left_of};
 ghost use Rattle.kernel_audit.specs.outcome.Outcome.{Outcome as OutcomeOf};
@@ -29,6 +29,7 @@ impl OpenResult {
         requires idle { kernel.now.machine.state.job ≡ Idle }
         requires going { (o : OutcomeOf) × (given : List WishOf) × IsUnderWay o kernel.now.machine.state.past given self.old.making }
         ensures goes { GoesOn kernel.now.machine.state.past self.old self.new }
+        ensures fewer { length (left_of self.new.making) ≡ length (left_of self.old.making) - most }
         ensures left { result ≡ false → left_of self.new.making ≡ [] }
     {
         self.making.make(alloc, kernel, most)

@@ -5,8 +5,9 @@ ghost use Rattle.kernel_audit.specs.Written.{entry_of};
 ghost use Rattle.kernel_audit.specs.EndedAt.{StandsAtEnd};
 ghost use Rattle.kernel_audit.specs.Ends.{HasEnd};
 ghost use Rattle.kernel_audit.specs.Making.{IsUnderWay, left_of};
-ghost use Rattle.hall_state.specs.PendingResults.{IsNewPending, IsTold, IsTakenOut, IsSettled, OpensLast, SettlesLast, IsBehind, IsUntold, HasNoEnd};
+ghost use Rattle.hall_state.specs.PendingResults.{IsNewPending, IsTold, IsTakenOut, IsSettled, OpensLast, SettlesLast, IsBehind, IsUntold, IsToldOrEndless, HasNoEnd};
 ghost use Rattle.hall_state.specs.LastEnds.{IsLastEnd, EndsNoNumber, StandsAt, IsEndAt, last_of};
+ghost use Rattle.hall_state.specs.declared.pending_result.PendingResult.{PendingResult};
 
 use crate::open_result::OpenResult;
 use kernel_audit::{Done, Entry, Kernel, Making, NamedValue, Outcome, Wish, shown_after};
@@ -195,7 +196,8 @@ fn index_of(number: u64) -> Option<usize>
 
 /// Whether nothing is to be told of the job of this number that was not told already.
 fn was_told(pending_results: &[PendingResult], number: u64) -> bool
-    ensures { result ≡ false → IsUntold pending_results.now number }
+    ensures untold { result ≡ false → IsUntold pending_results.now number }
+    ensures told { result ≡ true → (e : PendingResult) → 0 < number → slice_get pending_results.now (number - 1) ≡ Some e → e.is_told ≡ true }
 {
     let Some(index) = index_of(number) else {
         return true;
@@ -238,6 +240,7 @@ pub(crate) fn fetch_first<W: Ledger>(
     ensures told { IfSome result (λ d. IsTold kernel.now.machine.minutes pending_results.old number d pending_results.new) }
     ensures untold { IfSome result (λ d. IsUntold pending_results.old number) }
     ensures none { IfNone result (pending_results.new ≡ pending_results.old) }
+    ensures unended { IfNone result (IsToldOrEndless kernel.now.machine.minutes pending_results.old number) }
 {
     if was_told(pending_results, number) {
         return None;

@@ -13,10 +13,10 @@ ghost use Rattle.kernel_audit.specs.Written.{entry_of};
 ghost use Rattle.kernel_audit.specs.Notes.{wished_in, has_shutdown};
 ghost use Rattle.kernel_audit.specs.Passes.{pass_of, HasSeen, HasPosted};
 ghost use Rattle.hall_state.specs.Turns.{IsTurn};
-ghost use Rattle.hall_state.specs.OpenResults.{AreSettled};
-ghost use Rattle.hall_state.specs.PendingResults.{IsNewPending, IsTold, AreBeside, WereMade};
+ghost use Rattle.hall_state.specs.OpenResults.{AreSettled, left_in};
+ghost use Rattle.hall_state.specs.PendingResults.{IsNewPending, IsTold, WasTold, AreKept, AreUntold, AreBeside, WereMade};
 ghost use Rattle.hall_state.specs.LastEnds.{EndsNowhere};
-ghost use Rattle.hall_state.specs.declared.limit.TheConstants.{PASSES, PARTS_OF_POSTS};
+ghost use Rattle.hall_state.specs.declared.limit.TheConstants.{PASSES, PARTS_OF_POSTS, WISHES_OF_A_PIECE};
 ghost use Rattle.hall_state.specs.declared.pending_result.PendingResult.{PendingResult};
 ghost use Rattle.kernel_audit.specs.Ends.{HasEnd};
 ghost use Rattle.kernel_audit.specs.Audit.{Audited, IsAuditFault};
@@ -119,8 +119,8 @@ impl<W: Ledger, L: HistoryName> State<W, L> {
         ensures legal { IsLegalMachine self.old.kernel.machine }
     {
         show_legal(&self.kernel);
+        self.see(pass);
         if let Some(fault) = self.kernel.post_fault() {
-            self.see(pass);
             return Err(fault);
         }
         match self.queue(pass, job, wishes) {
@@ -128,10 +128,7 @@ impl<W: Ledger, L: HistoryName> State<W, L> {
                 self.see(pass);
                 Ok(number)
             }
-            Err(fault) => {
-                self.see(pass);
-                Err(fault)
-            }
+            Err(fault) => Err(fault),
         }
     }
 
@@ -222,6 +219,8 @@ impl<W: Ledger, L: HistoryName> State<W, L> {
         ensures legal { IsLegalMachine self.old.kernel.machine }
         ensures comms { self.new.comms ≡ self.old.comms }
         ensures notes { self.new.notes ≡ self.old.notes }
+        ensures kept { AreKept self.old.settled self.old.pending_results.items self.new.pending_results.items }
+        ensures untold { AreUntold self.old.settled self.new.settled self.new.pending_results.items }
     {
         self.finish();
         show_legal(&self.kernel);
@@ -247,6 +246,9 @@ impl<W: Ledger, L: HistoryName> State<W, L> {
         ensures comms { self.new.comms ≡ self.old.comms }
         ensures notes { self.new.notes ≡ self.old.notes }
         ensures all { result ≡ false → self.new.under_way ≡ None }
+        ensures fewer { length (left_in self.new.under_way) ≡ length (left_in self.old.under_way) - WISHES_OF_A_PIECE }
+        ensures kept { AreKept self.old.settled self.old.pending_results.items self.new.pending_results.items }
+        ensures untold { AreUntold self.old.settled self.new.settled self.new.pending_results.items }
         ensures legal { IsLegalMachine self.old.kernel.machine }
     {
         show_legal(&self.kernel);
@@ -277,6 +279,8 @@ impl<W: Ledger, L: HistoryName> State<W, L> {
         ensures comms { self.new.comms ≡ self.old.comms }
         ensures notes { self.new.notes ≡ self.old.notes }
         ensures all { self.new.under_way ≡ None }
+        ensures kept { AreKept self.old.settled self.old.pending_results.items self.new.pending_results.items }
+        ensures untold { AreUntold self.old.settled self.new.settled self.new.pending_results.items }
     {
         let State {
             kernel,
@@ -308,6 +312,8 @@ impl<W: Ledger, L: HistoryName> State<W, L> {
         ensures told { IfSome result (λ d. IsTold self.old.kernel.machine.minutes self.old.pending_results.items number d self.new.pending_results.items) }
         ensures none { IfNone result (self.new.pending_results.items ≡ self.old.pending_results.items) }
         ensures unended { IfNone result (is_first ≡ false → self.old.under_way ≡ None → EndsNowhere self.old.kernel.machine.minutes number) }
+        // To the first all is told that is settled and was not told.
+        ensures first { IfNone result (is_first ≡ true → WasTold self.old.settled self.old.pending_results.items number) }
         ensures made { IfSome result (λ d. is_first ≡ true → ∥ WereMade self.old.kernel.machine.minutes d.number d.outcome
             (get_or (wished_in self.old.notes) (number - 1) []) (option_map string_bytes d.shown) d.values.items ∥₁) }
         ensures notes { self.new.notes ≡ self.old.notes }

@@ -113,6 +113,7 @@ impl Making {
         requires going { (o : OutcomeOf) × (given : List WishOf) × IsUnderWay o kernel.now.machine.state.past given self.old }
         ensures goes { (o : OutcomeOf) (given : List WishOf) → IsUnderWay o kernel.now.machine.state.past given self.old →
             IsUnderWay o kernel.now.machine.state.past given self.new }
+        ensures fewer { length (left_of self.new) ≡ length (left_of self.old) - most }
         ensures left { result ≡ false → left_of self.new ≡ [] }
     {
         let names = names_for(alloc, kernel, self.needs_names());

@@ -28,7 +28,7 @@ use std::marker::Model;
 use std::sync::ledger::{Blank, Ledger};
 use std::sync::{Condvar, Mutex, Wait};
 
-/// One kernel for many threads. Each lock is held for one event of the kernel. Contracts see which bell it has. The type parameters name
+/// One kernel for many threads. Each lock is held for one event of the kernel, or for one piece of what is made of a job that has ended. Contracts see which bell it has. The type parameters name
 /// the ledger of the kernel's writes, and that of the posts with the history of the minutes: a program picks each once.
 #[derive(Drop)]
 pub struct Hall<W: Ledger, L: HistoryName> {
@@ -156,8 +156,8 @@ impl<W: Ledger, L: HistoryName> Hall<W, L> {
     }
 
     /// One turn of the runner: under the lock one slice of at most `m` steps, with one look at the bell, or one begin. It is `Worn`, and
-    /// does nothing, where the bell's serials are used up. Of a job that ends with many user expressions it makes the first values, and the next turn the
-    /// others: `work` makes them in pieces, and lets others have the lock between two.
+    /// does nothing, where the bell's serials are used up. Behind it all is there that is told of a job that it ended, which takes the lock once more for
+    /// each piece of many user expressions; `work` gives way between two pieces.
     pub fn turn<R: Wait>(&self, rt: &R, runner: &mut RunnerSeat, m: u64) -> Turn
         requires own { runner.old.bell ≡ self.now }
         ensures worn { (result ≡ Turn.Worn) ↔ (runner.old.knows.serial ≡ 2 ^ 64 - 1) }
@@ -165,7 +165,27 @@ impl<W: Ledger, L: HistoryName> Hall<W, L> {
         ensures turn { (result ≡ Turn.Worn) ⊎ ((k k' : Machine) × IsLegalMachine k × IsTurn k runner.old m result k' runner.new) }
         ensures bell { runner.new.bell ≡ runner.old.bell }
     {
-        self.turn_on(rt, runner, m).0
+        let (turn, is_making) = self.turn_on(rt, runner, m);
+        if is_making {
+            self.make_all(rt);
+        }
+        turn
+    }
+
+    /// Makes all that is left of a job that has ended.
+    fn make_all<R: Wait>(&self, rt: &R) {
+        for _ in rt.forever() {
+            if !self.make(rt) {
+                break;
+            }
+        }
+    }
+
+    /// Wakes those who wait for one of the jobs behind the first number, up to the last one.
+    fn wake_all(&self, first: u64, last: u64) {
+        for number in first..last {
+            self.ended.wake(number + 1);
+        }
     }
 
     /// `turn`, and whether something is still made for a job that has ended: `make` has to be called then.
@@ -180,12 +200,13 @@ impl<W: Ledger, L: HistoryName> Hall<W, L> {
             return (Turn::Worn, false);
         }
         let mut state = self.state.lock(rt);
+        let before = state.settled();
         let turn = state.turn(&self.bell, runner, m);
         let is_making = state.is_making();
-        if turn.is_end() && !is_making {
-            let number = state.settled();
+        let settled = state.settled();
+        if settled != before {
             drop(state);
-            self.ended.wake(number);
+            self.wake_all(before, settled);
         }
         (turn, is_making)
     }

@@ -3,7 +3,7 @@ use Rattle.std.proofs.lemmas.List.{with_items_is, places}
 use Rattle.kernel_audit.specs.Notes.{wished_in}
 use Rattle.hall_state.specs.PendingResults.{AreBeside}
 use Rattle.hall_state.specs.declared.pending_result.PendingResult.{PendingResult}
-use Rattle.hall_state.proofs.Beside.{beside_on, first_made, nowhere}
+use Rattle.hall_state.proofs.Beside.{beside_on, first_made, first_told, nowhere}
 use Rattle.hall_state.proofs.state.State.done.Goals as goal
 
 pub invariant_of-self : goal.invariant_of-self
@@ -48,6 +48,14 @@ returns-then-is_first-clause-made g c =
     let b = subst (λ (l : List PendingResult). ∥ AreBeside old.settled m.minutes wished l ∥₁) (sym c.deref_mut.ensures.value) old.beside in
     first_made old.settled m.minutes wished c.deref_mut.result.now c.fetch_first.new.pending_results c.args.number c.fetch_first.result (c.args.is_first ≡ true) b
     c.fetch_first.ensures.untold c.fetch_first.ensures.told
+
+pub returns-then-is_first-clause-first : goal.returns-then-is_first-clause-first
+returns-then-is_first-clause-first g c =
+    let old = c.args.self.now in
+    let m = old.kernel.machine in
+    let wished = wished_in old.notes in
+    let b = subst (λ (l : List PendingResult). ∥ AreBeside old.settled m.minutes wished l ∥₁) (sym c.deref_mut.ensures.value) old.beside in
+    first_told old.settled m.minutes wished c.deref_mut.result.now c.args.number c.fetch_first.result (c.args.is_first ≡ true) b c.fetch_first.ensures.unended
 
 pub returns-else-is_first-clause-unended : goal.returns-else-is_first-clause-unended
 returns-else-is_first-clause-unended g c =

@@ -12,10 +12,10 @@ returns-in-Ok-clause-stands g c =
     let q = c.in-Ok.ensures in
     let s = c.see-in-Ok.ensures in
     let old = c.args.self.now in
-    stands c.args.pass.now c.queue.new.pass c.see-in-Ok.new.pass old.kernel.machine c.queue.new.self.kernel.machine (request_of c.args.job)
-    c.args.wishes.items c.in-Ok.number (wished_in old.notes) q.number q.posted q.counted s.seen s.front s.legal
+    stands c.args.pass.now c.see.new.pass c.queue.new.pass c.see-in-Ok.new.pass old.kernel.machine c.queue.new.self.kernel.machine (request_of c.args.job)
+    c.args.wishes.items c.in-Ok.number (wished_in old.notes) c.see.ensures.seen q.number q.posted q.counted s.seen s.front s.legal
     (many_wishes old.settled old.kernel.machine.minutes (wished_in old.notes) old.pending_results.items old.beside)
-    (ap wished_in s.notes ∙ q.wished) (s.closing ∙ ap (λ (m : Machine). m.closing) q.posted ∙ q.serves)
+    (ap wished_in s.notes ∙ q.wished) (s.closing ∙ ap (λ (m : Machine). m.closing) q.posted ∙ q.serves) c.see.ensures.front
 
 pub returns-in-Ok-clause-pending_result : goal.returns-in-Ok-clause-pending_result
 returns-in-Ok-clause-pending_result g c =
