@@ -1,5 +1,5 @@
 -- What is told once, and what is settled.
-use Rattle.std.proofs.Common.{◌≡◌, ℕ, ◌-◌, ◌<◌, ◌≤◌, suc, List, [], ◌∷◌, Option, None, Some, IfSome, IfNone, length, get_or, slice_get, slice_set, true, refl}
+use Rattle.std.proofs.Common.{◌≡◌, ℕ, ◌-◌, ◌<◌, ◌≤◌, suc, List, [], ◌∷◌, Option, None, Some, IfSome, IfNone, length, get_or, slice_get, slice_set, true, false, refl}
 use Rattle.std.proofs.Common.{ap, ◌∙◌, sym, subst, arith, ⊎_elim, vec_len, vec_capacity}
 use Rattle.std.proofs.lemmas.Grind.{not_there}
 use Rattle.std.proofs.lemmas.List.{set-get_or}
@@ -15,7 +15,6 @@ use Rattle.hall_state.specs.declared.pending_result.LastEnd.{LastEnd}
 use Rattle.hall_state.specs.JustEnded.{HasJustEnded}
 use Rattle.std.proofs.Common.{◌⊎◌, inl, inr, option_map, string_bytes}
 use Rattle.std.specs.Global.{Vec}
-use Rattle.std.specs.String.{String}
 use Rattle.kernel_audit.specs.State.{Past}
 use Rattle.kernel_audit.specs.Shown.{IsShownOfNode}
 use Rattle.kernel_audit.specs.Evaluation.{AreValuesAfter}
@@ -23,7 +22,7 @@ use Rattle.kernel_audit.specs.Making.{IsUnderWay}
 use Rattle.kernel_audit.specs.Wishes.{WishOf}
 use Rattle.kernel_audit.specs.done.NamedValue.{NamedValue}
 use Rattle.hall_state.specs.declared.open_result.OpenResult.{OpenResult}
-use Rattle.hall_state.specs.PendingResults.{IsTold, IsTakenOut, IsSettled, IsBehind, IsToldOrEndless, HasNoEnd, OpensLast, SettlesLast}
+use Rattle.hall_state.specs.PendingResults.{IsTold, IsTakenOut, IsBehind, IsToldOrEndless, HasNoEnd, OpensLast, SettlesLast}
 use Rattle.hall_state.specs.LastEnds.{IsLastEnd, EndsNoNumber, StandsAt, IsEndAt, last_of}
 use Rattle.hall_state.proofs.Places.{last_added, below_or}
 use Rattle.hall_state.proofs.Beside.{last_index, last_outcome}
@@ -172,18 +171,18 @@ opens m es end x left r is low index number place taken shown going = record {
 }
 
 -- what was made for it is kept
-pub settles : (es : List PendingResult) (x left : PendingResult) (r : OpenResult) (shown : Option String) (values : Vec NamedValue) → r.index < length es →
-    shown ≡ r.shown → IsSettled (get_or es r.index x) r.place shown values left →
+pub settles : (es : List PendingResult) (x left : PendingResult) (r : OpenResult) (values : Vec NamedValue) → r.index < length es →
+    left.posted ≡ (get_or es r.index x).posted → left.ended ≡ Some r.place → left.is_told ≡ false → left.shown ≡ r.shown → left.values ≡ values →
     ((o : Outcome) (s : Past) (given : List WishOf) → IsUnderWay o s given r.making → AreValuesAfter o s given values.items) →
     SettlesLast es (slice_set es r.index left) r
-settles es x left r shown values low same s made = record {
+settles es x left r values low posted ended untold shown same made = record {
   kept = get_or es r.index x;
   left = left;
   there = slice_get-get_or es r.index x low;
-  posted = s.posted;
-  ended = s.ended;
-  untold = s.untold;
-  shown = s.shown ∙ same;
-  values = λ o p given going. subst (λ (v : Vec NamedValue). AreValuesAfter o p given v.items) (sym s.values) (made o p given going);
+  posted = posted;
+  ended = ended;
+  untold = untold;
+  shown = shown;
+  values = λ o p given going. subst (λ (v : Vec NamedValue). AreValuesAfter o p given v.items) (sym same) (made o p given going);
   others = refl;
 }

@@ -13,7 +13,7 @@ use Rattle.hall_state.specs.LastEnds.{last_of}
 use Rattle.hall_state.specs.declared.open_result.OpenResult.{OpenResult}
 
 -- A job of this number ended so in the past of a legal machine, whose minutes are a beginning of these: what is posted meanwhile stands behind its end.
-pub record EndedIn (minutes : List Entry) (past : Past) (n : ℕ) (o : Outcome) : Type 0 where
+pub record EndedIn (minutes : List Entry) (s : Past) (n : ℕ) (o : Outcome) : Type 0 where
   pub machine : Machine
   pub legal : IsLegalMachine machine
   pub idle : machine.state.job ≡ Idle
@@ -21,7 +21,7 @@ pub record EndedIn (minutes : List Entry) (past : Past) (n : ℕ) (o : Outcome) 
   pub count : ℕ
   pub node : ℕ
   pub last : last_of machine.minutes ≡ Some (Ended n o count node)
-  pub past : machine.state.past ≡ past
+  pub past : machine.state.past ≡ s
 
 -- What is made is that of the job that ended last, of these user expressions, in this machine, where no job is open; all before it are settled.
 pub record IsOpen (settled : ℕ) (m : Machine) (wished : List (List WishOf)) (r : OpenResult) : Type 0 where

@@ -1,8 +1,6 @@
 -- What stands beside the posts: their wishes until they end, and what is made as a job ends, to be told once.
 use Rattle.std.specs.Prelude.{◌≡◌, ◌⊎◌, ℕ, ◌-◌, ◌<◌, ◌≤◌, Bool, true, false, List, [], Option, None, Some, length, get_or, slice_get, slice_set}
 use Rattle.std.specs.Prelude.{suc, option_map, string_bytes, vec_len, vec_capacity}
-use Rattle.std.specs.Global.{Vec}
-use Rattle.std.specs.String.{String}
 use mathlib.Core.List.{IsPrefix}
 use Rattle.kernel_audit.specs.Minutes.{Entry, Ended, posted_in, ended_in}
 use Rattle.kernel_audit.specs.Runs.{Machine}
@@ -63,14 +61,6 @@ pub record IsTakenOut (old new : PendingResult) : Type 0 where
   pub posted : new.posted ≡ old.posted
   pub ended : new.ended ≡ old.ended
 
--- what was made for it is kept, and where its end stands
-pub record IsSettled (old : PendingResult) (place : ℕ) (shown : Option String) (values : Vec NamedValue) (new : PendingResult) : Type 0 where
-  pub posted : new.posted ≡ old.posted
-  pub ended : new.ended ≡ Some place
-  pub untold : new.is_told ≡ false
-  pub shown : new.shown ≡ shown
-  pub values : new.values ≡ values
-
 -- its job has this number and has ended: its end stands in the minutes, and what was made is kept until it is told
 pub record HasSettled (minutes : List Entry) (number : ℕ) (given : List WishOf) (e : PendingResult) : Type 0 where
   pub place : ℕ
@@ -85,12 +75,12 @@ pub record HasSettled (minutes : List Entry) (number : ℕ) (given : List WishOf
 
 -- One stands beside each post: so many are settled, the first ones; of the others nothing is taken down, and those whose jobs have not ended wait. The
 -- wishes are those that were posted, in the order of the posts.
-pub record AreBeside (settled : ℕ) (minutes : List Entry) (wished : List (List WishOf)) (es : List PendingResult) : Type 0 where
+pub record AreBeside (count : ℕ) (minutes : List Entry) (wished : List (List WishOf)) (es : List PendingResult) : Type 0 where
   pub many : length es ≡ posted_in minutes
   pub wishes : length wished ≡ posted_in minutes
-  pub order : settled ≤ ended_in minutes
-  pub settled : (i : ℕ) (e : PendingResult) → slice_get es i ≡ Some e → i < settled → HasSettled minutes (suc i) (get_or wished i []) e
-  pub untaken : (i : ℕ) (e : PendingResult) → slice_get es i ≡ Some e → settled ≤ i → e.ended ≡ None
+  pub order : count ≤ ended_in minutes
+  pub settled : (i : ℕ) (e : PendingResult) → slice_get es i ≡ Some e → i < count → HasSettled minutes (suc i) (get_or wished i []) e
+  pub untaken : (i : ℕ) (e : PendingResult) → slice_get es i ≡ Some e → count ≤ i → e.ended ≡ None
   pub waiting : (i : ℕ) (e : PendingResult) → slice_get es i ≡ Some e → ended_in minutes ≤ i → IsWaiting (get_or wished i []) e
 
 -- a job has just ended in this machine, and what stands beside the posts is that of before, where all results are settled

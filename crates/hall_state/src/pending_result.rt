@@ -5,7 +5,7 @@ ghost use Rattle.kernel_audit.specs.Written.{entry_of};
 ghost use Rattle.kernel_audit.specs.EndedAt.{StandsAtEnd};
 ghost use Rattle.kernel_audit.specs.Ends.{HasEnd};
 ghost use Rattle.kernel_audit.specs.Making.{IsUnderWay, left_of};
-ghost use Rattle.hall_state.specs.PendingResults.{IsNewPending, IsTold, IsTakenOut, IsSettled, OpensLast, SettlesLast, IsBehind, IsUntold, IsToldOrEndless, HasNoEnd};
+ghost use Rattle.hall_state.specs.PendingResults.{IsNewPending, IsTold, IsTakenOut, OpensLast, SettlesLast, IsBehind, IsUntold, IsToldOrEndless, HasNoEnd};
 ghost use Rattle.hall_state.specs.LastEnds.{IsLastEnd, EndsNoNumber, StandsAt, IsEndAt, last_of};
 ghost use Rattle.hall_state.specs.declared.pending_result.PendingResult.{PendingResult};
 
@@ -59,7 +59,11 @@ impl PendingResult {
 
     /// Keeps what was made for it, and takes down at which place of the minutes the job has ended.
     fn settle(&mut self, place: usize, shown: Option<String>, values: Vec<NamedValue>)
-        ensures { IsSettled self.old place shown values self.new }
+        ensures posted { self.new.posted ≡ self.old.posted }
+        ensures ended { self.new.ended ≡ Some place }
+        ensures untold { self.new.is_told ≡ false }
+        ensures shown { self.new.shown ≡ shown }
+        ensures values { self.new.values ≡ values }
     {
         self.ended = Some(place);
         self.is_told = false;
