@@ -5,7 +5,7 @@ use Rattle.std.proofs.Common.{slice_get, slice_set, option_map, string_bytes, re
 use Rattle.std.proofs.lemmas.Option.{none-some}
 use Rattle.std.proofs.lemmas.Grind.{not_there}
 use mathlib.Core.List.{IsPrefix}
-use mathlib.Core.Logic.{∥∥₁_map}
+use mathlib.Core.Logic.{∥∥₁_map, ∥∥₁_map₂}
 use Rattle.kernel_audit.specs.Request.{Request}
 use Rattle.kernel_audit.specs.Minutes.{Entry, Posted, Ended, posted_in, ended_in}
 use Rattle.kernel_audit.specs.Runs.{Machine}
@@ -500,19 +500,84 @@ kept_but es k i e le = λ j low. other es i j e (λ same. omega (arith, same, lo
 pub kept_then : (k l : ℕ) (es fs gs : List PendingResult) → k ≤ l → AreKept k es fs → AreKept l fs gs → AreKept k es gs
 kept_then k l es fs gs le h g = λ i low. g i (omega (arith, low, le)) ∙ h i low
 
-pub settled_kept : (settled : ℕ) (m : Machine) (wished : List (List WishOf)) (es next : List PendingResult) (r : OpenResult) → IsOpen settled m wished r →
-    SettlesLast es next r → AreKept settled es next
-settled_kept settled m wished es next r h s =
-    let index : r.index ≡ settled = h.index in
-    subst (λ (l : List PendingResult). AreKept settled es l) (sym s.others) (kept_but es settled r.index s.left (omega (arith, index)))
+-- ---- what is under way, as far as contracts see it
 
-pub settled_untold : (settled : ℕ) (m : Machine) (wished : List (List WishOf)) (es next : List PendingResult) (r : OpenResult) → IsOpen settled m wished r →
-    SettlesLast es next r → AreUntold settled (suc settled) next
-settled_untold settled m wished es next r h s = λ i e le low there.
-    ⊎_elim
-    (λ p. subst (λ (y : PendingResult). y.is_told ≡ false) (sym p.1) s.untold)
-    (λ p. absurd (p.0 (omega (arith, le, low, h.index))))
-    (set_cases es r.index i s.left e (subst (λ (l : List PendingResult). slice_get l i ≡ Some e) s.others there))
+module _ (settled : ℕ) (m : Machine) (wished : List (List WishOf)) (r : OpenResult) where
+  pub open_is : (o : Option OpenResult) → o ≡ Some r → ∥ AreSettled settled m wished o ∥₁ → ∥ IsOpen settled m wished r ∥₁
+  open_is o is h = subst (λ (x : Option OpenResult). ∥ AreSettled settled m wished x ∥₁) is h
+
+  pub goes_on : (old : OpenResult) → GoesOn m.state.past old r → ∥ IsOpen settled m wished old ∥₁ → ∥ IsOpen settled m wished r ∥₁
+  goes_on old g h = ∥∥₁_map h (λ i. results_on settled m wished old r g i)
+
+  pub index_is : ∥ IsOpen settled m wished r ∥₁ → r.index ≡ settled
+  index_is h =
+      ⊎_elim
+      (λ l. absurd (not_there h (λ i. omega (arith, l, i.index))))
+      (λ ge. ⊎_elim
+      (λ l. absurd (not_there h (λ i. omega (arith, l, i.index))))
+      (λ le. omega (arith, ge, le))
+      (below_or settled r.index))
+      (below_or r.index settled)
+
+  pub number_is : ∥ IsOpen settled m wished r ∥₁ → r.number ≡ suc settled
+  number_is h =
+      ⊎_elim
+      (λ l. absurd (not_there h (λ i. omega (arith, l, i.number))))
+      (λ ge. ⊎_elim
+      (λ l. absurd (not_there h (λ i. omega (arith, l, i.number))))
+      (λ le. omega (arith, ge, le))
+      (below_or (suc settled) r.number))
+      (below_or r.number (suc settled))
+
+  -- a pending result stands beside its post
+  pub stands_there : (es : List PendingResult) → IsLegalMachine m → ∥ AreBeside settled m.minutes wished es ∥₁ → ∥ IsOpen settled m wished r ∥₁ →
+      r.index < length es
+  stands_there es legal b h =
+      let more : ended_in m.minutes ≤ posted_in m.minutes = no_more_end m legal.minutes in
+      ⊎_elim
+      (λ l. l)
+      (λ ge. absurd (not_there b (λ a. not_there h (λ i. omega (arith, ge, a.many, i.index, i.ended, more)))))
+      (below_or r.index (length es))
+
+  -- all of it is there, and kept: one result more is settled
+  module _ (es next : List PendingResult) (s : SettlesLast es next r) where
+    pub beside_then : ∥ AreBeside settled m.minutes wished es ∥₁ → ∥ IsOpen settled m wished r ∥₁ → ∥ AreBeside r.number m.minutes wished next ∥₁
+    beside_then b h =
+        subst (λ (k : ℕ). ∥ AreBeside k m.minutes wished next ∥₁) (sym (number_is h))
+        (∥∥₁_map₂ b h (λ a i. beside_settled settled wished es next m r a i s))
+
+    pub results_then : (o : Option OpenResult) → o ≡ None → ∥ IsOpen settled m wished r ∥₁ → ∥ AreSettled r.number m wished o ∥₁
+    results_then o none h =
+        subst (λ (x : Option OpenResult). ∥ AreSettled r.number m wished x ∥₁) (sym none)
+        (subst (λ (k : ℕ). ∥ AreSettled k m wished None ∥₁) (sym (number_is h)) (∥∥₁_map h (λ i. results_settled settled m wished r i)))
+
+    pub kept_then_too : ∥ IsOpen settled m wished r ∥₁ → AreKept settled es next
+    kept_then_too h =
+        let index : r.index ≡ settled = index_is h in
+        subst (λ (l : List PendingResult). AreKept settled es l) (sym s.others) (kept_but es settled r.index s.left (omega (arith, index)))
+
+    pub untold_then : ∥ IsOpen settled m wished r ∥₁ → AreUntold settled r.number next
+    untold_then h = λ i e le low there.
+        ⊎_elim
+        (λ p. subst (λ (y : PendingResult). y.is_told ≡ false) (sym p.1) s.untold)
+        (λ p. absurd (p.0 (omega (arith, le, low, index_is h, number_is h))))
+        (set_cases es r.index i s.left e (subst (λ (l : List PendingResult). slice_get l i ≡ Some e) s.others there))
+
+-- not more are settled than have ended
+pub order_from : (settled : ℕ) (minutes : List Entry) (wished : List (List WishOf)) (es : List PendingResult) → ∥ AreBeside settled minutes wished es ∥₁ →
+    settled ≤ ended_in minutes
+order_from settled minutes wished es b =
+    ⊎_elim (λ l. absurd (not_there b (λ a. omega (arith, l, a.order)))) (λ le. le) (below_or (ended_in minutes) settled)
+
+-- as a job has just ended the results that are settled stay
+pub opens_kept : (k : ℕ) (m : Machine) (es next : List PendingResult) (r : OpenResult) → r.index ≡ k → OpensLast m es next r → AreKept k es next
+opens_kept k m es next r index s =
+    subst (λ (l : List PendingResult). AreKept k es l) (sym s.others) (kept_but es k r.index s.left (omega (arith, index)))
+
+-- what was not told is not told where it stays
+pub untold_through : (k l n : ℕ) (fs gs : List PendingResult) → AreUntold k l fs → AreKept l fs gs → AreUntold l n gs → AreUntold k n gs
+untold_through k l n fs gs u keep v = λ i e le low there.
+    ⊎_elim (λ lt. u i e le lt (sym (keep i lt) ∙ there)) (λ ge. v i e ge low there) (below_or i l)
 
 -- as many wishes are noted as there are posts
 pub many_wishes : (settled : ℕ) (minutes : List Entry) (wished : List (List WishOf)) (es : List PendingResult) → ∥ AreBeside settled minutes wished es ∥₁ →

@@ -1,9 +1,7 @@
 //! What is being made for the job that has ended last, until all of it is there.
-ghost use Rattle.std.specs.Prelude.{◌≡◌, ◌-◌, [], false, List, length};
+ghost use Rattle.std.specs.Prelude.{◌≡◌, ◌-◌, [], false, length};
 ghost use Rattle.kernel_audit.specs.State.{Idle};
-ghost use Rattle.kernel_audit.specs.Making.{IsUnderWay, left_of};
-ghost use Rattle.kernel_audit.specs.outcome.Outcome.{Outcome as OutcomeOf};
-ghost use Rattle.kernel_audit.specs.Wishes.{WishOf};
+ghost use Rattle.kernel_audit.specs.Making.{HasRoom, left_of};
 ghost use Rattle.hall_state.specs.OpenResults.{GoesOn};
 
 use kernel_audit::{Kernel, Making};
@@ -27,7 +25,7 @@ impl OpenResult {
     /// Makes so many more values at most; whether more may be left.
     pub(crate) fn make<W: Ledger>(&mut self, alloc: Global, kernel: &Kernel<W>, most: u32) -> bool
         requires idle { kernel.now.machine.state.job ≡ Idle }
-        requires going { (o : OutcomeOf) × (given : List WishOf) × IsUnderWay o kernel.now.machine.state.past given self.old.making }
+        requires room { HasRoom self.old.making }
         ensures goes { GoesOn kernel.now.machine.state.past self.old self.new }
         ensures fewer { length (left_of self.new.making) ≡ length (left_of self.old.making) - most }
         ensures left { result ≡ false → left_of self.new.making ≡ [] }
@@ -38,7 +36,7 @@ impl OpenResult {
     /// Makes all values that are left.
     pub(crate) fn finish<W: Ledger>(&mut self, alloc: Global, kernel: &Kernel<W>)
         requires idle { kernel.now.machine.state.job ≡ Idle }
-        requires going { (o : OutcomeOf) × (given : List WishOf) × IsUnderWay o kernel.now.machine.state.past given self.old.making }
+        requires room { HasRoom self.old.making }
         ensures goes { GoesOn kernel.now.machine.state.past self.old self.new }
         ensures left { left_of self.new.making ≡ [] }
     {

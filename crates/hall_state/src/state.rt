@@ -282,6 +282,7 @@ impl<W: Ledger, L: HistoryName> State<W, L> {
         ensures kept { AreKept self.old.settled self.old.pending_results.items self.new.pending_results.items }
         ensures untold { AreUntold self.old.settled self.new.settled self.new.pending_results.items }
     {
+        show_legal(&self.kernel);
         let State {
             kernel,
             pending_results,

@@ -23,6 +23,11 @@ has_values (Refused refusal) = false
 abbrev pub left_of : Making → List WishOf
 left_of m = m.rest.items
 
+-- there is room for the values that are left
+pub record HasRoom (m : Making) : Type 0 where
+  pub room : vec_len m.values + length (left_of m) ≤ vec_capacity m.values
+  pub count : deque_len m.rest ≡ length (left_of m)
+
 -- Of the given user expressions the first ones have their values, in the past of a job that has ended so, and the others are left, with room for theirs.
 pub record IsUnderWay (o : Outcome) (s : Past) (given : List WishOf) (m : Making) : Type 0 where
   pub still : StandsAtEnd o s

@@ -56,7 +56,7 @@ fn names_for<L: Ledger>(alloc: Global, kernel: &Kernel<L>, are_needed: bool) -> 
 }
 
 impl Making {
-    ghost use Rattle.kernel_ask.specs.Making.{IsUnderWay, left_of};
+    ghost use Rattle.kernel_ask.specs.Making.{IsUnderWay, HasRoom, left_of};
 
     /// None is evaluated yet. It takes no memory.
     pub fn new(
@@ -90,9 +90,10 @@ impl Making {
     ) -> bool
         requires idle { kernel.now.machine.state.job ≡ Idle }
         requires names { IfSome names.now (λ env. shape_in env.names ≡ shape_of (here kernel.now.machine.state.past).store) }
-        requires going { (o : OutcomeOf) × (given : List WishOf) × IsUnderWay o kernel.now.machine.state.past given self.old }
+        requires room { HasRoom self.old }
         ensures goes { (o : OutcomeOf) (given : List WishOf) → IsUnderWay o kernel.now.machine.state.past given self.old →
             IsUnderWay o kernel.now.machine.state.past given self.new }
+        ensures room { HasRoom self.new }
         ensures fewer { length (left_of self.new) ≡ length (left_of self.old) - 1 }
         ensures left { result ≡ false → left_of self.new ≡ [] }
     {
@@ -110,7 +111,7 @@ impl Making {
     /// it each value says so.
     pub fn make<L: Ledger>(&mut self, alloc: Global, kernel: &Kernel<L>, most: u32) -> bool
         requires idle { kernel.now.machine.state.job ≡ Idle }
-        requires going { (o : OutcomeOf) × (given : List WishOf) × IsUnderWay o kernel.now.machine.state.past given self.old }
+        requires room { HasRoom self.old }
         ensures goes { (o : OutcomeOf) (given : List WishOf) → IsUnderWay o kernel.now.machine.state.past given self.old →
             IsUnderWay o kernel.now.machine.state.past given self.new }
         ensures fewer { length (left_of self.new) ≡ length (left_of self.old) - most }
@@ -128,7 +129,7 @@ impl Making {
     /// The values of all that are left.
     pub fn finish<L: Ledger>(&mut self, alloc: Global, kernel: &Kernel<L>)
         requires idle { kernel.now.machine.state.job ≡ Idle }
-        requires going { (o : OutcomeOf) × (given : List WishOf) × IsUnderWay o kernel.now.machine.state.past given self.old }
+        requires room { HasRoom self.old }
         ensures goes { (o : OutcomeOf) (given : List WishOf) → IsUnderWay o kernel.now.machine.state.past given self.old →
             IsUnderWay o kernel.now.machine.state.past given self.new }
         ensures left { left_of self.new ≡ [] }
