@@ -1,7 +1,7 @@
-use Rattle.std.proofs.Common.{◌≡◌, List, true, false, rules, sym, subst}
+use Rattle.std.proofs.Common.{◌≡◌, List, IfNone, true, false, rules, sym, subst}
 use Rattle.std.proofs.lemmas.List.{with_items_is, places}
 use Rattle.kernel_audit.specs.Notes.{wished_in}
-use Rattle.hall_state.specs.PendingResults.{AreBeside}
+use Rattle.hall_state.specs.PendingResults.{AreBeside, WasTold}
 use Rattle.hall_state.specs.declared.pending_result.PendingResult.{PendingResult}
 use Rattle.hall_state.proofs.Beside.{beside_on, first_made, first_told, nowhere}
 use Rattle.hall_state.proofs.state.State.done.Goals as goal
@@ -55,7 +55,9 @@ returns-then-is_first-clause-first g c =
     let m = old.kernel.machine in
     let wished = wished_in old.notes in
     let b = subst (λ (l : List PendingResult). ∥ AreBeside old.settled m.minutes wished l ∥₁) (sym c.deref_mut.ensures.value) old.beside in
-    first_told old.settled m.minutes wished c.deref_mut.result.now c.args.number c.fetch_first.result (c.args.is_first ≡ true) b c.fetch_first.ensures.unended
+    subst (λ (l : List PendingResult). IfNone c.fetch_first.result (c.args.is_first ≡ true → WasTold old.settled l c.args.number)) c.deref_mut.ensures.value
+    (first_told old.settled m.minutes wished c.deref_mut.result.now c.args.number c.fetch_first.result (c.args.is_first ≡ true) b
+    c.fetch_first.ensures.unended)
 
 pub returns-else-is_first-clause-unended : goal.returns-else-is_first-clause-unended
 returns-else-is_first-clause-unended g c =
