@@ -10,9 +10,8 @@ use Rattle.kernel_audit.specs.Request.{Request}
 use Rattle.kernel_audit.specs.Minutes.{Entry, Posted, Ended, posted_in, ended_in}
 use Rattle.kernel_audit.specs.Runs.{Machine}
 use Rattle.kernel_audit.specs.LegalMinutes.{IsLegalMachine}
-use Rattle.kernel_audit.specs.State.{State, Past, Idle}
+use Rattle.kernel_audit.specs.State.{State, Past}
 use Rattle.kernel_audit.specs.Shown.{IsShownOfNode}
-use Rattle.kernel_audit.specs.Evaluation.{AreValuesAfter}
 use Rattle.kernel_audit.specs.Making.{IsUnderWay}
 use Rattle.kernel_audit.specs.outcome.Outcome.{Outcome}
 use Rattle.kernel_audit.specs.done.Done.{Done}
@@ -21,9 +20,9 @@ use Rattle.kernel_audit.specs.Wishes.{WishOf}
 use Rattle.kernel_audit.proofs.Fronts.{prefix_trans}
 use Rattle.kernel_audit.proofs.InOrder.{in_order, no_more_end, fewer_before}
 use Rattle.kernel_audit.proofs.Posts.{posted-append, ended-append}
-use Rattle.hall_state.specs.LastEnds.{last_of, IsEndAt, EndsNowhere}
+use Rattle.hall_state.specs.LastEnds.{last_of, EndsNowhere}
 use Rattle.hall_state.specs.JustEnded.{HasJustEnded}
-use Rattle.hall_state.specs.OpenResults.{EndedIn, IsOpen, AreSettled, GoesOn}
+use Rattle.hall_state.specs.OpenResults.{IsOpen, AreSettled, GoesOn}
 use Rattle.hall_state.specs.PendingResults.{AreMadeIn, WereMade, IsWaiting, HasSettled, AreBeside, IsTold, IsUntold, HasNoEnd, OpensLast, SettlesLast}
 use Rattle.hall_state.specs.PendingResults.{IsToldOrEndless, WasTold, AreKept, AreUntold}
 use Rattle.hall_state.specs.declared.open_result.OpenResult.{OpenResult}

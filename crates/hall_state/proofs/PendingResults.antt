@@ -4,7 +4,7 @@ use Rattle.std.proofs.Common.{ap, ◌∙◌, sym, subst, arith, ⊎_elim, vec_le
 use Rattle.std.proofs.lemmas.Grind.{not_there}
 use Rattle.std.proofs.lemmas.List.{set-get_or}
 use Rattle.std.proofs.lemmas.Option.{slice_get-get_or, get_or_from_slice_get, slice_get_within}
-use Rattle.kernel_audit.specs.Minutes.{Entry, Posted, Ended, ended_in}
+use Rattle.kernel_audit.specs.Minutes.{Entry, Ended, ended_in}
 use Rattle.kernel_audit.specs.Runs.{Machine}
 use Rattle.kernel_audit.specs.State.{Idle}
 use Rattle.kernel_audit.specs.EndedAt.{StandsAtEnd}
@@ -12,7 +12,6 @@ use Rattle.kernel_audit.specs.outcome.Outcome.{Outcome}
 use Rattle.kernel_audit.specs.done.Done.{Done}
 use Rattle.hall_state.specs.declared.pending_result.PendingResult.{PendingResult}
 use Rattle.hall_state.specs.declared.pending_result.LastEnd.{LastEnd}
-use Rattle.hall_state.specs.JustEnded.{HasJustEnded}
 use Rattle.std.proofs.Common.{◌⊎◌, inl, inr, option_map, string_bytes}
 use Rattle.std.specs.Global.{Vec}
 use Rattle.kernel_audit.specs.State.{Past}

@@ -1,5 +1,5 @@
 -- Elements of lists to which one was added, or in which one was replaced.
-use Rattle.std.proofs.Common.{◌≡◌, ◌⊎◌, ◌<◌, ◌≤◌, ◌-◌, ℕ, zero, suc, List, [], ◌∷◌, ◌++◌, length, get_or, slice_get, slice_set, None, Some, refl, sym, ap}
+use Rattle.std.proofs.Common.{◌≡◌, ◌⊎◌, ◌<◌, ◌≤◌, ◌-◌, ℕ, zero, suc, List, [], ◌∷◌, ◌++◌, length, get_or, slice_get, slice_set, Some, refl, sym, ap}
 use Rattle.std.proofs.Common.{subst, inl, inr, ⊎_elim, arith, unwrap_or, length-append}
 
 pub below_or : (i k : ℕ) → (i < k) ⊎ (k ≤ i)

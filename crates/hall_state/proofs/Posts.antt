@@ -1,5 +1,5 @@
 -- How the posts in the minutes are counted, and where they stand.
-use Rattle.std.proofs.Common.{◌≡◌, ◌<◌, ℕ, ◌+◌, ◌-◌, suc, false, List, [], ◌∷◌, ◌++◌, Some, length, slice_get, ap, sym, subst, ◌∙◌, arith, length-append}
+use Rattle.std.proofs.Common.{◌≡◌, ℕ, ◌+◌, ◌-◌, suc, false, List, [], ◌∷◌, ◌++◌, Some, length, slice_get, ap, sym, subst, ◌∙◌, arith, length-append}
 use mathlib.Core.List.{IsPrefix}
 use Rattle.kernel_audit.specs.Request.{Request}
 use Rattle.kernel_audit.specs.Minutes.{Entry, Post, Posted, posts_of, posted_in, IsNumberOf}

@@ -1,5 +1,5 @@
 -- How the end that stands last in the minutes is read.
-use Rattle.std.specs.Prelude.{◌≡◌, ℕ, ◌-◌, List, Option, None, Some, length, slice_get, zero, suc}
+use Rattle.std.specs.Prelude.{◌≡◌, ℕ, ◌-◌, List, Option, None, Some, length, slice_get, suc}
 use Rattle.kernel_audit.specs.Minutes.{Entry, Posted, Ended}
 use Rattle.kernel_audit.specs.outcome.Outcome.{Outcome}
 use Rattle.kernel_audit.specs.done.Done.{Done}

@@ -9,9 +9,7 @@ use Rattle.kernel_audit.specs.LegalMinutes.{IsLegalMachine}
 use Rattle.kernel_audit.specs.Shown.{IsShownOfNode}
 use Rattle.kernel_audit.specs.Evaluation.{AreValuesAfter}
 use Rattle.kernel_audit.specs.outcome.Outcome.{Outcome}
-use Rattle.kernel_audit.specs.outcome.Begun.{Begun}
 use Rattle.kernel_audit.specs.outcome.Begun.TheVariants as begun
-use Rattle.kernel_audit.specs.outcome.Sliced.{Sliced}
 use Rattle.kernel_audit.specs.outcome.Sliced.TheVariants as sliced
 use Rattle.kernel_audit.specs.done.Done.{Done}
 use Rattle.kernel_audit.specs.done.NamedValue.{NamedValue}

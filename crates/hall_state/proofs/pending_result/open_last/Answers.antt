@@ -1,6 +1,6 @@
 use Rattle.std.proofs.Common.{◌<◌, List, length, refl, rules, subst}
 use Rattle.kernel_audit.specs.Minutes.{Entry}
-use Rattle.hall_state.specs.LastEnds.{IsLastEnd, EndsNoNumber, last_of}
+use Rattle.hall_state.specs.LastEnds.{IsLastEnd}
 use Rattle.hall_state.proofs.PendingResults.{within, waits, stands, opens}
 use Rattle.hall_state.proofs.pending_result.open_last.Goals as goal
 

@@ -1,4 +1,3 @@
-use Rattle.std.proofs.Common.{refl}
 use Rattle.hall_state.proofs.PendingResults.{settles}
 use Rattle.hall_state.proofs.pending_result.settle_last.Goals as goal
 

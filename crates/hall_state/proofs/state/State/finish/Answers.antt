@@ -1,11 +1,10 @@
-use Rattle.std.proofs.Common.{◌≡◌, List, refl, rules, sym, subst, ◌∙◌}
+use Rattle.std.proofs.Common.{List, rules, sym, subst, ◌∙◌}
 use Rattle.std.proofs.lemmas.List.{with_items_is, places}
 use Rattle.kernel_audit.specs.Notes.{wished_in}
 use Rattle.hall_state.specs.OpenResults.{IsOpen}
 use Rattle.hall_state.specs.PendingResults.{AreBeside, AreKept, AreUntold}
 use Rattle.hall_state.specs.declared.open_result.OpenResult.{OpenResult}
 use Rattle.hall_state.specs.declared.pending_result.PendingResult.{PendingResult}
-use Rattle.hall_state.proofs.Places.{some_same}
 use Rattle.hall_state.proofs.Beside.{open_is, goes_on, stands_there, beside_then, results_then, kept_then_too, untold_then}
 use Rattle.hall_state.proofs.state.State.finish.Goals as goal
 

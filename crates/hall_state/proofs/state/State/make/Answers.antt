@@ -1,4 +1,4 @@
-use Rattle.std.proofs.Common.{◌≡◌, List, refl, rules, sym, subst, ◌∙◌}
+use Rattle.std.proofs.Common.{List, rules, sym, subst, ◌∙◌}
 use Rattle.std.proofs.lemmas.List.{with_items_is, places}
 use Rattle.kernel_audit.specs.Notes.{wished_in}
 use Rattle.hall_state.specs.OpenResults.{IsOpen}
