@@ -108,6 +108,7 @@ fn serve_new_kernel<
     S: Ledger + Send + Sync,
     R,
     O: Write,
+    E: Write,
 >(
     rt: &R,
     alloc: Global,
@@ -120,6 +121,7 @@ fn serve_new_kernel<
     listeners: &Listeners,
     key: Key,
     out: &mut O,
+    err: &mut E,
 ) -> Result<(), ProgramFault>
 where
     R: RandomSource + Threads + Wait + Clock + Sync,
@@ -132,7 +134,7 @@ where
     let (service, seats) = new_service::<W, L, S, R>(
         rt, alloc, writes, posts, history, notes, strangers, times, key,
     )?;
-    let served = serve_all(rt, &service, listeners, seats, out);
+    let served = serve_all(rt, &service, listeners, seats, out, err);
     service.discard();
     match served {
         Ok(true) => Ok(()),
@@ -175,7 +177,7 @@ where
     let listeners = listeners_of(rt, &file)?;
     tell_reach(&listeners, &file.ip, err);
     let key = Key::new(file.key.into_bytes());
-    serve_new_kernel::<Brand, Brand, Brand, R, O>(
+    serve_new_kernel::<Brand, Brand, Brand, R, O, E>(
         rt,
         alloc,
         Blank::new(2),
@@ -187,6 +189,7 @@ where
         &listeners,
         key,
         out,
+        err,
     )
 }
 
