@@ -91,7 +91,7 @@ end_of_work:                                            /* it may sleep for ever
         fi;
         UNLOCK(lock);
         if
-        :: is_making -> UNDER(lock, settled = ended);   /* worker::make_all: Hall::make, with the lock free before, as often as one likes */
+        :: is_making -> UNDER(lock, settled = ended);   /* Hall::make_all: Hall::make, with the lock free before, as often as one likes */
             is_making = false
         :: !is_making -> skip
         fi;

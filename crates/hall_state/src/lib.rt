@@ -12,6 +12,9 @@
 //! being made for a job that has ended, `passes` who may post, `history` how the history follows the minutes, `minutes` what is left at the end.
 //!
 //! It gives the names of `kernel_audit`, `kernel_ask` and the kernel again that the hall's calls have.
+//!
+//! A turn that ends a job writes down beside that post where its end stands, and changes no other; one that ends no job changes none. Where
+//! the first alone is to be told of an end, `done` may tell none though there is one.
 #![tactic(auto)]
 
 mod history;

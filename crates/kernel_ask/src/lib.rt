@@ -13,6 +13,8 @@
 //! several crates test, `laws` the laws.
 //!
 //! It gives again what the layers above cite of `kernel_text` and of `kernel_core`, so that most of them name this crate alone.
+//!
+//! A cursor is counted in code points. Names are told once each, in the order of their octets. A history is of the present session alone.
 #![tactic(auto)]
 
 mod answer;

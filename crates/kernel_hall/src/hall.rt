@@ -28,8 +28,9 @@ use std::marker::Model;
 use std::sync::ledger::{Blank, Ledger};
 use std::sync::{Condvar, Mutex, Wait};
 
-/// One kernel for many threads. Each lock is held for one event of the kernel, or for one piece of what is made of a job that has ended. Contracts see which bell it has. The type parameters name
-/// the ledger of the kernel's writes, and that of the posts with the history of the minutes: a program picks each once.
+/// One kernel for many threads. Each lock is held for one event of the kernel, or for one piece of what is made of a job that has ended. Contracts
+/// see which bell it has. The type parameters name the ledger of the kernel's writes, and that of the posts with the history of the minutes: a program
+/// picks each once.
 #[derive(Drop)]
 pub struct Hall<W: Ledger, L: HistoryName> {
     state: Mutex<State<W, L>>,
@@ -156,8 +157,8 @@ impl<W: Ledger, L: HistoryName> Hall<W, L> {
     }
 
     /// One turn of the runner: under the lock one slice of at most `m` steps, with one look at the bell, or one begin. It is `Worn`, and
-    /// does nothing, where the bell's serials are used up. Behind it all is there that is told of a job that it ended, which takes the lock once more for
-    /// each piece of many user expressions; `work` gives way between two pieces.
+    /// does nothing, where the bell's serials are used up. After it all is there that is told of a job that it ended, which takes the lock once more for
+    /// each piece of many user expressions, and gives way before each.
     pub fn turn<R: Wait>(&self, rt: &R, runner: &mut RunnerSeat, m: u64) -> Turn
         requires own { runner.old.bell ≡ self.now }
         ensures worn { (result ≡ Turn.Worn) ↔ (runner.old.knows.serial ≡ 2 ^ 64 - 1) }
@@ -172,9 +173,10 @@ impl<W: Ledger, L: HistoryName> Hall<W, L> {
         turn
     }
 
-    /// Makes all that is left of a job that has ended.
+    /// Makes all that is left of a job that has ended, in pieces, between which others have the lock.
     fn make_all<R: Wait>(&self, rt: &R) {
         for _ in rt.forever() {
+            self.give_way();
             if !self.make(rt) {
                 break;
             }
@@ -189,7 +191,7 @@ impl<W: Ledger, L: HistoryName> Hall<W, L> {
     }
 
     /// `turn`, and whether something is still made for a job that has ended: `make` has to be called then.
-    pub(crate) fn turn_on<R: Wait>(&self, rt: &R, runner: &mut RunnerSeat, m: u64) -> (Turn, bool)
+    fn turn_on<R: Wait>(&self, rt: &R, runner: &mut RunnerSeat, m: u64) -> (Turn, bool)
         requires own { runner.old.bell ≡ self.now }
         ensures worn { (result.0 ≡ Turn.Worn) ↔ (runner.old.knows.serial ≡ 2 ^ 64 - 1) }
         ensures same { result.0 ≡ Turn.Worn → runner.new ≡ runner.old }
@@ -212,7 +214,7 @@ impl<W: Ledger, L: HistoryName> Hall<W, L> {
     }
 
     /// Makes some more of the values of a job that has ended; whether more may be left. Once all are there who waits for the job is woken.
-    pub(crate) fn make<R: Wait>(&self, rt: &R) -> bool {
+    fn make<R: Wait>(&self, rt: &R) -> bool {
         let mut state = self.state.lock(rt);
         if state.make() {
             return true;

@@ -36,11 +36,7 @@ pub fn work<W: Ledger, L: HistoryName, R: Wait, G: Gate>(
             }
             gate.pass(Moment::BeforeBegin);
         }
-        let (turn, is_making) = hall.turn_on(rt, &mut runner, STEPS_OF_A_SLICE);
-        if is_making {
-            make_all(hall, rt);
-        }
-        match turn {
+        match hall.turn(rt, &mut runner, STEPS_OF_A_SLICE) {
             Turn::Worn => break,
             Turn::Began(begun) => is_inside = begun == Begun::Going,
             Turn::Cut(sliced) => {
@@ -48,16 +44,6 @@ pub fn work<W: Ledger, L: HistoryName, R: Wait, G: Gate>(
                 gate.pass(Moment::AfterSlice);
                 hall.give_way();
             }
-        }
-    }
-}
-
-/// Makes all values of a job that has ended, in pieces, between which others have the lock.
-fn make_all<W: Ledger, L: HistoryName, R: Wait>(hall: &Hall<W, L>, rt: &R) {
-    for _ in rt.forever() {
-        hall.give_way();
-        if !hall.make(rt) {
-            break;
         }
     }
 }

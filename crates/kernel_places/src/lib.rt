@@ -37,6 +37,10 @@
 //! and `warning` tells which limits are near.
 //!
 //! It gives again what a program needs to start it: the kernel, the hall and the comms that it makes.
+//!
+//! In functions that are not public it is proved that of who showed the key no octets are counted, that a stranger's octets come further
+//! only where they are counted, and that for an answer that goes out 25 octets at most are let go of, none where it is no pong. That none
+//! come further before this is asked, and that they are let go of once, is no clause's. `serve_all` has a condition alone.
 #![tactic(auto)]
 
 mod arrivals;
