@@ -13,8 +13,8 @@
 //!
 //! It gives the names of `kernel_audit`, `kernel_ask` and the kernel again that the hall's calls have.
 //!
-//! A turn that ends a job writes down beside that post where its end stands, and changes no other; one that ends no job changes none. Where
-//! the first alone is to be told of an end, `done` may tell none though there is one.
+//! A turn that ends a job writes down beside that post where its end stands, and changes no other; one that ends no job changes none. The first who
+//! asks for what came of a job is told it once all is made.
 #![tactic(auto)]
 
 mod history;
