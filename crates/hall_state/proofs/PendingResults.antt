@@ -1,5 +1,6 @@
 -- What is told once, and what is settled.
-use Rattle.std.proofs.Common.{◌≡◌, ℕ, ◌-◌, ◌<◌, ◌≤◌, suc, List, [], ◌∷◌, Option, None, Some, IfSome, IfNone, length, get_or, slice_get, slice_set, true, false, refl}
+use Rattle.std.proofs.Common.{◌≡◌, ℕ, ◌-◌, ◌<◌, ◌≤◌, suc, List, [], ◌∷◌, Option, None, Some, IfSome, IfNone, length}
+use Rattle.std.proofs.Common.{get_or, slice_get, slice_set, true, false, refl}
 use Rattle.std.proofs.Common.{ap, ◌∙◌, sym, subst, arith, ⊎_elim, vec_len, vec_capacity}
 use Rattle.std.proofs.lemmas.Grind.{not_there}
 use Rattle.std.proofs.lemmas.List.{set-get_or}

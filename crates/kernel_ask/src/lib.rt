@@ -9,8 +9,8 @@
 //!
 //! In reading order: `answer` (questions and answers), `ask` (the answers over a lent kernel), and each of them: `cursor`, `matches` and
 //! `completion`, `inspection`, `judgement`, `inputs`, `tail` and `input_history`, `standing` (the state). Then what is told of a job that ended:
-//! `done`, `shown`, `wish` and `evaluation`, `making` (the values of many, with stops between), `ending` (what is made as it ends), `lines`. `comms` and `comm_change` are the open comms, `limit` what
-//! several crates test, `laws` the laws.
+//! `done`, `shown`, `wish` and `evaluation`, `making` (the values of many, with stops between), `ending` (what is made as it ends), `lines`. `comms`
+//! and `comm_change` are the open comms, `limit` what several crates test, `laws` the laws.
 //!
 //! It gives again what the layers above cite of `kernel_text` and of `kernel_core`, so that most of them name this crate alone.
 //!

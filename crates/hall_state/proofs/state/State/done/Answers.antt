@@ -19,7 +19,8 @@ invariant_of-self g c =
       closes = old.closes;
       beside = subst (λ (l : List PendingResult). ∥ AreBeside old.settled m.minutes wished l ∥₁)
           (sym (with_items_is old.pending_results c.fetch_first.new.pending_results (search (rules, places))))
-          (beside_on old.settled m.minutes wished c.deref_mut.result.now c.fetch_first.new.pending_results c.args.number c.fetch_first.result b fetched.told fetched.none);
+          (beside_on old.settled m.minutes wished c.deref_mut.result.now c.fetch_first.new.pending_results c.args.number c.fetch_first.result b
+      fetched.told fetched.none);
       results = old.results;
     }
 
@@ -36,7 +37,8 @@ invariant_of-self-else-is_first g c =
       closes = old.closes;
       beside = subst (λ (l : List PendingResult). ∥ AreBeside old.settled m.minutes wished l ∥₁)
           (sym (with_items_is old.pending_results c.fetch.new.pending_results (search (rules, places))))
-          (beside_on old.settled m.minutes wished c.deref_mut-else-is_first.result.now c.fetch.new.pending_results c.args.number c.fetch.result b fetched.told fetched.none);
+          (beside_on old.settled m.minutes wished c.deref_mut-else-is_first.result.now c.fetch.new.pending_results c.args.number c.fetch.result b
+      fetched.told fetched.none);
       results = old.results;
     }
 
@@ -46,7 +48,8 @@ returns-then-is_first-clause-made g c =
     let m = old.kernel.machine in
     let wished = wished_in old.notes in
     let b = subst (λ (l : List PendingResult). ∥ AreBeside old.settled m.minutes wished l ∥₁) (sym c.deref_mut.ensures.value) old.beside in
-    first_made old.settled m.minutes wished c.deref_mut.result.now c.fetch_first.new.pending_results c.args.number c.fetch_first.result (c.args.is_first ≡ true) b
+    first_made old.settled m.minutes wished c.deref_mut.result.now c.fetch_first.new.pending_results c.args.number c.fetch_first.result
+        (c.args.is_first ≡ true) b
     c.fetch_first.ensures.untold c.fetch_first.ensures.told
 
 pub returns-then-is_first-clause-first : goal.returns-then-is_first-clause-first

@@ -38,7 +38,8 @@ invariant_of-self-2 g c =
           (sym (ap (λ (m : Machine). m.minutes) is))
           (subst (λ (w : List (List WishOf)). AreBeside old.settled next.minutes w c.push_reserved.new.self.items) (sym c.note_wishes-wishes.ensures.noted)
           (subst (λ (es : List PendingResult). AreBeside old.settled next.minutes (wished_in old.notes ++ c.args.wishes.items ∷ []) es) (sym items)
-          (beside_posted old.settled old.kernel.machine.minutes (wished_in old.notes) old.pending_results.items c.lane.result (request_of c.args.job) c.args.wishes.items
+          (beside_posted old.settled old.kernel.machine.minutes (wished_in old.notes) old.pending_results.items c.lane.result (request_of c.args.job)
+          c.args.wishes.items
           c.new.result (no_more_end old.kernel.machine c.show_legal.ensures.minutes) own a))));
       results = ∥∥₁_map old.results (λ a.
           subst (λ (w : List (List WishOf)). AreSettled old.settled c.post.new.self.machine w old.under_way) (sym c.note_wishes-wishes.ensures.noted)
