@@ -12,10 +12,10 @@ use Rattle.janus_row.specs.Seen.{Others, cell, content}
 use Rattle.janus_row.specs.Frames.{IsVal, Holds, IsSeen}
 use Rattle.janus_row.specs.Over.{seen_of}
 use Rattle.janus_row.proofs.Memories.{number_is, content_is}
-use Rattle.janus_frames.specs.Calls.{names_of, slots_of, own_names, stacks_lent, values_lent}
+use Rattle.janus_frames.specs.Calls.{slots_of, own_names, stacks_lent, values_lent}
 use Rattle.janus_frames.specs.Cells.{stored, from, IsPresent}
-use Rattle.janus_frames.specs.FramesState.{FramesState, stacks_there, values_there}
-use Rattle.janus_frames.specs.Inside.{AreIn, AreCounted, callers_of, frames_in}
+use Rattle.janus_frames.specs.FramesState.{stacks_there, values_there}
+use Rattle.janus_frames.specs.Inside.{AreIn, callers_of, frames_in}
 use Rattle.janus_frames.specs.declared.frames.OpenCall.{OpenCall}
 use Rattle.janus_frames.proofs.Among.{equal, not-equal}
 use Rattle.janus_frames.proofs.Calling.{as-many}

@@ -1,5 +1,5 @@
-use Rattle.std.proofs.Common.{◌≡◌, ◌<◌, length, subst, sym}
-use Rattle.janus_row.specs.Rows.{IsRow, body_at}
+use Rattle.std.proofs.Common.{◌<◌, length, subst, sym}
+use Rattle.janus_row.specs.Rows.{IsRow}
 use Rattle.janus_frames.proofs.Runnable.{body-there}
 use Rattle.janus_frames.proofs.frames.sight_at.Goals as goal
 
