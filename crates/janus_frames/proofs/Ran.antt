@@ -1,5 +1,6 @@
 -- Frames as a row sees them, and what stands in them when it was run.
-use Rattle.std.proofs.Common.{◌≡◌, ℕ, ℤ, zero, suc, ◌+◌, ◌-◌, ◌<◌, ◌≤◌, Bool, true, false, nat_eq, List, [], ◌∷◌, length, get_or, pos, refl, ap, ◌∙◌, sym, subst, arith}
+use Rattle.std.proofs.Common.{◌≡◌, ℕ, ℤ, zero, suc, ◌+◌, ◌-◌, ◌<◌, ◌≤◌, Bool, true, false, nat_eq, List, [], ◌∷◌, length, get_or, pos}
+use Rattle.std.proofs.Common.{refl, ap, ◌∙◌, sym, subst, arith}
 use Rattle.std.specs.Prelude.{take, drop}
 use Rattle.std.proofs.lemmas.List.{get_or-take, get_or-drop, length-drop, length-take-le}
 use Rattle.janus_meaning.specs.Limit.{live_stack_limit}
@@ -118,7 +119,7 @@ module _ (m : MemoryState) where
       let s = size-stored (from (val_at m) m.base) u in (
         ap slot (sym s),
         subst (IsVal (val_at m (m.base + u)) cs os) (sym s)
-        (val-there u (number_at m (m.base + u)) (content_at m (m.base + u)) (content_is m u) (number_is m u) (h u (omega arith))),
+            (val-there u (number_at m (m.base + u)) (content_at m (m.base + u)) (content_is m u) (number_is m u) (h u (omega arith))),
         holds-stored u (λ k lt. h k (omega (arith, lt))),
       )
 

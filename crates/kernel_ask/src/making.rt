@@ -59,11 +59,7 @@ impl Making {
     ghost use Rattle.kernel_ask.specs.Making.{IsUnderWay, HasRoom, left_of};
 
     /// None is evaluated yet. It takes no memory.
-    pub fn new(
-        outcome: &Outcome,
-        wishes: Vec<Wish>,
-        room: Vec<NamedValue>,
-    ) -> Making
+    pub fn new(outcome: &Outcome, wishes: Vec<Wish>, room: Vec<NamedValue>) -> Making
         requires empty { room.items ≡ [] }
         requires room { vec_len wishes ≤ vec_capacity room }
         ensures { (s : Past) → StandsAtEnd outcome.now s → IsUnderWay outcome.now s wishes.items result }

@@ -11,7 +11,7 @@ returns g c =
     let end = c.in-Some.end in
     let is = subst (λ (l : List Entry). IsLastEnd l end) c.minutes.ensures.entries c.in-Some.ensures.some in
     opens m es end c.index-pending_results-index.result c.take_out-making.new.self _ is (within m es end c.requires is) refl refl refl
-      c.take_out-making.ensures.taken
+    c.take_out-making.ensures.taken
     c.shown_after-shown.ensures (c.take_out-making.ensures.making m.state.past (stands m es end c.requires is))
 
 pub offset_bounds-pending_results-index : goal.offset_bounds-pending_results-index

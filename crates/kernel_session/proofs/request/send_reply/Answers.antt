@@ -14,4 +14,4 @@ returns-clause-err g c =
     let reply = ap (λ (r : Option Message). reply_octets c.args.key.now (option_map octets_of r)) c.in-Some.is in
     subst (λ (octets : List ℕ). OnErr c.send_message.result
     (SentSome (g.W.Write.contents c.args.writer.now) (g.W.Write.contents c.send_message.new.writer) octets))
-      (sent ∙ said ∙ sym reply) c.send_message.ensures.err
+    (sent ∙ said ∙ sym reply) c.send_message.ensures.err

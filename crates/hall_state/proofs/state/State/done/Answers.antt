@@ -20,7 +20,7 @@ invariant_of-self g c =
       beside = subst (λ (l : List PendingResult). ∥ AreBeside old.settled m.minutes wished l ∥₁)
           (sym (with_items_is old.pending_results c.fetch_first.new.pending_results (search (rules, places))))
           (beside_on old.settled m.minutes wished c.deref_mut.result.now c.fetch_first.new.pending_results c.args.number c.fetch_first.result b
-      fetched.told fetched.none);
+          fetched.told fetched.none);
       results = old.results;
     }
 
@@ -38,7 +38,7 @@ invariant_of-self-else-is_first g c =
       beside = subst (λ (l : List PendingResult). ∥ AreBeside old.settled m.minutes wished l ∥₁)
           (sym (with_items_is old.pending_results c.fetch.new.pending_results (search (rules, places))))
           (beside_on old.settled m.minutes wished c.deref_mut-else-is_first.result.now c.fetch.new.pending_results c.args.number c.fetch.result b
-      fetched.told fetched.none);
+          fetched.told fetched.none);
       results = old.results;
     }
 
@@ -49,7 +49,7 @@ returns-then-is_first-clause-made g c =
     let wished = wished_in old.notes in
     let b = subst (λ (l : List PendingResult). ∥ AreBeside old.settled m.minutes wished l ∥₁) (sym c.deref_mut.ensures.value) old.beside in
     first_made old.settled m.minutes wished c.deref_mut.result.now c.fetch_first.new.pending_results c.args.number c.fetch_first.result
-        (c.args.is_first ≡ true) b
+    (c.args.is_first ≡ true) b
     c.fetch_first.ensures.untold c.fetch_first.ensures.told
 
 pub returns-then-is_first-clause-first : goal.returns-then-is_first-clause-first

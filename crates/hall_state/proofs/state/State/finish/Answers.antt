@@ -15,7 +15,7 @@ settle_last-requires-clause-there g c =
     let wished = wished_in old.notes in
     let es = c.deref_mut.result.now in
     let r : OpenResult = c.finish.new.self in
-    let h : ∥ IsOpen old.settled m wished r ∥₁ = 
+    let h : ∥ IsOpen old.settled m wished r ∥₁ =
     goes_on old.settled m wished c.finish.new.self c.in-Some.made c.finish.ensures.goes
     (open_is old.settled m wished c.in-Some.made old.under_way (sym c.take.ensures.value ∙ c.in-Some.is) old.results) in
     let b : ∥ AreBeside old.settled m.minutes wished es ∥₁ =
@@ -29,7 +29,7 @@ invariant_of-self g c =
     let wished = wished_in old.notes in
     let es = c.deref_mut.result.now in
     let r : OpenResult = c.finish.new.self in
-    let h : ∥ IsOpen old.settled m wished r ∥₁ = 
+    let h : ∥ IsOpen old.settled m wished r ∥₁ =
     goes_on old.settled m wished c.finish.new.self c.in-Some.made c.finish.ensures.goes
     (open_is old.settled m wished c.in-Some.made old.under_way (sym c.take.ensures.value ∙ c.in-Some.is) old.results) in
     let b : ∥ AreBeside old.settled m.minutes wished es ∥₁ =
@@ -52,7 +52,7 @@ returns-in-Some-clause-kept g c =
     let wished = wished_in old.notes in
     let es = c.deref_mut.result.now in
     let r : OpenResult = c.finish.new.self in
-    let h : ∥ IsOpen old.settled m wished r ∥₁ = 
+    let h : ∥ IsOpen old.settled m wished r ∥₁ =
     goes_on old.settled m wished c.finish.new.self c.in-Some.made c.finish.ensures.goes
     (open_is old.settled m wished c.in-Some.made old.under_way (sym c.take.ensures.value ∙ c.in-Some.is) old.results) in
     let b : ∥ AreBeside old.settled m.minutes wished es ∥₁ =
@@ -70,7 +70,7 @@ returns-in-Some-clause-untold g c =
     let wished = wished_in old.notes in
     let es = c.deref_mut.result.now in
     let r : OpenResult = c.finish.new.self in
-    let h : ∥ IsOpen old.settled m wished r ∥₁ = 
+    let h : ∥ IsOpen old.settled m wished r ∥₁ =
     goes_on old.settled m wished c.finish.new.self c.in-Some.made c.finish.ensures.goes
     (open_is old.settled m wished c.in-Some.made old.under_way (sym c.take.ensures.value ∙ c.in-Some.is) old.results) in
     let b : ∥ AreBeside old.settled m.minutes wished es ∥₁ =

@@ -30,7 +30,7 @@ settle_last-requires-clause-there g c =
     let wished = wished_in old.notes in
     let es = c.deref_mut.result.now in
     let r : OpenResult = c.in-Some-take.made in
-    let h : ∥ IsOpen old.settled m wished r ∥₁ = 
+    let h : ∥ IsOpen old.settled m wished r ∥₁ =
     subst (λ (x : OpenResult). ∥ IsOpen old.settled m wished x ∥₁) (sym (some_same (sym c.in-Some-take.is ∙ c.take.ensures.value)))
     (goes_on old.settled m wished c.make.new.self c.in-Some.made c.make.ensures.goes
     (open_is old.settled m wished c.in-Some.made old.under_way c.in-Some.is old.results)) in
@@ -45,7 +45,7 @@ invariant_of-self-in-Some-take g c =
     let wished = wished_in old.notes in
     let es = c.deref_mut.result.now in
     let r : OpenResult = c.in-Some-take.made in
-    let h : ∥ IsOpen old.settled m wished r ∥₁ = 
+    let h : ∥ IsOpen old.settled m wished r ∥₁ =
     subst (λ (x : OpenResult). ∥ IsOpen old.settled m wished x ∥₁) (sym (some_same (sym c.in-Some-take.is ∙ c.take.ensures.value)))
     (goes_on old.settled m wished c.make.new.self c.in-Some.made c.make.ensures.goes
     (open_is old.settled m wished c.in-Some.made old.under_way c.in-Some.is old.results)) in
@@ -69,7 +69,7 @@ returns-in-Some-take-clause-kept g c =
     let wished = wished_in old.notes in
     let es = c.deref_mut.result.now in
     let r : OpenResult = c.in-Some-take.made in
-    let h : ∥ IsOpen old.settled m wished r ∥₁ = 
+    let h : ∥ IsOpen old.settled m wished r ∥₁ =
     subst (λ (x : OpenResult). ∥ IsOpen old.settled m wished x ∥₁) (sym (some_same (sym c.in-Some-take.is ∙ c.take.ensures.value)))
     (goes_on old.settled m wished c.make.new.self c.in-Some.made c.make.ensures.goes
     (open_is old.settled m wished c.in-Some.made old.under_way c.in-Some.is old.results)) in
@@ -88,7 +88,7 @@ returns-in-Some-take-clause-untold g c =
     let wished = wished_in old.notes in
     let es = c.deref_mut.result.now in
     let r : OpenResult = c.in-Some-take.made in
-    let h : ∥ IsOpen old.settled m wished r ∥₁ = 
+    let h : ∥ IsOpen old.settled m wished r ∥₁ =
     subst (λ (x : OpenResult). ∥ IsOpen old.settled m wished x ∥₁) (sym (some_same (sym c.in-Some-take.is ∙ c.take.ensures.value)))
     (goes_on old.settled m wished c.make.new.self c.in-Some.made c.make.ensures.goes
     (open_is old.settled m wished c.in-Some.made old.under_way c.in-Some.is old.results)) in

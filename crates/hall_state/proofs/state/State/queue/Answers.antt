@@ -26,8 +26,12 @@ invariant_of-self-2 g c =
     let entry : List Entry = Posted c.lane.result (request_of c.args.job) ∷ [] in
     let wished = wished_in c.note_wishes-wishes.new.notes in
     let low : ended_in old.kernel.machine.minutes ≤ length (wished_in old.notes) =
-    omega (arith, no_more_end old.kernel.machine c.show_legal.ensures.minutes, many_wishes old.settled old.kernel.machine.minutes (wished_in old.notes)
-    old.pending_results.items old.beside) in
+    omega (
+      arith,
+      no_more_end old.kernel.machine c.show_legal.ensures.minutes,
+      many_wishes old.settled old.kernel.machine.minutes (wished_in old.notes)
+          old.pending_results.items old.beside,
+    ) in
     let own = subst (λ (w : List WishOf). IsWaiting w c.new.result) (ap (λ v. v.items) c.note_wishes-wishes.ensures.wishes) c.new.ensures.waiting in
     record {
       counted = omega arith;

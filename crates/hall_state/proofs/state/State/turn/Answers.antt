@@ -77,7 +77,7 @@ returns-then-is_end-clause-kept g c =
     order_from old.settled old.kernel.machine.minutes (wished_in old.notes) old.pending_results.items old.beside in
     let same : ended_in before ≡ ended_in old.kernel.machine.minutes = ap (λ k. ended_in k.machine.minutes) c.finish.ensures.kernel in
     kept_then old.settled f.settled old.pending_results.items f.pending_results.items c.make-more.new.self.pending_results.items
-        (omega (arith, more, same, all))
+    (omega (arith, more, same, all))
     c.finish.ensures.kept stays
 
 pub returns-then-is_end-clause-untold : goal.returns-then-is_end-clause-untold
