@@ -118,7 +118,7 @@ module _ (m : MemoryState) where
       let s = size-stored (from (val_at m) m.base) u in (
         ap slot (sym s),
         subst (IsVal (val_at m (m.base + u)) cs os) (sym s)
-        (val-there u (number_at m (m.base + u)) (content_at m (m.base + u)) (content_is m u) (number_is m u) (h u (omega arith))),
+            (val-there u (number_at m (m.base + u)) (content_at m (m.base + u)) (content_is m u) (number_is m u) (h u (omega arith))),
         holds-stored u (λ k lt. h k (omega (arith, lt))),
       )
 
