@@ -10,7 +10,6 @@ pub mod Judgement
 pub mod EndedAt
 pub mod Wishes
 pub mod Evaluation
-pub mod Slotted
 pub mod Comms
 pub mod Completion
 pub mod HallFault

@@ -9,7 +9,7 @@
 //!
 //! In reading order: `answer` (questions and answers), `ask` (the answers over a lent kernel), and each of them: `cursor`, `matches` and
 //! `completion`, `inspection`, `judgement`, `inputs`, `tail` and `input_history`, `standing` (the state). Then what is told of a job that ended:
-//! `done`, `shown`, `wish` and `evaluation`, `ending` (what is made as it ends), `lines`. `comms` and `comm_change` are the open comms, `limit` what
+//! `done`, `shown`, `wish`, `number` and `evaluation`, `ending` (what is made as it ends), `lines`. `comms` and `comm_change` are the open comms, `limit` what
 //! several crates test, `laws` the laws.
 //!
 //! It gives again what the layers above cite of `kernel_text` and of `kernel_core`, so that most of them name this crate alone.
@@ -32,6 +32,7 @@ pub mod laws;
 mod limit;
 mod lines;
 mod matches;
+mod number;
 mod shown;
 mod standing;
 mod tail;
@@ -51,6 +52,6 @@ pub use crate::standing::{is_settled, stands_at_end, state};
 pub use crate::wish::Wish;
 pub use kernel_text::{
     Begun, CellText, CheckFault, Entry, Fault, Job, Kernel, Outcome, Phase, PostFault, Refusal,
-    SHOWN_VALUES, STEPS_OF_A_SLICE, Sliced, SyntaxFault, TravelEnd, outcome_line, post_fault_line,
-    procedure_text, value_text,
+    SHOWN_VALUES, STEPS_OF_A_SLICE, Sliced, StackView, SyntaxFault, TravelEnd, ValueView,
+    outcome_line, post_fault_line, procedure_text, value_text,
 };

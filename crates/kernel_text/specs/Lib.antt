@@ -23,3 +23,6 @@ pub use Rattle.kernel_core.specs.Counters
 pub use Rattle.kernel_core.specs.NodeTrees
 pub use Rattle.kernel_core.specs.Text
 pub use Rattle.kernel_core.specs.Extent
+-- Of janus_memory, given again.
+pub use Rattle.janus_memory.specs.Stacks
+pub use Rattle.janus_memory.specs.Values

@@ -1,13 +1,11 @@
 -- The value of an expression from those of its parts.
 use Rattle.std.proofs.Common.{◌≡◌, ℤ, neg_ℤ, Bool, true, false, List, refl, ap, ◌∙◌, sym}
-use Rattle.std.specs.Prelude.{Option, Some, None, IfSome}
-use Rattle.janus_store.specs.Values.{read_or}
 use Rattle.janus_meaning.specs.Fault.{Fault, Res, Fine, Bad, Broken, and_then}
 use Rattle.janus_meaning.specs.Word.{Operator, wrap, bit, nonzero, operate}
 use Rattle.janus_meaning.specs.Syntax.{Name, Exp, Var, At, Empty, Top, Negate, Binary, And, Or}
 use Rattle.janus_meaning.specs.Store.{Val, Num, Arr, Stk, Lent, Store, Bare, Slot, same_name, look, look_at, number, array, stack, element}
 use Rattle.janus_meaning.specs.Value.{value, both, either, first, is_none}
-use Rattle.janus_store.specs.Stores.{IsNumber, IsArray, IsStack}
+use Rattle.janus_frames.specs.Stores.{IsNumber, IsArray, IsStack}
 
 -- nothing but `Broken` keeps a name from being found
 
@@ -121,8 +119,3 @@ module _ (s : Store) where
 
   pub or_at : (l r : Exp) (a : ℤ) (b : Bool) (q : Res ℤ) → value l s ≡ Fine a → nonzero a ≡ b → value r s ≡ q → value (Or l r) s ≡ either b q
   or_at l r a b q h t k = or_is l r (Fine a) h ∙ ap (λ b. either b (value r s)) t ∙ ap (either b) k
-
--- a number that was read
-pub read_is : (o : Option ℤ) (r : Res ℤ) → read_or Broken o ≡ r → IfSome o (λ n. r ≡ Fine n)
-read_is (Some n) r h = sym h
-read_is None r h = tt

@@ -2,8 +2,8 @@ use Rattle.std.proofs.Common.{◌≡◌, ◌<◌, ◌≤◌, ◌∷◌, ◌++◌
 use Rattle.std.specs.Prelude.{slice_index_or}
 use Rattle.janus_code.specs.Flat.{BlocksAreBelow, AreBelow, IsDownward}
 use Rattle.janus_code.specs.declared.code.Statement.{Statement}
-use Rattle.tests_janus.proofs.whole.code_of.Goals.{then-is_alone-2, else-is_alone-2}
-use Rattle.tests_janus.proofs.whole.code_of.Goals as goal
+use Rattle.tests_janus.proofs.statements.code_of.Goals.{then-is_alone-2, else-is_alone-2}
+use Rattle.tests_janus.proofs.statements.code_of.Goals as goal
 
 are_below : (a b d : Statement) → ((ms : List ℕ) (n : ℕ) → BlocksAreBelow ms n a) → ((ms : List ℕ) (n : ℕ) → BlocksAreBelow ms n b) →
     BlocksAreBelow (0 ∷ 1 ∷ 2 ∷ []) 2 d → AreBelow (0 ∷ 1 ∷ 2 ∷ []) (a ∷ b ∷ d ∷ [])
