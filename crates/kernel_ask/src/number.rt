@@ -107,13 +107,12 @@ fn item(items: &[i32], index: i32) -> Result<i32, ValueFault>
 
 /// The newest value of a stack; a fault where it is empty.
 fn newest(values: StackView<'_>) -> Result<i32, ValueFault>
-    ensures { result_of result ≡ first (held values) }
+    ensures { result_of result ≡ first (held values.entry) }
 {
-    let mut values = values;
-    match values.next() {
-        Some(number) => Ok(number),
-        None => Err(ValueFault::TopEmpty),
+    if values.len() == 0 {
+        return Err(ValueFault::TopEmpty);
     }
+    Ok(values.get(0))
 }
 
 /// 1 for a number that holds as a test, 0 for one that doesn't.
