@@ -7,6 +7,7 @@ pub mod Known
 pub mod Named
 pub mod Names
 pub mod Values
+pub mod Sizes
 pub mod Sound
 pub mod Walk
 pub mod Numbers

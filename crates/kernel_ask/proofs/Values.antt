@@ -6,6 +6,12 @@ use Rattle.janus_meaning.specs.Syntax.{Name, Exp, Var, At, Empty, Top, Negate, B
 use Rattle.janus_meaning.specs.Store.{Val, Num, Arr, Stk, Lent, Store, Bare, Slot, same_name, look, look_at, number, array, stack, element}
 use Rattle.janus_meaning.specs.Value.{value, both, either, first, is_none}
 use Rattle.janus_frames.specs.Stores.{IsNumber, IsArray, IsStack}
+use Rattle.janus_syntax.specs.View.{exp_of}
+use Rattle.janus_syntax.specs.declared.tree.Exp as code
+
+-- the value of the code's tree
+abbrev pub number_in : Store → code.Exp → Res ℤ
+number_in s e = value (exp_of e) s
 
 -- nothing but `Broken` keeps a name from being found
 
@@ -27,6 +33,9 @@ module _ (s : Store) where
   pub variable_is : (x : Name) → value (Var x) s ≡ and_then (look x s) number
   unfolding value
   variable_is x = refl
+
+  pub variable_at : (x : Name) (n : ℤ) → look x s ≡ Fine (Num n) → value (Var x) s ≡ Fine n
+  variable_at x n h = variable_is x ∙ ap (λ r. and_then r number) h
 
   number_by : (r : Res Val) → ((f : Fault) → r ≡ Bad f → f ≡ Broken) → (and_then r number ≡ Bad Broken → ⊥) → IsNumber r
   number_by (Bad f) h safe = absurd (safe (ap Bad (h f refl)))

@@ -3,7 +3,7 @@
 ghost use Rattle.std.specs.Prelude.{◌≡◌, ◌≢◌};
 ghost use Rattle.janus_meaning.specs.Fault.{Fine, Bad, Broken};
 ghost use Rattle.janus_meaning.specs.Store.{Num, Arr, Stk, look, element};
-ghost use Rattle.janus_meaning.specs.Value.{value as value_of, first};
+ghost use Rattle.janus_meaning.specs.Value.{value as value_of, first, is_none};
 ghost use Rattle.janus_meaning.specs.Word.{wrap, bit, nonzero};
 ghost use Rattle.kernel_text.specs.Stacks.{held};
 ghost use Rattle.janus_frames.specs.Stores.{IsNumber, IsArray, IsStack};
@@ -29,7 +29,7 @@ pub(crate) fn number<L: Ledger>(exp: &Exp, store: &Store<L>) -> Result<i32, Valu
             let index = number(index, store)?;
             item(array(&name.text, store), index)
         }
-        Exp::Empty(name) => Ok(bit_of(stack(&name.text, store).len() == 0)),
+        Exp::Empty(name) => Ok(bit_of(has_none(stack(&name.text, store)))),
         Exp::Top(name) => newest(stack(&name.text, store)),
         Exp::Negative(positive) => {
             let positive = number(positive, store)?;
@@ -105,11 +105,18 @@ fn item(items: &[i32], index: i32) -> Result<i32, ValueFault>
     }
 }
 
+/// Whether a stack is empty.
+fn has_none(values: StackView<'_>) -> bool
+    ensures { result ≡ is_none (held values.entry) }
+{
+    values.len() == 0
+}
+
 /// The newest value of a stack; a fault where it is empty.
 fn newest(values: StackView<'_>) -> Result<i32, ValueFault>
     ensures { result_of result ≡ first (held values.entry) }
 {
-    if values.len() == 0 {
+    if has_none(values) {
         return Err(ValueFault::TopEmpty);
     }
     Ok(values.get(0))
