@@ -54,6 +54,7 @@ fn plain_ones(statements: &[Stm]) -> (Option<&Stm>, Option<&Stm>) {
         Some(Stm::If(_, one, other, _)) => (one.first(), other.first()),
         Some(Stm::Loop(_, one, other, _)) => (one.first(), other.first()),
         Some(Stm::LocalInt(_, _, one, _, _)) => (one.first(), None),
+        Some(Stm::LocalStack(_, one, _)) => (one.first(), None),
         _ => (statements.first(), statements.get(1)),
     }
 }
@@ -98,6 +99,7 @@ fn whole(alloc: Global, statement: Option<&Stm>) -> Result<Statement, AllocError
             let (first, last) = two_of(alloc, first, last)?;
             Ok(Statement::LocalInt(symbol(name), first, one, last))
         }
+        Some(Stm::LocalStack(name, _, _)) => Ok(Statement::LocalStack(symbol(name), one)),
         _ => plain(alloc, statement),
     }
 }
