@@ -149,7 +149,8 @@ returns-in_ok-positive-in-Negative g t c =
     let m : ℤ = c.negative.result in
     let y : to_z w32 (of_z w32 m) ≡ m = grind (arith, to_z-of_z) in
     ap Fine (y ∙ c.negative.ensures ∙ ap (λ n. wrap (neg_ℤ n)) z)
-    ∙ sym (negative_is s e (Fine n) (sym (c.in_ok-positive-in-Negative.ensures ∙ ap (number_in s) c.deref-in-Negative.ensures))) ∙ ap (number_in s) (sym c.in-Negative.is)
+    ∙ sym (negative_is s e (Fine n) (sym (c.in_ok-positive-in-Negative.ensures ∙ ap (number_in s) c.deref-in-Negative.ensures)))
+    ∙ ap (number_in s) (sym c.in-Negative.is)
 
 pub number-requires-in-Binary : goal.number-requires-in-Binary
 number-requires-in-Binary g t c κs within =
@@ -188,7 +189,8 @@ number-requires-in-Binary-2 g t c κs within =
       omega (arith, c.decreases, ap exp_size c.in-Binary.is, ap exp_size c.deref-in-Binary-2.ensures),
       (
         within,
-        λ h. c.requires.safe (ap (number_in s) c.in-Binary.is ∙ binary_right s o l r n (Bad Broken) left (ap (number_in s) (sym c.deref-in-Binary-2.ensures) ∙ h)),
+        λ h. c.requires.safe
+            (ap (number_in s) c.in-Binary.is ∙ binary_right s o l r n (Bad Broken) left (ap (number_in s) (sym c.deref-in-Binary-2.ensures) ∙ h)),
       ),
     )
 
@@ -299,7 +301,8 @@ returns-in_ok-right-in-And g t c =
     let right : value r s ≡ Fine m = sym (c.in_ok-right-in-And.ensures ∙ ap (number_in s) c.deref-in-And-2.ensures) in
     let b : ℤ = c.truth.result in
     let w : to_z w32 (of_z w32 b) ≡ b = grind (arith, to_z-of_z) in
-    ap Fine (w ∙ c.truth.ensures ∙ ap (λ v. wrap (bit (nonzero v))) y) ∙ sym (and_at s l r n true (Fine m) left test right) ∙ ap (number_in s) (sym c.in-And.is)
+    ap Fine (w ∙ c.truth.ensures ∙ ap (λ v. wrap (bit (nonzero v))) y) ∙ sym (and_at s l r n true (Fine m) left test right)
+    ∙ ap (number_in s) (sym c.in-And.is)
 
 pub number-requires-in-Or : goal.number-requires-in-Or
 number-requires-in-Or g t c κs within =
@@ -380,4 +383,5 @@ returns-in_ok-right-in-Or g t c =
     let right : value r s ≡ Fine m = sym (c.in_ok-right-in-Or.ensures ∙ ap (number_in s) c.deref-in-Or-2.ensures) in
     let b : ℤ = c.truth-in-Or.result in
     let w : to_z w32 (of_z w32 b) ≡ b = grind (arith, to_z-of_z) in
-    ap Fine (w ∙ c.truth-in-Or.ensures ∙ ap (λ v. wrap (bit (nonzero v))) y) ∙ sym (or_at s l r n false (Fine m) left test right) ∙ ap (number_in s) (sym c.in-Or.is)
+    ap Fine (w ∙ c.truth-in-Or.ensures ∙ ap (λ v. wrap (bit (nonzero v))) y) ∙ sym (or_at s l r n false (Fine m) left test right)
+    ∙ ap (number_in s) (sym c.in-Or.is)
