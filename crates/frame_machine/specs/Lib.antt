@@ -1,6 +1,5 @@
 pub mod LaidCode
 pub mod Sites
-pub mod Run
 pub mod Laid
 pub mod Places
 pub mod Mirrored

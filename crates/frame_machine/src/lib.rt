@@ -15,14 +15,14 @@
 //! - `linked_procedure`, `procedures`: a procedure as it runs, and all bodies with those that are in effect.
 //! - `book`: a cell's linked code and the procedures, lent. `counted_store`: a store with the count of the steps over it, which nothing else raises.
 //! - `cursor`, `running`: a place in code with the open calls and the count of steps, and the book in whose row it stands.
-//! - `run`: the runs of a row over the names in sight. `in_row`: steps in the row in which a cursor stands.
+//! - `in_row`: steps in the row in which a cursor stands.
 //! - `call`: the first and the last step of a call.
 //! - `machine`: `step` and `slice`, which take the steps: a row is run until it comes to a call or its end, which is entered or left.
 //! - `laws`: what the definitions of `specs/` say together.
 //!
 //! The definitions, in specs/, in reading order. Names are slots: code names a variable by its slot, and a procedure by its number.
 //!
-//! - `LaidCode`, `Sites`, `Run`, `Laid`: what contracts see of laid code, the calls of code, what it is to run a row over a store, and what is laid of code.
+//! - `LaidCode`, `Sites`, `Laid`: what contracts see of laid code, the calls of code, and what is laid of code.
 //! - `LinkedProcedure`, `Procedures`, `Places`, `Bodies`: what contracts see of bodies, which block a book stands for, and which bodies are in effect.
 //! - `Cursor`, `Counts`, `Nested`, `Cursors`: a cursor's fields and its count, and which place of the meaning it is. `CountedStore`: the
 //!   count of all steps.
@@ -46,7 +46,6 @@ mod linked_code;
 mod linked_procedure;
 mod machine;
 mod procedures;
-mod run;
 mod running;
 mod site;
 

@@ -18,3 +18,6 @@ pub mod Declared
 pub mod Inwards
 pub mod Reserving
 pub mod Running
+pub mod Ran
+pub mod OverRow
+pub mod Runnable

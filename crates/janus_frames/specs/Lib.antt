@@ -8,4 +8,5 @@ pub mod Inside
 pub mod Shown
 pub mod StoreState
 pub mod Kept
+pub mod Run
 pub mod Laws

@@ -8,12 +8,18 @@ ghost use Rattle.janus_meaning.specs.Limit.{live_stack_limit, value_limit};
 ghost use Rattle.janus_meaning.specs.Store.{Store as Values, Val, Slot, Num, Arr, Stk, look, element, set_element};
 ghost use Rattle.janus_meaning.specs.Value.{first};
 ghost use Rattle.janus_meaning.specs.World.{size_of};
+ghost use Rattle.janus_meaning.specs.Writes.{IsWritten};
+ghost use Rattle.janus_evaluation.specs.Results.{IsCounted};
+ghost use Rattle.janus_row.specs.Acts.{Fits};
+ghost use Rattle.janus_row.specs.Rows.{IsRow, IsBody, body_at, sight_of};
+ghost use Rattle.janus_row.specs.Sound.{World};
 ghost use Rattle.janus_slots.specs.Slots.{slot};
 ghost use Rattle.janus_memory.specs.Values.{kind_of, shown, read_or};
 ghost use Rattle.janus_frames.specs.Cells.{has, from};
 ghost use Rattle.janus_frames.specs.Calls.{CanLend, Enters, AreAlone, Returns, given_back, own_names, slots_of, names_of};
 ghost use Rattle.janus_frames.specs.FramesState.{no_frames, names_there, stacks_there, values_there, with_names, HasShape};
 ghost use Rattle.janus_frames.specs.Limits.{call_limit};
+ghost use Rattle.janus_frames.specs.Run.{HasCellRoom, KeepsCalls, IsSafeRun, IsRunnableOnce, Runs, RunsOnce, undeclared};
 ghost use Rattle.janus_frames.specs.Shown.{place_in, through, AreLow, IsStored};
 ghost use Rattle.janus_frames.specs.Stores.{IsNumber, IsArray, IsStack, IsHeldStack, HasElementAt, IsFirstOnTop, rest_of, write};
 ghost use Rattle.janus_frames.specs.Values.{first_of};
@@ -23,6 +29,9 @@ use crate::limit::CALL_LIMIT;
 use crate::moves::{give_back, lend};
 use crate::value::Declared;
 use janus_memory::{Kind, Memory, Tally, ValueView};
+use janus_row::code::Row;
+use janus_row::slice::{Sliced, body_of, slice, take_one};
+use janus_row::{Stop, fits_wider_law};
 use std::alloc::{AllocError, Global};
 use std::marker::Model;
 use std::sync::ledger::{Blank, Ledger};
@@ -345,6 +354,76 @@ impl<L: Ledger> Frames<L> {
         self.memory.release(self.top);
     }
 
+    /// Up to m steps of a row from a place, over the names in sight. Its results take the cells behind them.
+    pub(crate) fn run(&mut self, row: &Row, at: usize, m: u64) -> Sliced
+        requires row { IsRow row.now.instructions.items }
+        requires fits { Fits row.now.width row.now.instructions.items row.now.spans.items row.now.primitives.items }
+        requires stands { at < length row.now.instructions.items }
+        requires few { m + 4294967296 < 2 ^ 64 }
+        requires room { HasCellRoom row.now self.old }
+        requires sound { IsSafeRun row.now at m (undeclared self.old) }
+        ensures stands { result.at < length row.now.instructions.items }
+        ensures taken { result.taken ≤ m }
+        ensures run { Runs row.now at m result (undeclared self.old) (undeclared self.new) }
+        ensures size { size_of self.new.slots ≡ sight_of row.now (body_at row.now.instructions.items result.at) }
+        ensures kept { KeepsCalls self.old self.new }
+        ensures written { IsWritten result.taken self.old.writes self.new.writes }
+        ensures stays { result.taken ≡ 0 → (self.new ≡ self.old) × (result.at ≡ at) }
+    {
+        fits_wider_law();
+        let base = self.memory.base();
+        self.memory.law();
+        self.memory.reach(base + row.width as usize);
+        self.memory.law();
+        let sliced = slice(
+            &row.instructions,
+            &row.spans,
+            &row.primitives,
+            at,
+            &mut self.memory,
+            m,
+        );
+        self.memory.law();
+        self.top = base + sight_at(row, sliced.at);
+        sliced
+    }
+
+    /// The step of one instruction of a row, which is no tick; where it is not taken, the names stay.
+    pub(crate) fn run_one(&mut self, row: &Row, at: usize) -> Result<usize, Stop>
+        requires row { IsRow row.now.instructions.items }
+        requires fits { Fits row.now.width row.now.instructions.items row.now.spans.items row.now.primitives.items }
+        requires body { IsBody row.now.instructions.items at }
+        requires room { HasCellRoom row.now self.old }
+        requires sound { (w : World) × IsRunnableOnce w row.now at (undeclared self.old) }
+        ensures stands { IfOk result (λ next. next < length row.now.instructions.items) }
+        ensures run { RunsOnce row.now at result (undeclared self.old) (undeclared self.new) }
+        ensures size { IfOk result (λ next. size_of self.new.slots ≡ sight_of row.now (body_at row.now.instructions.items next)) }
+        ensures kept { KeepsCalls self.old self.new }
+        ensures counted { IsCounted result self.old.writes self.new.writes }
+        ensures stays { OnErr result (self.new ≡ self.old) }
+    {
+        fits_wider_law();
+        let base = self.memory.base();
+        self.memory.law();
+        self.memory.reach(base + row.width as usize);
+        self.memory.law();
+        let taken = take_one(
+            &row.instructions,
+            &row.spans,
+            &row.primitives,
+            at,
+            &mut self.memory,
+        );
+        self.memory.law();
+        match taken {
+            Ok(next) => {
+                self.top = base + sight_at(row, next);
+                Ok(next)
+            }
+            Err(stop) => Err(stop),
+        }
+    }
+
     /// Enters a call of these arguments.
     #[inline(always)]
     pub(crate) fn enter(&mut self, args: &Args)
@@ -382,6 +461,21 @@ impl<L: Ledger> Frames<L> {
             }
             None => unreachable!(),
         }
+    }
+}
+
+/// How many names are in sight at a place of a row.
+#[inline(always)]
+fn sight_at(row: &Row, at: usize) -> usize
+    requires row { IsRow row.now.instructions.items }
+    requires here { at < length row.now.instructions.items }
+    ensures sight { result ≡ sight_of row.now (body_at row.now.instructions.items at) }
+    ensures there { body_at row.now.instructions.items at < length row.now.instructions.items }
+{
+    let body = body_of(&row.instructions, at);
+    match row.sights.get(body) {
+        Some(sight) => *sight as usize,
+        None => 0,
     }
 }
 

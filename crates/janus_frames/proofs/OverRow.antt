@@ -1,0 +1,298 @@
+-- A row that is run over the cells of frames: what it is run over, and what it leaves.
+use Rattle.std.proofs.Common.{◌≡◌, ◌≢◌, ℕ, ◌+◌, ◌-◌, ◌<◌, ◌≤◌, List, length, refl, ap, ◌∙◌, sym, subst, arith, Result, Ok, Err}
+use Rattle.janus_meaning.specs.Fault.{Broken}
+use Rattle.janus_meaning.specs.Writes.{IsWritten}
+use Rattle.std.proofs.lemmas.List.{length-drop}
+use Rattle.janus_meaning.specs.Limit.{live_stack_limit}
+use Rattle.janus_meaning.specs.Store.{Store}
+use Rattle.janus_meaning.specs.World.{size_of}
+use Rattle.janus_meaning.specs.Stepping as meaning
+use Rattle.janus_meaning.specs.Stepping.{Place, To, Halt, live, kept, frames_of}
+use Rattle.janus_memory.specs.Memory.{MemoryState, val_at, reached, stacks_among}
+use Rattle.janus_row.specs.Frames.{IsSeen}
+use Rattle.janus_row.specs.Over.{seen_of}
+use Rattle.janus_row.specs.Rows.{instruction_at, body_at, sight_of}
+use Rattle.janus_row.specs.Slices.{EndsBy, IsSliced, IsStepTo, IsOneStep}
+use Rattle.janus_row.specs.Sound.{World, Sees, TakesStep, IsSound, IsSafeAhead, IsRefused}
+use Rattle.janus_row.specs.declared.code.Instruction.{Instruction}
+use Rattle.janus_row.specs.declared.code.Primitive.{Primitive}
+use Rattle.janus_row.specs.declared.code.Row.{Row}
+use Rattle.janus_row.specs.declared.code.Span.{Span}
+use Rattle.janus_row.specs.declared.fault.Stop.{Stop}
+use Rattle.janus_row.specs.declared.slice.Sliced.{Sliced}
+use Rattle.janus_frames.specs.Calls.{own_names, values_lent}
+use Rattle.janus_frames.specs.FramesState.{FramesState, stacks_there}
+use Rattle.janus_frames.specs.Inside.{AreIn, frames_in}
+use Rattle.janus_frames.specs.Run.{HasCellRoom, KeepsCalls, IsSafeRun, IsRunnable, IsRunnableOnce, Runs, RunsOnce, undeclared}
+use Rattle.janus_frames.specs.Cells.{from}
+use Rattle.janus_frames.specs.declared.frames.OpenCall.{OpenCall}
+use Rattle.janus_frames.proofs.Opening.{reach-in, reach-state, reach-long}
+use Rattle.janus_frames.proofs.Reading.{size-stored}
+use Rattle.janus_frames.proofs.Ran.{seen, room-is, callers-are, slots-are, in-again, stacks-are, values-are}
+
+seen-as : (n m v : ℕ) (s : Store) (o p q : ℕ) (t : Store) (a : MemoryState) → n ≡ o → m ≡ p → v ≡ q → s ≡ t
+    → IsSeen n m v s (seen_of a).cells (seen_of a).others → IsSeen o p q t (seen_of a).cells (seen_of a).others
+seen-as n m v s o p q t a e f g h x =
+    subst (λ n. IsSeen n p q t (seen_of a).cells (seen_of a).others) e
+    (subst (λ m. IsSeen n m q t (seen_of a).cells (seen_of a).others) f
+    (subst (λ v. IsSeen n m v t (seen_of a).cells (seen_of a).others) g
+    (subst (λ s. IsSeen n m v s (seen_of a).cells (seen_of a).others) h x)))
+
+pub same-state : (g h : FramesState) → g.slots ≡ h.slots → g.callers ≡ h.callers → g.room ≡ h.room → g.writes ≡ h.writes → g ≡ h
+same-state g h a b c d =
+    ap (λ s. record g { slots = s }) a ∙ ap (λ cs. record g { slots = h.slots; callers = cs }) b
+    ∙ ap (λ n. record g { slots = h.slots; callers = h.callers; room = n }) c
+    ∙ ap (λ n. record h { writes = n }) d
+
+-- r is the memory m once a row has its cells
+module _ (m : MemoryState) (top : ℕ) (calls : List OpenCall) (i : AreIn m top calls) (row : Row) (cells : HasCellRoom row (frames_in m top calls))
+    (r : MemoryState) (reach : r ≡ reached m (m.base + row.width)) (wide : length r.contents ≡ length r.numbers) where
+  abbrev f : FramesState
+  f = frames_in m top calls
+
+  abbrev f0 : FramesState
+  f0 = frames_in r top calls
+
+  there : AreIn r top calls
+  there = subst (λ r. AreIn r top calls) (sym reach) (reach-in m top (m.base + row.width) calls i)
+
+  same : f0 ≡ f
+  same = ap (λ r. frames_in r top calls) reach ∙ reach-state m top (m.base + row.width) calls i
+
+  base-is : r.base ≡ m.base
+  base-is = ap (λ (r : MemoryState). r.base) reach
+
+  long : m.base + row.width ≤ length r.numbers
+  long = subst (λ (r : MemoryState). m.base + row.width ≤ length r.numbers) (sym reach) (reach-long m (m.base + row.width))
+
+  -- the row has its cells
+  pub has-cells : row.width ≤ length (seen_of r).cells
+  has-cells = let l = long in let d = length-drop r.base r.numbers in let b = base-is in omega (arith, l, d, b)
+
+  -- the row sees the names there
+  pub start : (w : World) (k : ℕ) → w.sight k ≡ sight_of row k → size_of f.slots ≡ sight_of row k
+      → stacks_there f ≡ live w.outside.stacks (frames_of (w.places k)) → values_lent f.callers ≡ kept w.outside.values (frames_of (w.places k))
+      → Sees w k f.slots (seen_of r).cells (seen_of r).others
+  start w k sight size stacks values =
+      let x = seen r top calls there wide in
+      seen-as (top - r.base) (stacks_there f0) (values_lent f0.callers) f0.slots (w.sight k) (live w.outside.stacks (frames_of (w.places k)))
+      (kept w.outside.values (frames_of (w.places k))) f.slots r
+      (sym x.size ∙ ap (λ (f : FramesState). size_of f.slots) same ∙ size ∙ sym sight)
+      (ap stacks_there same ∙ stacks) (ap (λ (f : FramesState). values_lent f.callers) same ∙ values) (ap (λ (f : FramesState). f.slots) same) x
+
+  module _ (free : r.spare + stacks_among r.contents ≡ live_stack_limit) (n : MemoryState) (before : (seen_of n).before ≡ (seen_of r).before)
+      (size : length (seen_of n).cells ≡ length (seen_of r).cells) (spare : n.spare + stacks_among n.contents ≡ live_stack_limit)
+      (w : World) (k : ℕ) (sight : w.sight k ≡ sight_of row k) (lt : k < length row.instructions.items) (s : Store)
+      (sees : Sees w k s (seen_of n).cells (seen_of n).others) where
+    abbrev u : ℕ
+    u = sight_of row k
+
+    abbrev g : FramesState
+    g = frames_in n (n.base + u) calls
+
+    at-u : IsSeen u (live w.outside.stacks (frames_of (w.places k))) (kept w.outside.values (frames_of (w.places k))) s (seen_of n).cells (seen_of n).others
+    at-u = subst (λ n'. IsSeen n' (live w.outside.stacks (frames_of (w.places k))) (kept w.outside.values (frames_of (w.places k))) s
+        (seen_of n).cells (seen_of n).others) sight sees
+
+    own : own_names 0 f0.callers ≤ u
+    own = subst (λ (f : FramesState). own_names 0 f.callers ≤ u) (sym same) (cells.own k lt)
+
+    room : r.base + u ≤ length r.numbers
+    room = let l = long in let e = cells.sights k lt in let b = base-is in omega (arith, l, e, b)
+
+    pub left-in : AreIn n (n.base + sight_of row k) calls
+    left-in = in-again r top calls there wide free n before size spare u _ _ s at-u own room
+
+    pub left-slots : (frames_in n (n.base + sight_of row k) calls).slots ≡ s
+    left-slots = slots-are r top calls there wide free n before size spare u _ _ s at-u own room
+
+    pub left-callers : (frames_in n (n.base + sight_of row k) calls).callers ≡ (frames_in m top calls).callers
+    left-callers = callers-are r top calls there wide free n before size spare u _ _ s at-u own room ∙ ap (λ (f : FramesState). f.callers) same
+
+    pub left-kept : KeepsCalls (frames_in m top calls) (frames_in n (n.base + sight_of row k) calls)
+    left-kept = record {
+      callers = left-callers;
+      room = room-is r top calls there wide free n before size spare u _ _ s at-u own room ∙ ap (λ (r : MemoryState). r.room) reach;
+    }
+
+    pub left-size : size_of (frames_in n (n.base + sight_of row k) calls).slots ≡ sight_of row k
+    left-size = ap size_of left-slots ∙ at-u.size
+
+    pub left-stacks : stacks_there (frames_in n (n.base + sight_of row k) calls) ≡ live w.outside.stacks (frames_of (w.places k))
+    left-stacks = stacks-are r top calls there wide free n before size spare u _ _ s at-u own room
+
+    pub left-values : values_lent (frames_in n (n.base + sight_of row k) calls).callers ≡ kept w.outside.values (frames_of (w.places k))
+    left-values = values-are r top calls there wide free n before size spare u _ _ s at-u own room
+
+    -- what is runnable then
+    pub runnable-left : ((n : ℕ) → row.width ≤ n → IsSound w n row.instructions.items row.spans.items row.primitives.items)
+        → ((k : ℕ) → w.sight k ≡ sight_of row k) → (at : ℕ) → k ≡ body_at row.instructions.items at
+        → IsRunnable w row at (undeclared (frames_in n (n.base + sight_of row k) calls))
+    runnable-left sound all at e = record {
+      sound = sound;
+      sight = all;
+      size = left-size ∙ ap (sight_of row) e;
+      stacks = left-stacks ∙ ap (λ k. live w.outside.stacks (frames_of (w.places k))) e;
+      values = left-values ∙ ap (λ k. kept w.outside.values (frames_of (w.places k))) e;
+    }
+
+-- what contracts say of a slice and of one step
+abbrev pub SliceOf : (m n : MemoryState) (at many : ℕ) → Sliced → List Instruction → List Span → List Primitive → Type 0
+SliceOf m n at many out ins es qs =
+    (w : World) (s : Store) → IsSound w (length (seen_of m).cells) ins es qs → Sees w (body_at ins at) s (seen_of m).cells (seen_of m).others
+    → IsSafeAhead w many (w.places at) s → IsSliced w ins at s many out (seen_of n).cells (seen_of n).others
+
+abbrev pub StepOf : (m n : MemoryState) (at : ℕ) → Result ℕ Stop → List Instruction → List Span → List Primitive → Type 0
+StepOf m n at out ins es qs =
+    (w : World) (s : Store) → TakesStep w (length (seen_of m).cells) ins es qs at → Sees w at s (seen_of m).cells (seen_of m).others
+    → meaning.step w.outside (w.places at) s ≢ Halt Broken → IsOneStep w ins at s out (seen_of n).cells (seen_of n).others
+
+-- a fact of three lists, which are others
+pub of-lists : (P : List Instruction → List Span → List Primitive → Type 0) (ins jns : List Instruction) (es fs : List Span) (qs rs : List Primitive)
+    → ins ≡ jns → es ≡ fs → qs ≡ rs → P ins es qs → P jns fs rs
+of-lists P ins jns es fs qs rs a b c x = subst (λ ins. P ins fs rs) a (subst (λ es. P ins es rs) b (subst (λ qs. P ins es qs) c x))
+
+to-place : (p q : Place) (s t : Store) → To p s ≡ To q t → s ≡ t
+to-place p q s t e = cc
+
+module _ (m : MemoryState) (top : ℕ) (calls : List OpenCall) (i : AreIn m top calls) (row : Row) (cells : HasCellRoom row (frames_in m top calls))
+    (r : MemoryState) (reach : r ≡ reached m (m.base + row.width)) (wide : length r.contents ≡ length r.numbers)
+    (free : r.spare + stacks_among r.contents ≡ live_stack_limit) (n : MemoryState) (before : (seen_of n).before ≡ (seen_of r).before)
+    (size : length (seen_of n).cells ≡ length (seen_of r).cells) (spare : n.spare + stacks_among n.contents ≡ live_stack_limit) where
+  -- ---- a slice
+
+  module _ (at many : ℕ) (out : Sliced) (lt : body_at row.instructions.items out.at < length row.instructions.items)
+      (slice : SliceOf r n at many out row.instructions.items row.spans.items row.primitives.items) where
+    abbrev k : ℕ
+    k = body_at row.instructions.items out.at
+
+    abbrev after : FramesState
+    after = frames_in n (n.base + sight_of row k) calls
+
+    sliced : (w : World) → IsRunnable w row at (undeclared (frames_in m top calls)) → IsSafeAhead w many (w.places at) (frames_in m top calls).slots
+        → IsSliced w row.instructions.items at (frames_in m top calls).slots many out (seen_of n).cells (seen_of n).others
+    sliced w a safe = slice w (frames_in m top calls).slots (a.sound (length (seen_of r).cells) (has-cells m top calls i row cells r reach wide))
+        (start m top calls i row cells r reach wide w (body_at row.instructions.items at) (a.sight (body_at row.instructions.items at))
+        a.size a.stacks a.values) safe
+
+    pub slice-in : IsSafeRun row at many (undeclared (frames_in m top calls)) → AreIn n (n.base + sight_of row (body_at row.instructions.items out.at)) calls
+    slice-in run =
+        let x = sliced run.0 run.1 run.2 in
+        left-in m top calls i row cells r reach wide free n before size spare run.0 k (run.1.sight k) lt x.store x.sees
+
+    pub slice-kept : IsSafeRun row at many (undeclared (frames_in m top calls))
+        → KeepsCalls (frames_in m top calls) (frames_in n (n.base + sight_of row (body_at row.instructions.items out.at)) calls)
+    slice-kept run =
+        let x = sliced run.0 run.1 run.2 in
+        left-kept m top calls i row cells r reach wide free n before size spare run.0 k (run.1.sight k) lt x.store x.sees
+
+    pub slice-size : IsSafeRun row at many (undeclared (frames_in m top calls))
+        → size_of (frames_in n (n.base + sight_of row (body_at row.instructions.items out.at)) calls).slots
+        ≡ sight_of row (body_at row.instructions.items out.at)
+    slice-size run =
+        let x = sliced run.0 run.1 run.2 in
+        left-size m top calls i row cells r reach wide free n before size spare run.0 k (run.1.sight k) lt x.store x.sees
+
+    pub slice-runs : Runs row at many out (undeclared (frames_in m top calls))
+        (undeclared (frames_in n (n.base + sight_of row (body_at row.instructions.items out.at)) calls))
+    slice-runs = λ w a safe.
+        let x = sliced w a safe in
+        let e = left-slots m top calls i row cells r reach wide free n before size spare w k (a.sight k) lt x.store x.sees in
+        record {
+          steps = x.steps ∙ ap (To (w.places out.at)) (sym e);
+          ends = subst (λ s. EndsBy w row.instructions.items many out.taken out.at s out.stop) (sym e) x.ends;
+          again = runnable-left m top calls i row cells r reach wide free n before size spare w k (a.sight k) lt x.store x.sees a.sound a.sight out.at refl;
+        }
+
+    -- where no step is taken
+    pub slice-stays : IsSafeRun row at many (undeclared (frames_in m top calls)) → IsWritten out.taken r.writes n.writes → out.taken ≡ 0
+        → frames_in n (n.base + sight_of row (body_at row.instructions.items out.at)) calls ≡ frames_in m top calls
+    slice-stays run written none =
+        let w = run.0 in
+        let x = sliced w run.1 run.2 in
+        let e = left-slots m top calls i row cells r reach wide free n before size spare w k (run.1.sight k) lt x.store x.sees in
+        let l = left-kept m top calls i row cells r reach wide free n before size spare w k (run.1.sight k) lt x.store x.sees in
+        let still : To (w.places at) (frames_in m top calls).slots ≡ To (w.places out.at) x.store =
+        subst (λ j. meaning.steps w.outside j (w.places at) (frames_in m top calls).slots ≡ To (w.places out.at) x.store) none x.steps in
+        let written_is : r.writes ≡ m.writes = ap (λ (r : MemoryState). r.writes) reach in
+        same-state after (frames_in m top calls)
+        (e ∙ sym (to-place (w.places at) (w.places out.at) (frames_in m top calls).slots x.store still)) l.callers l.room
+        (omega (arith, written, none, written_is))
+
+  -- ---- one instruction
+
+  module _ (at : ℕ) (out : Result ℕ Stop) (step : StepOf r n at out row.instructions.items row.spans.items row.primitives.items) where
+    stepped : (w : World) → IsRunnableOnce w row at (undeclared (frames_in m top calls))
+        → IsOneStep w row.instructions.items at (frames_in m top calls).slots out (seen_of n).cells (seen_of n).others
+    stepped w a = step w (frames_in m top calls).slots (a.step (length (seen_of r).cells) (has-cells m top calls i row cells r reach wide))
+        (start m top calls i row cells r reach wide w at (a.sight at) a.size a.stacks a.values) (λ e. a.safe e)
+
+    -- it is taken, and the place q is next
+    module _ (q : ℕ) (is : out ≡ Ok q) (lt : body_at row.instructions.items q < length row.instructions.items) where
+      taken : (w : World) → IsRunnableOnce w row at (undeclared (frames_in m top calls))
+          → IsStepTo w row.instructions.items at (frames_in m top calls).slots q (seen_of n).cells (seen_of n).others
+      taken w a = subst (λ out. IsOneStep w row.instructions.items at (frames_in m top calls).slots out (seen_of n).cells (seen_of n).others) is (stepped w a)
+
+      pub step-in : (w : World) → IsRunnableOnce w row at (undeclared (frames_in m top calls))
+          → AreIn n (n.base + sight_of row (body_at row.instructions.items q)) calls
+      step-in w a =
+          let x = taken w a in
+          left-in m top calls i row cells r reach wide free n before size spare w (body_at row.instructions.items q)
+          (a.sight (body_at row.instructions.items q)) lt x.store x.sees
+
+      pub step-kept : (w : World) → IsRunnableOnce w row at (undeclared (frames_in m top calls))
+          → KeepsCalls (frames_in m top calls) (frames_in n (n.base + sight_of row (body_at row.instructions.items q)) calls)
+      step-kept w a =
+          let x = taken w a in
+          left-kept m top calls i row cells r reach wide free n before size spare w (body_at row.instructions.items q)
+          (a.sight (body_at row.instructions.items q)) lt x.store x.sees
+
+      pub step-size : (w : World) → IsRunnableOnce w row at (undeclared (frames_in m top calls))
+          → size_of (frames_in n (n.base + sight_of row (body_at row.instructions.items q)) calls).slots ≡ sight_of row (body_at row.instructions.items q)
+      step-size w a =
+          let x = taken w a in
+          left-size m top calls i row cells r reach wide free n before size spare w (body_at row.instructions.items q)
+          (a.sight (body_at row.instructions.items q)) lt x.store x.sees
+
+      pub step-runs : RunsOnce row at (Ok q) (undeclared (frames_in m top calls))
+          (undeclared (frames_in n (n.base + sight_of row (body_at row.instructions.items q)) calls))
+      step-runs = λ w a.
+          let x = taken w a in
+          x.step ∙ ap (To (w.places q))
+          (sym (left-slots m top calls i row cells r reach wide free n before size spare w (body_at row.instructions.items q)
+          (a.sight (body_at row.instructions.items q)) lt x.store x.sees))
+
+    -- it is not taken
+    module _ (stop : Stop) (is : out ≡ Err stop) (there : at < length row.instructions.items) where
+      refused : (w : World) → IsRunnableOnce w row at (undeclared (frames_in m top calls))
+          → IsRefused w (instruction_at row.instructions.items at).op (w.places at) (frames_in m top calls).slots stop
+          × Sees w at (frames_in m top calls).slots (seen_of n).cells (seen_of n).others
+      refused w a = subst (λ out. IsOneStep w row.instructions.items at (frames_in m top calls).slots out (seen_of n).cells (seen_of n).others) is (stepped w a)
+
+      -- as many names are in sight there
+      top-is : (w : World) → IsRunnableOnce w row at (undeclared (frames_in m top calls)) → n.base + sight_of row at ≡ top
+      top-is w a =
+          let b : n.base ≡ r.base = ap (λ b. b.base) before in
+          let c : r.base ≡ m.base = ap (λ (r : MemoryState). r.base) reach in
+          let s = size-stored (from (val_at m) m.base) (top - m.base) in
+          let o = i.frames.order in
+          omega (arith, b, c, s, o, a.size)
+
+      pub refused-in : (w : World) → IsRunnableOnce w row at (undeclared (frames_in m top calls)) → AreIn n top calls
+      refused-in w a =
+          subst (λ t. AreIn n t calls) (top-is w a)
+          (left-in m top calls i row cells r reach wide free n before size spare w at (a.sight at) there (frames_in m top calls).slots (refused w a).1)
+
+      pub refused-same : (w : World) → IsRunnableOnce w row at (undeclared (frames_in m top calls)) → n.writes ≡ r.writes
+          → frames_in n top calls ≡ frames_in m top calls
+      refused-same w a e =
+          let x = (refused w a).1 in
+          let l = left-kept m top calls i row cells r reach wide free n before size spare w at (a.sight at) there (frames_in m top calls).slots x in
+          ap (λ t. frames_in n t calls) (sym (top-is w a))
+          ∙ same-state (frames_in n (n.base + sight_of row at) calls) (frames_in m top calls)
+          (left-slots m top calls i row cells r reach wide free n before size spare w at (a.sight at) there (frames_in m top calls).slots x)
+          l.callers l.room (e ∙ ap (λ (r : MemoryState). r.writes) reach)
+
+      pub refused-runs : (new : FramesState) → new ≡ frames_in m top calls
+          → RunsOnce row at (Err stop) (undeclared (frames_in m top calls)) (undeclared new)
+      refused-runs new e = λ w a. ((refused w a).0, ap undeclared e)
