@@ -1,7 +1,5 @@
 //! The machine of Janus: rows of instructions over frames of cells, with calls between them.
 //!
-//! **No program runs by it yet**: the kernel still runs by `janus_machine`, whose place this crate is to take.
-//!
 //! To the layer above it promises that its steps are those of the meaning: `slice` takes as many steps as it is asked, or
 //! all that are left to the end of the block or to a fault, and leaves the place and the store to which that many steps of
 //! the meaning lead; a mirrored cursor goes back through the places that it came by. Calls run the bodies that are in effect, on the

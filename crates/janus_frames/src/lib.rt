@@ -1,8 +1,6 @@
 //! The store by frames of cells: the declared names with their numbers, arrays and stacks, in the order of declaration, and above them the parameters
 //! of open calls and the open locals.
 //!
-//! **No program runs over it yet.** The machine runs over `janus_store`, whose place this crate is to take.
-//!
 //! To the layer above it promises a map: the k-th name in sight, the oldest being 0, is read and written by its number k, whatever its kind, and a
 //! write changes no other name. The name of a number is its `slot` of `janus_slots`, so what runs compares no text. A call is entered by moving the
 //! values of its arguments to its parameters, and left by moving them back, as the meaning takes and fills them: while it is open the caller's names
