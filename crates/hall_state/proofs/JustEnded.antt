@@ -1,5 +1,5 @@
 -- Where a begin or a slice tells an end, no job is open behind it, and the machine stands where the outcome left it.
-use Rattle.std.proofs.Common.{◌≡◌, ◌∙◌, ℕ, ◌+◌, ◌-◌, suc, zero, Bool, true, false, List, [], ◌∷◌, ◌++◌, refl, sym, ap, subst, ⊎_elim, append-nil}
+use Rattle.std.proofs.Common.{◌≡◌, ◌∙◌, ℕ, ◌+◌, ◌-◌, suc, zero, Bool, true, false, List, [], ◌∷◌, ◌++◌, sym, ap, subst, ⊎_elim, append-nil}
 use Rattle.janus_meaning.specs.World.{World}
 use Rattle.kernel_core.specs.State.{Past, State, Work, Posted, Move, Job as Open, Idle, Border, Inside}
 use Rattle.kernel_core.specs.Begins.{travel_to, Enters, Departs, TakesCell, TakesMove, TakesGoto}
@@ -20,7 +20,6 @@ use Rattle.kernel_core.specs.travel.Travel.{Travel}
 use Rattle.kernel_core.specs.outcome.TravelEnd.{TravelEnd}
 use Rattle.kernel_core.specs.outcome.TravelEnd.TheVariants.{Asked}
 use Rattle.kernel_core.specs.outcome.Outcome.{Outcome}
-use Rattle.kernel_core.specs.outcome.Outcome.TheVariants as outcome
 use Rattle.kernel_core.specs.outcome.Begun.{Begun}
 use Rattle.kernel_core.specs.outcome.Begun.TheVariants as begun
 use Rattle.kernel_core.specs.outcome.Sliced.{Sliced}
@@ -28,7 +27,7 @@ use Rattle.kernel_core.specs.outcome.Sliced.TheVariants as sliced
 use Rattle.kernel_audit.specs.EndedAt.{StandsAtEnd}
 use Rattle.hall_state.specs.declared.turn.Turn.TheVariants.{Cut, Began}
 use Rattle.hall_state.specs.PendingResults.{ends_job}
-use Rattle.hall_state.specs.JustEnded.{HasJustEnded, EndsOrWrites}
+use Rattle.hall_state.specs.JustEnded.{EndsOrWrites}
 use Rattle.hall_state.proofs.Turns.{same_minutes}
 
 -- no job is open, and the state stands where the outcome left it

@@ -10,6 +10,7 @@ pub mod Judgement
 pub mod EndedAt
 pub mod Wishes
 pub mod Evaluation
+pub mod Making
 pub mod Comms
 pub mod Completion
 pub mod HallFault

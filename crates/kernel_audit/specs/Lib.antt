@@ -16,6 +16,7 @@ pub use Rattle.kernel_ask.specs.Wishes
 pub use Rattle.kernel_ask.specs.EndedAt
 pub use Rattle.kernel_ask.specs.Shown
 pub use Rattle.kernel_ask.specs.Evaluation
+pub use Rattle.kernel_ask.specs.Making
 -- Of kernel_core, given again.
 pub use Rattle.kernel_ask.specs.Runs
 pub use Rattle.kernel_ask.specs.LegalMinutes

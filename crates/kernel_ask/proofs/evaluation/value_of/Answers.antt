@@ -25,7 +25,7 @@ pub number-requires-clause-safe : goal.number-requires-clause-safe
 number-requires-clause-safe g c = λ broken.
     let s : Store = shown_store c.args.store.now in
     let e : Exp = exp_of c.args.exp.now in
-    let formed : IsExp (shape_of s) e = subst (λ (g : Shape). IsExp g e) c.requires c.in-Ok.ensures.well_formed in
+    let formed : IsExp (shape_of s) e = subst (λ (g : Shape). IsExp g e) c.requires.names c.in-Ok.ensures.well_formed in
     not_broken e s formed broken
 
 -- a fault of the check is told as it is, and want of memory as such
@@ -48,14 +48,14 @@ pub returns-in-Err : goal.returns-in-Err
 returns-in-Err g c = λ text has.
     let s : Store = shown_store c.args.store.now in
     let e = exp_view c.args.exp.now in
-    let first = subst (λ (g : Shape). IsFirst c.in-Err.fault (exp_faults g e)) c.requires c.in-Err.ensures.first in
+    let first = subst (λ (g : Shape). IsFirst c.in-Err.fault (exp_faults g e)) c.requires.names c.in-Err.ensures.first in
     told s text e c.in-Err.fault c.of_check.result has first c.of_check.ensures
 
 pub returns-in-Ok-number : goal.returns-in-Ok-number
 returns-in-Ok-number g c = λ text has.
     let s : Store = shown_store c.args.store.now in
     let e : Exp = exp_of c.args.exp.now in
-    let formed : IsExp (shape_of s) e = subst (λ (g : Shape). IsExp g e) c.requires c.in-Ok.ensures.well_formed in
+    let formed : IsExp (shape_of s) e = subst (λ (g : Shape). IsExp g e) c.requires.names c.in-Ok.ensures.well_formed in
     let has_value : HasValue s text (Fine c.in-Ok-number.number) = record {
       tree = exp_view c.args.exp.now;
       is_tree = has;
@@ -69,7 +69,7 @@ pub returns : goal.returns
 returns g c = λ text has.
     let s : Store = shown_store c.args.store.now in
     let e : Exp = exp_of c.args.exp.now in
-    let formed : IsExp (shape_of s) e = subst (λ (g : Shape). IsExp g e) c.requires c.in-Ok.ensures.well_formed in
+    let formed : IsExp (shape_of s) e = subst (λ (g : Shape). IsExp g e) c.requires.names c.in-Ok.ensures.well_formed in
     record {
       tree = exp_view c.args.exp.now;
       is_tree = has;
