@@ -6,11 +6,12 @@ pub mod Known
 pub mod Keeping
 pub mod Loading
 -- Of kernel_runner, given again.
+pub use Rattle.kernel_runner.specs.Values
 pub use Rattle.kernel_runner.specs.Runner
 pub use Rattle.kernel_runner.specs.Program
 pub use Rattle.kernel_runner.specs.declared.program
 pub use Rattle.kernel_runner.specs.declared.runner
--- Of janus_machine, given again.
+-- Of frame_machine, given again.
 pub use Rattle.kernel_runner.specs.Procedures
 pub use Rattle.kernel_runner.specs.Bodies
 pub use Rattle.kernel_runner.specs.linked_procedure

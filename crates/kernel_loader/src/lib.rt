@@ -8,17 +8,16 @@
 //! - `names_in_sight` gives the names that a store declares, as the check of a cell sees them.
 //!
 //! The code, in reading order: `sight` and `known` (what a cell is checked over), `checking` (a text, parsed and checked), `listing` (the names
-//! of its procedures), `frame` (the names over which it runs), `keeping` (the bodies of its procedures), `loader` (all of these for one text).
+//! of its procedures), `keeping` (the bodies of its procedures), `loader` (all of these for one text).
 //!
 //! The definitions are in specs/: `Kinds`, `Defined`, `Known` (what a cell is checked over), `Keeping` (its code, and the bodies that are kept) and
 //! `Loading` (what stays while a cell is loaded, and which names of procedures are new).
 //!
-//! It gives names of `kernel_runner` and of `janus_machine` again for the history, which works with a runner and loaded cells; `Cursor`, `Procedures` and
+//! It gives names of `kernel_runner` and of `frame_machine` again for the history, which works with a runner and loaded cells; `Cursor`, `Procedures` and
 //! `slice` for a wrong body of the history that runs the machine itself.
 #![tactic(auto)]
 
 mod checking;
-mod frame;
 mod keeping;
 mod known;
 mod listing;

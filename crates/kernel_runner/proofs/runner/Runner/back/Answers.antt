@@ -1,16 +1,13 @@
 use Rattle.std.proofs.Common.{◌≡◌, ℕ, ◌+◌, ◌-◌, ap, ◌∙◌, sym, subst}
 use Rattle.janus_meaning.specs.Writes.{IsWritten}
-use Rattle.janus_machine.specs.CountedStore.{steps_in}
-use Rattle.janus_machine.specs.Steps.{TakesSafeSteps}
+use Rattle.frame_machine.specs.CountedStore.{steps_in}
+use Rattle.frame_machine.specs.Steps.{TakesSafeSteps}
 use Rattle.kernel_runner.proofs.Going.{safe_back, back_cut, back_taken}
 use Rattle.kernel_runner.proofs.runner.Runner.back.Given as given
 use Rattle.kernel_runner.proofs.runner.Runner.back.Goals as goal
 
 pub slice-sliced-requires-clause-standing : goal.slice-sliced-requires-clause-standing
 slice-sliced-requires-clause-standing g c = c.requires.1.standing
-
-pub slice-sliced-requires-clause-numbered : goal.slice-sliced-requires-clause-numbered
-slice-sliced-requires-clause-numbered g c = c.requires.1.ready.numbered
 
 pub slice-sliced-requires-clause-safe : goal.slice-sliced-requires-clause-safe
 slice-sliced-requires-clause-safe g c = safe_back c.args.self.now c.args.program.now c.requires.0 c.args.m c.requires.1
