@@ -45,8 +45,7 @@ number-requires g t c κs within =
     let a = name_of c.in-Element.name in
     let i = exp_of c.in-Element.index.value in
     let safe : value (tree.At a i) s ≡ Bad Broken → ⊥ = λ q. c.requires.safe (ap (number_in s) c.in-Element.is ∙ q) in
-    let l = is_array s a i safe in
-    (
+    let l = is_array s a i safe in (
       omega (arith, c.decreases, ap exp_size c.in-Element.is, ap exp_size c.deref-in-Element.ensures),
       (
         within,
@@ -122,8 +121,7 @@ returns-in-Top g t c =
 pub number-requires-in-Negative : goal.number-requires-in-Negative
 number-requires-in-Negative g t c κs within =
     let s = shown_store c.args.store.now in
-    let e = exp_of c.in-Negative.positive.value in
-    (
+    let e = exp_of c.in-Negative.positive.value in (
       omega (arith, c.decreases, ap exp_size c.in-Negative.is, ap exp_size c.deref-in-Negative.ensures),
       (
         within,
@@ -157,8 +155,7 @@ number-requires-in-Binary g t c κs within =
     let s = shown_store c.args.store.now in
     let o = operator_of c.in-Binary.operator in
     let l = exp_of c.in-Binary.left.value in
-    let r = exp_of c.in-Binary.right.value in
-    (
+    let r = exp_of c.in-Binary.right.value in (
       omega (arith, c.decreases, ap exp_size c.in-Binary.is, ap exp_size c.deref-in-Binary.ensures),
       (
         within,
@@ -184,8 +181,7 @@ number-requires-in-Binary-2 g t c κs within =
     let l = exp_of c.in-Binary.left.value in
     let r = exp_of c.in-Binary.right.value in
     let n : ℤ = c.in_ok-left-in-Binary.left in
-    let left : value l s ≡ Fine n = sym (c.in_ok-left-in-Binary.ensures ∙ ap (number_in s) c.deref-in-Binary.ensures) in
-    (
+    let left : value l s ≡ Fine n = sym (c.in_ok-left-in-Binary.ensures ∙ ap (number_in s) c.deref-in-Binary.ensures) in (
       omega (arith, c.decreases, ap exp_size c.in-Binary.is, ap exp_size c.deref-in-Binary-2.ensures),
       (
         within,
@@ -226,8 +222,7 @@ pub number-requires-in-And : goal.number-requires-in-And
 number-requires-in-And g t c κs within =
     let s = shown_store c.args.store.now in
     let l = exp_of c.in-And.left.value in
-    let r = exp_of c.in-And.right.value in
-    (
+    let r = exp_of c.in-And.right.value in (
       omega (arith, c.decreases, ap exp_size c.in-And.is, ap exp_size c.deref-in-And.ensures),
       (
         within,
@@ -264,8 +259,7 @@ number-requires-in-And-2 g t c κs within =
     let n : ℤ = c.in_ok-left-in-And.left in
     let left : value l s ≡ Fine n = sym (c.in_ok-left-in-And.ensures ∙ ap (number_in s) c.deref-in-And.ensures) in
     let z : to_z w32 (of_z w32 n) ≡ n = grind (arith, to_z-of_z) in
-    let test : nonzero n ≡ true = ap nonzero (sym z) ∙ sym c.holds.ensures ∙ c.if-not-holds.false in
-    (
+    let test : nonzero n ≡ true = ap nonzero (sym z) ∙ sym c.holds.ensures ∙ c.if-not-holds.false in (
       omega (arith, c.decreases, ap exp_size c.in-And.is, ap exp_size c.deref-in-And-2.ensures),
       (
         within,
@@ -308,8 +302,7 @@ pub number-requires-in-Or : goal.number-requires-in-Or
 number-requires-in-Or g t c κs within =
     let s = shown_store c.args.store.now in
     let l = exp_of c.in-Or.left.value in
-    let r = exp_of c.in-Or.right.value in
-    (
+    let r = exp_of c.in-Or.right.value in (
       omega (arith, c.decreases, ap exp_size c.in-Or.is, ap exp_size c.deref-in-Or.ensures),
       (
         within,
@@ -346,8 +339,7 @@ number-requires-in-Or-2 g t c κs within =
     let n : ℤ = c.in_ok-left-in-Or.left in
     let left : value l s ≡ Fine n = sym (c.in_ok-left-in-Or.ensures ∙ ap (number_in s) c.deref-in-Or.ensures) in
     let z : to_z w32 (of_z w32 n) ≡ n = grind (arith, to_z-of_z) in
-    let test : nonzero n ≡ false = ap nonzero (sym z) ∙ sym c.holds-in-Or.ensures ∙ c.if-holds.false in
-    (
+    let test : nonzero n ≡ false = ap nonzero (sym z) ∙ sym c.holds-in-Or.ensures ∙ c.if-holds.false in (
       omega (arith, c.decreases, ap exp_size c.in-Or.is, ap exp_size c.deref-in-Or-2.ensures),
       (
         within,
