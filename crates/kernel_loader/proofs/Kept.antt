@@ -1,6 +1,6 @@
 -- The body that is kept of a procedure stands for it, with slots in place of names.
 use Rattle.std.proofs.Common.{◌≡◌, ◌+◌, ◌<◌, ◌≤◌, ℕ, zero, suc, List, [], ◌∷◌, ◌++◌, length, get_or, map, take, refl, sym, ap, ◌∙◌, subst, arith}
-use Rattle.std.specs.Prelude.{slice_get, Some, Contains}
+use Rattle.std.specs.Prelude.{slice_get, Some, Contains, Result, Ok, Err, IfOk}
 use Rattle.std.proofs.lemmas.List.{length-map, map-append}
 use Rattle.kernel_runner.proofs.BodiesInEffect.{bodies_from_before, bodies_from_more}
 use Rattle.janus_meaning.specs.Limit.{parameter_limit}
@@ -51,6 +51,12 @@ module _ (es : List Name) (p : Proc) (f : flat.FlatProcedure) (is : proc_of all_
         names = names_stacked p.params ∙ ap parameters (many ∙ sym count);
         body = body ∙ ap (λ (q : Proc). q.body) is;
       }
+
+-- ---- results
+
+pub if_ok_map : {A E : Type 0} {P Q : A → Type 0} (r : Result A E) → ((x : A) → P x → Q x) → IfOk r P → IfOk r Q
+if_ok_map (Ok x) f h = f x h
+if_ok_map (Err e) f h = tt
 
 -- ---- several
 

@@ -182,10 +182,11 @@ fn book_of(alloc: Global, checked: &Checked, entries: &Names) -> Result<LinkedCo
     };
     slots_law(slotted.width);
     let sight = checked.sight();
-    match sight.counted() {
-        Some(names) if names <= u32::MAX as usize => {
-            LinkedCode::new(alloc, slotted.code, names as u32)
-        }
-        Some(_) | None => Err(AllocError),
+    let Some(names) = sight.counted() else {
+        return Err(AllocError);
+    };
+    if names > u32::MAX as usize {
+        return Err(AllocError);
     }
+    LinkedCode::new(alloc, slotted.code, names as u32)
 }

@@ -85,8 +85,8 @@ agrees_before k t b c h blk whole stacks names standing place =
 -- ---- entering a cell
 
 -- code that runs over as many names as a store has runs over those that are declared there
-as_many_names : {n d : ℕ} {s : Store} → n ≡ length (names_in s) → d ≡ size_of s → n ≡ d
-as_many_names {n} {d} {s} names declared = names ∙ names_size s ∙ sym declared
+as_many_names : (s : Store) (n d : ℕ) → n ≡ length (names_in s) → d ≡ size_of s → n ≡ d
+as_many_names s n d names declared = names ∙ names_size s ∙ sym declared
 
 heads_defined : (more ps : List Proc) → heads_of (define more ps) ≡ with_heads (heads_of ps) more
 heads_defined [] ps = refl
@@ -175,7 +175,7 @@ entered_here old new program from can becomes kept entries defined before =
       declared = declared;
       texts = is.texts;
       agrees = agrees_before (stacks_in start.store) new.procedures program.book new.cursor new.counted.store (block_of es cell.block start)
-          becomes.whole stacks (as_many_names ready.names declared) standing place;
+          becomes.whole stacks (as_many_names start.store _ _ ready.names declared) standing place;
       ready = ready;
       listed = listed;
       defined = subst (λ (n : ℕ). Define new.procedures (onto program.first n from.bodies) (procedures_in es start.procedures)) as_many
@@ -231,7 +231,7 @@ entered_inverse_here old new program from can store procedures entries before =
       declared = declared;
       texts = is.texts;
       agrees = agrees_before (stacks_in start.store) new.procedures program.book new.cursor new.counted.store
-          (block_of es inverse start) now stacks (as_many_names ready.names declared) standing place;
+          (block_of es inverse start) now stacks (as_many_names start.store _ _ ready.names declared) standing place;
       ready = ready;
       listed = listed;
       defined = subst (λ (t : Procedures). Define t from.bodies (procedures_in es start.procedures)) (sym procedures)

@@ -27,9 +27,11 @@ loop-i-preserved g c =
     becomes_then _ _ _ _ _ c.loop-i.invariant
     (becomes_same _ _ _ _ next (becomes_rest _ _ c.loop-i.invariant.whole c.loop-i.invariant.texts c.retire.ensures))
 
-pub returns-clause-becomes : goal.returns-clause-becomes
-returns-clause-becomes g c = λ before over.
-    becomes_same _ _ _ _
-    (ap (dropped c.loop-i._i) over.declared ∙ subst (λ (n : ℕ). dropped n (declare over.declarations before) ≡ before) (over.many ∙ (omega arith))
-    (dropped_all over.declarations before))
-    c.loop-i.invariant
+pub returns : goal.returns
+returns g c = record {
+  becomes = λ before over.
+      becomes_same _ _ _ _
+      (ap (dropped c.loop-i._i) over.declared ∙ subst (λ (n : ℕ). dropped n (declare over.declarations before) ≡ before) (over.many ∙ (omega arith))
+      (dropped_all over.declarations before))
+      c.loop-i.invariant;
+}
