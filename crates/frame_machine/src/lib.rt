@@ -2,8 +2,8 @@
 //!
 //! To the layer above it promises that its steps are those of the meaning: `slice` takes as many steps as it is asked, or
 //! all that are left to the end of the block or to a fault, and leaves the place and the store to which that many steps of
-//! the meaning lead; a mirrored cursor goes back through the places that it came by. Calls run the bodies that are in effect, on the
-//! store itself: parameters are bound to what they are called with. The meaning of statements is that of
+//! the meaning lead; a mirrored cursor goes back through the places that it came by. Calls run the bodies that are in effect: the values of the
+//! arguments are moved to the parameters, and moved back when the call is left. The meaning of statements is that of
 //! Yokoyama and Glück (2007), "A reversible programming language and its invertible self-interpreter"; `janus_meaning`
 //! defines it step by step.
 //!

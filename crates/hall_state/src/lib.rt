@@ -12,8 +12,8 @@
 //!
 //! It gives the names of `kernel_audit`, `kernel_ask` and the kernel again that the hall's calls have.
 //!
-//! A turn that ends a job writes down beside that post where its end stands, and changes no other; one that ends no job changes none. The first who
-//! asks for what came of a job is told it once all is made.
+//! What is settled stays as it was until it is told, and the first who asks for what came of a settled job is told it. That a turn settles all that
+//! its job is to tell is no clause's: where many user expressions are left, `make` does it, called for as long as it answers that more may be left.
 #![tactic(auto)]
 
 mod history;

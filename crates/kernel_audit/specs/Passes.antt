@@ -38,7 +38,7 @@ IsWished notes number given = slice_get (wished_in notes) (number - 1) ≡ Some 
 
 -- the pass has posted this job, and counted it; it had seen no shutdown. What it has seen now are the minutes of a legal kernel: what it had seen is a
 -- beginning of them, and its post stands there, with its lane and this job, at this number, under which its wishes are noted. The number is above those of
--- all posts that it had seen: so it is no earlier post.
+-- all posts that it had seen: so it is none of them.
 pub record HasPosted (old : PassOf) (job : Request) (given : List WishOf) (number : ℕ) (new : PassOf) : Type 0 where
   pub lane : new.lane ≡ old.lane
   pub posts : new.posts ≡ old.posts + 1
