@@ -21,8 +21,8 @@ use Rattle.kernel_ask.specs.Evaluation.{HasValue, IsEvaluated}
 use Rattle.kernel_ask.proofs.Sound.{not_broken}
 use Rattle.kernel_ask.proofs.evaluation.value_of.Goals as goal
 
-pub number-requires-clause-safe : goal.number-requires-clause-safe
-number-requires-clause-safe g c = λ broken.
+pub number-requires : goal.number-requires
+number-requires g c = λ broken.
     let s : Store = shown_store c.args.store.now in
     let e : Exp = exp_of c.args.exp.now in
     let formed : IsExp (shape_of s) e = subst (λ (g : Shape). IsExp g e) c.requires.names c.in-Ok.ensures.well_formed in
@@ -65,8 +65,8 @@ returns-in-Ok-number g c = λ text has.
     let same : to_z w32 (of_z w32 c.in-Ok-number.number) ≡ c.in-Ok-number.number = grind (arith, to_z-of_z) in
     subst (λ (z : ℤ). HasValue s text (Fine z)) (sym same) has_value
 
-pub returns : goal.returns
-returns g c = λ text has.
+pub returns-in-Err-number : goal.returns-in-Err-number
+returns-in-Err-number g c = λ text has.
     let s : Store = shown_store c.args.store.now in
     let e : Exp = exp_of c.args.exp.now in
     let formed : IsExp (shape_of s) e = subst (λ (g : Shape). IsExp g e) c.requires.names c.in-Ok.ensures.well_formed in
