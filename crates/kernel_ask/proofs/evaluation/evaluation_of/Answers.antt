@@ -25,8 +25,8 @@ told s text fault.Memory r refused is = rw is tt
 
 pub value_of-requires : goal.value_of-requires
 value_of-requires g c =
-    subst (λ (s : Store). shape_in c.in-Some.env.names ≡ shape_of s) c.slots_law.ensures.sight
-    (subst (λ (o : Option Known). IfSome o (λ (env : Known). shape_in env.names ≡ shape_of c.args.store.now.sight)) c.in-Some.is c.requires.names)
+    let given = subst (λ (o : Option Known). IfSome o (λ (env : Known). shape_in env.names ≡ shape_of c.args.store.now.sight)) c.in-Some.is c.requires.names in
+    record { names = subst (λ (s : Store). shape_in c.in-Some.env.names ≡ shape_of s) c.slots_law.ensures.sight given }
 
 pub returns-in-Some : goal.returns-in-Some
 returns-in-Some g c = λ text read.

@@ -22,11 +22,11 @@ use Rattle.kernel_ask.proofs.Sound.{not_broken}
 use Rattle.kernel_ask.proofs.evaluation.value_of.Goals as goal
 
 pub number-requires : goal.number-requires
-number-requires g c = λ broken.
+number-requires g c =
     let s : Store = shown_store c.args.store.now in
     let e : Exp = exp_of c.args.exp.now in
     let formed : IsExp (shape_of s) e = subst (λ (g : Shape). IsExp g e) c.requires.names c.in-Ok.ensures.well_formed in
-    not_broken e s formed broken
+    record { safe = λ broken. not_broken e s formed broken }
 
 -- a fault of the check is told as it is, and want of memory as such
 told : (s : Store) (text : List ℕ) (tree : tree.Exp) (fault : CheckFault) (r : Refusal) → HasExp text tree → IsFirst fault (exp_faults (shape_of s) tree) →
