@@ -54,6 +54,7 @@ use Rattle.kernel_history.specs.declared.job.Open.{Open}
 use Rattle.kernel_history.specs.declared.job.Open.TheVariants.{Idle, Border, Inside}
 use Rattle.kernel_machine.proofs.LanguageLaws.{part_none_forward, part_none_backward, exec_end, exec_some}
 use Rattle.kernel_loader.proofs.Growing.{same_more, ready_grows}
+use Rattle.kernel_loader.proofs.Listed.{listed_still}
 use Rattle.kernel_loader.proofs.Unlisted.{taken_back, shown_same, shows_unlisted}
 use Rattle.janus_slots.proofs.Whole.{names_size}
 use Rattle.kernel_loader.proofs.Running.{stands_part}
@@ -61,7 +62,7 @@ use Rattle.kernel_history.specs.TableNames.{AreOfNodes, ListsNoOtherFor}
 use Rattle.kernel_history.proofs.TableNames.{names_nodes, names_same, names_still, names_grown}
 use Rattle.kernel_history.proofs.BodiesAt.{bodies_same, bodies_of_cell, bodies_new, bodies_below, cell_behind, ready_same, ready_less, ready_more}
 use Rattle.kernel_history.proofs.Nodes.{count_of_nodes, cell_there, same_program, contents_more, cell_kept, cell_added}
-use Rattle.kernel_history.proofs.WorldNames.{exec_names, names_below, world_kept, world_added, listed_still, listed_own}
+use Rattle.kernel_history.proofs.WorldNames.{exec_names, names_below, world_kept, world_added, listed_own}
 use Rattle.kernel_history.proofs.Indexed.{kept_in_time}
 use Rattle.kernel_machine.proofs.Trees.{worlds-more, legal_up, legal_down, legal_grown, undone_world, redone_world, run_here, parent_sound, IsNext}
 use Rattle.kernel_machine.proofs.Trees.{formed_below, next_below, up_possible, down_possible, way_up, way_down, new_legal, new_worlds}
@@ -92,7 +93,7 @@ can_run_still : {L : Type 0} (runner at : Runner L) (g : List Name) (program : P
     (IsReady at.entries g runner.procedures program → IsReady at.entries g at.procedures program) → CanRun runner g program → CanRun at g program
 can_run_still runner at g program listed kept can = record {
   ready = kept (ready_grows runner.entries at.entries listed g runner.procedures program can.ready);
-  named = listed_still runner.entries at.entries (procedures_of program) listed can.named;
+  named = listed_still runner.entries at.entries listed (procedures_of program) can.named;
 }
 
 -- the names of procedures only grow, and the bodies of nodes stay kept
