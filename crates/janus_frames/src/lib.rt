@@ -7,7 +7,8 @@
 //! lend those values. A move is no write: the store counts each change of a number, an element or a stack, and nothing else, in a ledger of which
 //! there is one store. A declared name is shown with the value that it has now, which is followed inwards through the arguments of the open calls.
 //! A row of `janus_row` is run over the names in sight as they stand: `run` takes as many steps of the meaning as it is told to, and `run_one` that of one
-//! instruction, wherever the row takes the steps of the meaning; the callers' names stay.
+//! instruction, wherever the row takes the steps of the meaning; the callers' names stay. A row keeps results behind all cells for names, so what it does to
+//! those it does by counted writes; the number that it opens a local with is one of them.
 //! The memory of all stacks, calls, locals, parameters and results is taken with the store, and after that only a declared name takes memory. Which faults
 //! there are is the caller's affair: each call says what must hold, and the store offers the test.
 //! Contracts see what is in sight as a store of `janus_meaning`, and the open calls as the stores that they left behind, where just their arguments
