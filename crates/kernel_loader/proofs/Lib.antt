@@ -6,7 +6,7 @@ pub mod Sighted
 pub mod Named
 pub mod Unlisted
 pub mod Entries
--- Of frame_machine, given again.
+-- Of janus_machine, given again.
 pub use Rattle.kernel_runner.proofs.Bodies
 pub use Rattle.kernel_runner.proofs.BodiesInEffect
 -- Of kernel_runner, given again.

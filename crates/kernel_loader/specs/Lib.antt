@@ -11,7 +11,7 @@ pub use Rattle.kernel_runner.specs.Runner
 pub use Rattle.kernel_runner.specs.Program
 pub use Rattle.kernel_runner.specs.declared.program
 pub use Rattle.kernel_runner.specs.declared.runner
--- Of frame_machine, given again.
+-- Of janus_machine, given again.
 pub use Rattle.kernel_runner.specs.Procedures
 pub use Rattle.kernel_runner.specs.Bodies
 pub use Rattle.kernel_runner.specs.linked_procedure

@@ -13,7 +13,7 @@
 //! The definitions are in specs/: `Kinds`, `Defined`, `Known` (what a cell is checked over), `Keeping` (its code, and the bodies that are kept) and
 //! `Loading` (what stays while a cell is loaded, and which names of procedures are new).
 //!
-//! It gives names of `kernel_runner` and of `frame_machine` again for the history, which works with a runner and loaded cells; `Cursor`, `Procedures` and
+//! It gives names of `kernel_runner` and of `janus_machine` again for the history, which works with a runner and loaded cells; `Cursor`, `Procedures` and
 //! `slice` for a wrong body of the history that runs the machine itself.
 #![tactic(auto)]
 

@@ -20,24 +20,24 @@ use Rattle.janus_meaning.proofs.Worlds.{worlds_reverse, entered_is_good}
 use Rattle.janus_meaning.proofs.FormedWorlds.{shape_declared, entered_formed}
 use Rattle.janus_frames.specs.Calls.{Caller, stacks_lent, own_names}
 use Rattle.janus_frames.specs.StoreState.{StoreState, IsWhole, shown_store, live_stacks}
-use Rattle.frame_machine.specs.LinearOpen.{locals_in}
-use Rattle.frame_machine.specs.Within.{within}
-use Rattle.frame_machine.specs.Bodies.{AreDefined, AreBodiesFrom, Define, onto}
-use Rattle.frame_machine.specs.Procedures.{kept_in}
-use Rattle.frame_machine.specs.Cursors.{outside_of, place_in, place_of, IsStanding}
-use Rattle.frame_machine.specs.Cursor.{calls_of}
-use Rattle.frame_machine.specs.Law.{NeverBroken}
-use Rattle.frame_machine.specs.Nested.{AreOpenCalls}
-use Rattle.frame_machine.specs.Open.{HaveLocals, Agrees}
-use Rattle.frame_machine.specs.Places.{block_in, names_under}
-use Rattle.frame_machine.specs.declared.linked_code.LinkedCode.{LinkedCode}
-use Rattle.frame_machine.specs.declared.direction.Direction.{Direction}
-use Rattle.frame_machine.specs.declared.direction.Direction.TheVariants.{Forward, Inverse}
-use Rattle.frame_machine.specs.declared.cursor.Call.{Call}
-use Rattle.frame_machine.specs.declared.cursor.Cursor.{Cursor}
-use Rattle.frame_machine.specs.declared.procedures.Procedures.{Procedures}
-use Rattle.frame_machine.proofs.BodiesInEffect.{all_defined, all_retired, bodies_from_same}
-use Rattle.frame_machine.proofs.Courses.{blocks_are_safe, books_turn}
+use Rattle.janus_machine.specs.LinearOpen.{locals_in}
+use Rattle.janus_machine.specs.Within.{within}
+use Rattle.janus_machine.specs.Bodies.{AreDefined, AreBodiesFrom, Define, onto}
+use Rattle.janus_machine.specs.Procedures.{kept_in}
+use Rattle.janus_machine.specs.Cursors.{outside_of, place_in, place_of, IsStanding}
+use Rattle.janus_machine.specs.Cursor.{calls_of}
+use Rattle.janus_machine.specs.Law.{NeverBroken}
+use Rattle.janus_machine.specs.Nested.{AreOpenCalls}
+use Rattle.janus_machine.specs.Open.{HaveLocals, Agrees}
+use Rattle.janus_machine.specs.Places.{block_in, names_under}
+use Rattle.janus_machine.specs.declared.linked_code.LinkedCode.{LinkedCode}
+use Rattle.janus_machine.specs.declared.direction.Direction.{Direction}
+use Rattle.janus_machine.specs.declared.direction.Direction.TheVariants.{Forward, Inverse}
+use Rattle.janus_machine.specs.declared.cursor.Call.{Call}
+use Rattle.janus_machine.specs.declared.cursor.Cursor.{Cursor}
+use Rattle.janus_machine.specs.declared.procedures.Procedures.{Procedures}
+use Rattle.janus_machine.proofs.BodiesInEffect.{all_defined, all_retired, bodies_from_same}
+use Rattle.janus_machine.proofs.Courses.{blocks_are_safe, books_turn}
 use Rattle.kernel_machine.specs.Language.{CodeExec, IsFormed, IsSound}
 use Rattle.kernel_runner.specs.Program.{cell_of_program, procedures_of, IsReady, with_bodies}
 use Rattle.kernel_runner.specs.Runner.{ShownWorld, Becomes, block_of, slots_of, Stands, entry, inverse_entry, Is, Between, CanEnter, CanReturn, CanLeave}

@@ -2,10 +2,10 @@
 use Rattle.std.proofs.Common.{◌≡◌, ℕ, sym, ap, subst}
 use Rattle.janus_meaning.specs.Writes.{IsWritten}
 use Rattle.janus_frames.specs.StoreState.{StoreState}
-use Rattle.frame_machine.specs.CountedStore.{steps_in}
-use Rattle.frame_machine.specs.declared.counted_store.CountedStore.{CountedStore}
-use Rattle.frame_machine.specs.Steps.{TakesSafeSteps}
-use Rattle.frame_machine.specs.declared.cursor.Cursor.{Cursor}
+use Rattle.janus_machine.specs.CountedStore.{steps_in}
+use Rattle.janus_machine.specs.declared.counted_store.CountedStore.{CountedStore}
+use Rattle.janus_machine.specs.Steps.{TakesSafeSteps}
+use Rattle.janus_machine.specs.declared.cursor.Cursor.{Cursor}
 use Rattle.kernel_runner.specs.Runner.{KeepsCounts, CameBy, CursorCameBy, writes_of}
 use Rattle.kernel_runner.specs.declared.program.Program.{Program}
 use Rattle.kernel_runner.specs.declared.runner.Runner.{Runner}

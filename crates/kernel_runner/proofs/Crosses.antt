@@ -5,7 +5,7 @@ use denote.Param.Send.{IsSend, sendable}
 use Rattle.std.proofs.Crossing.{crosses}
 use Rattle.janus_names.proofs.Crosses.{Names-send}
 use Rattle.janus_syntax.proofs.Crosses.{Cell-send}
-use Rattle.frame_machine.proofs.Crosses.{LinkedCode-send, Procedures-send, CountedStore-send}
+use Rattle.janus_machine.proofs.Crosses.{LinkedCode-send, Procedures-send, CountedStore-send}
 use Rattle.kernel_runner.specs.contracts.program.Program as Program
 use Rattle.kernel_runner.specs.contracts.runner.Runner as Runner
 

@@ -8,20 +8,20 @@ use Rattle.janus_meaning.specs.Limit.{step_limit}
 use Rattle.janus_slots.specs.Slots.{procedures_in}
 use Rattle.janus_slots.specs.Law.{RunsTheSame}
 use Rattle.janus_slots.proofs.Laws.{runs_are_the_same}
-use Rattle.frame_machine.specs.Bodies.{AreInEffect}
-use Rattle.frame_machine.specs.Counts.{counted, Counts}
-use Rattle.frame_machine.specs.Cursors.{IsStanding, has_ended}
+use Rattle.janus_machine.specs.Bodies.{AreInEffect}
+use Rattle.janus_machine.specs.Counts.{counted, Counts}
+use Rattle.janus_machine.specs.Cursors.{IsStanding, has_ended}
 use Rattle.janus_meaning.specs.Faults.{fault_of}
-use Rattle.frame_machine.specs.Law.{RunMeans, BackMeans}
-use Rattle.frame_machine.specs.Open.{Agrees}
-use Rattle.frame_machine.specs.Steps.{AreSteps, next_of, NoneBroken, IsSafeAhead, KeepsMet, SliceEndsBy}
-use Rattle.frame_machine.specs.declared.machine.End as ends
-use Rattle.frame_machine.specs.declared.machine.End.TheVariants as end
-use Rattle.frame_machine.specs.declared.counted_store.CountedStore.{CountedStore}
-use Rattle.frame_machine.specs.declared.cursor.Cursor.{Cursor}
+use Rattle.janus_machine.specs.Law.{RunMeans, BackMeans}
+use Rattle.janus_machine.specs.Open.{Agrees}
+use Rattle.janus_machine.specs.Steps.{AreSteps, next_of, NoneBroken, IsSafeAhead, KeepsMet, SliceEndsBy}
+use Rattle.janus_machine.specs.declared.machine.End as ends
+use Rattle.janus_machine.specs.declared.machine.End.TheVariants as end
+use Rattle.janus_machine.specs.declared.counted_store.CountedStore.{CountedStore}
+use Rattle.janus_machine.specs.declared.cursor.Cursor.{Cursor}
 use Rattle.janus_meaning.specs.declared.fault.Fault as machine
-use Rattle.frame_machine.proofs.BodiesInEffect.{defined_in_effect}
-use Rattle.frame_machine.proofs.Courses.{runs_mean, backs_mean}
+use Rattle.janus_machine.proofs.BodiesInEffect.{defined_in_effect}
+use Rattle.janus_machine.proofs.Courses.{runs_mean, backs_mean}
 use Rattle.kernel_machine.specs.Language.{CodeStop, run_block}
 use Rattle.kernel_runner.specs.Runner.{Place, at_count, start_at, block_of, slots_of, Stands}
 use Rattle.kernel_runner.specs.declared.program.Program.{Program}

@@ -6,6 +6,6 @@ pub mod Growing
 pub mod Running
 pub mod Slotted
 pub mod Crosses
--- Of frame_machine, given again.
-pub use Rattle.frame_machine.proofs.Bodies
-pub use Rattle.frame_machine.proofs.BodiesInEffect
+-- Of janus_machine, given again.
+pub use Rattle.janus_machine.proofs.Bodies
+pub use Rattle.janus_machine.proofs.BodiesInEffect

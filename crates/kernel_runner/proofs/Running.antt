@@ -15,20 +15,20 @@ use Rattle.janus_slots.specs.Slots.{names_in, in_slots, under_names, outside_in,
 use Rattle.janus_slots.proofs.Whole.{names_size, size_same, twice_same, under_named}
 use Rattle.janus_frames.specs.Calls.{Caller, given_back}
 use Rattle.janus_frames.specs.StoreState.{IsWhole, declared_store, shown_store}
-use Rattle.frame_machine.specs.Open.{Agrees}
-use Rattle.frame_machine.specs.Nested.{AreOpenCalls}
-use Rattle.frame_machine.specs.Cursors.{place_of, has_ended, IsStanding}
-use Rattle.frame_machine.specs.Cursor.{calls_of, are_no_calls}
-use Rattle.frame_machine.specs.Steps.{Refuses}
-use Rattle.frame_machine.specs.Law.{seen_at}
+use Rattle.janus_machine.specs.Open.{Agrees}
+use Rattle.janus_machine.specs.Nested.{AreOpenCalls}
+use Rattle.janus_machine.specs.Cursors.{place_of, has_ended, IsStanding}
+use Rattle.janus_machine.specs.Cursor.{calls_of, are_no_calls}
+use Rattle.janus_machine.specs.Steps.{Refuses}
+use Rattle.janus_machine.specs.Law.{seen_at}
 use Rattle.janus_meaning.specs.Faults.{fault_of}
 use Rattle.janus_meaning.specs.declared.fault.Fault as machine
-use Rattle.frame_machine.specs.declared.linked_code.LinkedCode.{LinkedCode}
-use Rattle.frame_machine.specs.declared.direction.Direction.{Direction}
-use Rattle.frame_machine.specs.declared.cursor.Call.{Call}
-use Rattle.frame_machine.specs.declared.cursor.Cursor.{Cursor}
-use Rattle.frame_machine.specs.declared.procedures.Procedures.{Procedures}
-use Rattle.frame_machine.proofs.Seen.{seen_is}
+use Rattle.janus_machine.specs.declared.linked_code.LinkedCode.{LinkedCode}
+use Rattle.janus_machine.specs.declared.direction.Direction.{Direction}
+use Rattle.janus_machine.specs.declared.cursor.Call.{Call}
+use Rattle.janus_machine.specs.declared.cursor.Cursor.{Cursor}
+use Rattle.janus_machine.specs.declared.procedures.Procedures.{Procedures}
+use Rattle.janus_machine.proofs.Seen.{seen_is}
 use Rattle.kernel_machine.specs.Language.{CodePart, CodeExec, CodeStop, run_block}
 use Rattle.kernel_runner.specs.Runner.{Place, at_count, start_at, block_of, slots_of, world_inside, Stands}
 use Rattle.kernel_runner.specs.declared.program.Program.{Program}

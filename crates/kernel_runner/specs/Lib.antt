@@ -5,12 +5,12 @@ pub mod Declarable
 pub mod Runner
 -- Of janus_memory, given again.
 pub use Rattle.janus_memory.specs.Values
--- Of frame_machine, given again.
-pub use Rattle.frame_machine.specs.Procedures
-pub use Rattle.frame_machine.specs.Bodies
-pub use Rattle.frame_machine.specs.declared.linked_procedure
-pub use Rattle.frame_machine.specs.declared.procedures
-pub use Rattle.frame_machine.specs.LinkedProcedure
-pub use Rattle.frame_machine.specs.Places
-pub use Rattle.frame_machine.specs.declared.linked_code
-pub use Rattle.frame_machine.specs.declared.direction
+-- Of janus_machine, given again.
+pub use Rattle.janus_machine.specs.Procedures
+pub use Rattle.janus_machine.specs.Bodies
+pub use Rattle.janus_machine.specs.declared.linked_procedure
+pub use Rattle.janus_machine.specs.declared.procedures
+pub use Rattle.janus_machine.specs.LinkedProcedure
+pub use Rattle.janus_machine.specs.Places
+pub use Rattle.janus_machine.specs.declared.linked_code
+pub use Rattle.janus_machine.specs.declared.direction

@@ -7,11 +7,11 @@ use Rattle.janus_syntax.specs.Tree.{cell_view}
 use Rattle.janus_syntax.specs.View.{plain_cell}
 use Rattle.janus_names.specs.Numbers.{GoOn}
 use Rattle.janus_slots.specs.Slots.{block_in as block_in_slots, procedures_in}
-use Rattle.frame_machine.specs.Places.{block_in, names_under}
-use Rattle.frame_machine.specs.Bodies.{AreBodiesFrom, onto}
-use Rattle.frame_machine.specs.Procedures.{kept_in}
-use Rattle.frame_machine.specs.declared.direction.Direction.TheVariants.{Forward}
-use Rattle.frame_machine.specs.declared.procedures.Procedures.{Procedures}
+use Rattle.janus_machine.specs.Places.{block_in, names_under}
+use Rattle.janus_machine.specs.Bodies.{AreBodiesFrom, onto}
+use Rattle.janus_machine.specs.Procedures.{kept_in}
+use Rattle.janus_machine.specs.declared.direction.Direction.TheVariants.{Forward}
+use Rattle.janus_machine.specs.declared.procedures.Procedures.{Procedures}
 use Rattle.kernel_runner.specs.declared.program.Program.{Program}
 
 -- the tree of a program

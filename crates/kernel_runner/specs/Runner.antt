@@ -9,15 +9,15 @@ use Rattle.janus_meaning.specs.Limit.{step_limit}
 use Rattle.janus_slots.specs.Slots.{names_in, in_slots, block_in, procedures_in}
 use Rattle.janus_slots.specs.Law.{AreListed}
 use Rattle.janus_frames.specs.StoreState.{StoreState, IsWhole, shown_store}
-use Rattle.frame_machine.specs.Open.{Agrees}
-use Rattle.frame_machine.specs.Bodies.{AreBelow, Define}
-use Rattle.frame_machine.specs.Cursor as cursors
-use Rattle.frame_machine.specs.Cursors.{IsStanding}
-use Rattle.frame_machine.specs.CountedStore.{steps_in}
-use Rattle.frame_machine.specs.Steps.{TakesSafeSteps}
-use Rattle.frame_machine.specs.Law.{HasRun, FacesBack, NeverBroken}
+use Rattle.janus_machine.specs.Open.{Agrees}
+use Rattle.janus_machine.specs.Bodies.{AreBelow, Define}
+use Rattle.janus_machine.specs.Cursor as cursors
+use Rattle.janus_machine.specs.Cursors.{IsStanding}
+use Rattle.janus_machine.specs.CountedStore.{steps_in}
+use Rattle.janus_machine.specs.Steps.{TakesSafeSteps}
+use Rattle.janus_machine.specs.Law.{HasRun, FacesBack, NeverBroken}
 use Rattle.kernel_machine.specs.Language.{Code, Forward, Backward, CodeExec, IsFormed, IsSound, cell_of, run_block, start_of}
-use Rattle.frame_machine.specs.Procedures.{kept_in}
+use Rattle.janus_machine.specs.Procedures.{kept_in}
 use Rattle.kernel_runner.specs.Program.{cell_of_program, procedures_of, IsReady, with_bodies}
 use Rattle.kernel_runner.specs.declared.program.Program.{Program}
 use Rattle.kernel_machine.specs.Reached.{Reaches}

@@ -1,4 +1,4 @@
-//! The runner of one cell: it alone runs the machine of `frame_machine`.
+//! The runner of one cell: it alone runs the machine of `janus_machine`.
 //!
 //! - `Program` is a cell as it was checked, with its code both ways. It is ready where its code is the cell's block with slots in place of names,
 //!   and the bodies of its procedures are kept. `kernel_loader` makes one of a text.
@@ -11,7 +11,7 @@
 //! The definitions are in specs/: `Program` (the cell that a program is), `Declarable` (what a store has room for) and `Runner` (the model of a
 //! runner, and what each call does to it).
 //!
-//! It gives the names of `frame_machine` again that the loader and the history cite: its books, cursors, procedures and stores, and its
+//! It gives the names of `janus_machine` again that the loader and the history cite: its books, cursors, procedures and stores, and its
 //! slices.
 #![tactic(auto)]
 
@@ -20,6 +20,6 @@ mod runner;
 
 pub use crate::program::Program;
 pub use crate::runner::Runner;
-pub use frame_machine::{
+pub use janus_machine::{
     Book, CountedStore, Cursor, LinkedCode, LinkedProcedure, Procedures, Store, slice,
 };

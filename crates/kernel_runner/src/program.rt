@@ -4,7 +4,7 @@ ghost use Rattle.janus_syntax.specs.Tree.{cell_view, declarations_view, procedur
 ghost use Rattle.janus_syntax.specs.View.{plain_declaration, plain_procedure};
 ghost use Rattle.kernel_runner.specs.Program.{tree_of, declarations_of, procedures_of};
 
-use frame_machine::LinkedCode;
+use janus_machine::LinkedCode;
 use janus_syntax::tree::{Cell, Declaration, Procedure};
 
 /// What a cell declares and defines, and its code both ways.

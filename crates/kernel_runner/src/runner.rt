@@ -12,8 +12,8 @@ ghost use Rattle.janus_syntax.specs.View.{plain_declaration};
 ghost use Rattle.kernel_runner.specs.Program.{cell_of_program};
 ghost use Rattle.janus_names.specs.Numbers.{IsUnmet};
 ghost use Rattle.janus_frames.specs.StoreState.{IsWhole, shown_store};
-ghost use Rattle.frame_machine.specs.Procedures.{kept_in};
-ghost use Rattle.frame_machine.specs.Bodies.{AreDefined, AreBelow};
+ghost use Rattle.janus_machine.specs.Procedures.{kept_in};
+ghost use Rattle.janus_machine.specs.Bodies.{AreDefined, AreBelow};
 ghost use Rattle.janus_meaning.specs.Writes.{IsWritten};
 ghost use Rattle.kernel_runner.specs.Runner.{ShownWorld, over, Becomes, IsDeclaredOver, count_of, Is, Between, IsInside};
 ghost use Rattle.kernel_runner.specs.Runner.{writes_of, steps_of, KeepsCounts, CameBy};
@@ -21,7 +21,7 @@ ghost use Rattle.kernel_runner.specs.Runner.{CanEnter, CanReturn, CanLeave, Ente
 ghost use Rattle.kernel_machine.specs.StepsOfSlices.{steps_on, steps_back};
 
 use crate::program::Program;
-use frame_machine::{Book, CountedStore, Cursor, End, Procedures, Store, slice};
+use janus_machine::{Book, CountedStore, Cursor, End, Procedures, Store, slice};
 use janus_names::Names;
 use janus_syntax::tree::Declaration;
 use kernel_machine::Progress;

@@ -1,7 +1,7 @@
 use Rattle.std.proofs.Common.{◌≡◌, ℕ, ◌+◌, ◌-◌, ap, ◌∙◌, sym, subst}
 use Rattle.janus_meaning.specs.Writes.{IsWritten}
-use Rattle.frame_machine.specs.CountedStore.{steps_in}
-use Rattle.frame_machine.specs.Steps.{TakesSafeSteps}
+use Rattle.janus_machine.specs.CountedStore.{steps_in}
+use Rattle.janus_machine.specs.Steps.{TakesSafeSteps}
 use Rattle.kernel_runner.proofs.Going.{safe_back, back_cut, back_taken}
 use Rattle.kernel_runner.proofs.runner.Runner.back.Given as given
 use Rattle.kernel_runner.proofs.runner.Runner.back.Goals as goal

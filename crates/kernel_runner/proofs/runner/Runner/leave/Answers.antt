@@ -4,7 +4,7 @@ use Rattle.janus_meaning.specs.Syntax.{Proc}
 use Rattle.janus_meaning.specs.World.{Declaration}
 use Rattle.janus_syntax.specs.Tree.{procedure_view, procedures_view}
 use Rattle.janus_syntax.specs.View.{plain_procedure}
-use Rattle.frame_machine.specs.Bodies.{AreDefined, onto}
+use Rattle.janus_machine.specs.Bodies.{AreDefined, onto}
 use Rattle.kernel_runner.specs.Program.{declarations_of, procedures_of}
 use Rattle.kernel_runner.specs.Runner.{ShownWorld, Becomes, CanLeave}
 use Rattle.kernel_runner.proofs.Borders.{left_here}

@@ -1,7 +1,7 @@
 use Rattle.std.proofs.Common.{ℕ, ◌+◌, false, sym, ap, ◌∙◌, subst}
 use Rattle.janus_meaning.specs.Writes.{IsWritten}
-use Rattle.frame_machine.specs.CountedStore.{steps_in}
-use Rattle.frame_machine.specs.Steps.{TakesSafeSteps}
+use Rattle.janus_machine.specs.CountedStore.{steps_in}
+use Rattle.janus_machine.specs.Steps.{TakesSafeSteps}
 use Rattle.kernel_runner.specs.Runner.{at_count}
 use Rattle.kernel_runner.proofs.Going.{in_effect, safe_on, unbroken_on, gone_on, counted_on}
 use Rattle.kernel_runner.proofs.Running.{stands_at, whole_at_end, run_ended, run_stopped, run_went}
