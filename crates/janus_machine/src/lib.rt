@@ -29,6 +29,9 @@
 //!
 //! It gives again `Store` of `janus_frames`, `Fault` and the limit on steps of `janus_meaning`, which its calls tell; and what runners cite with
 //! it: `Open` and `Within` of `janus_linear`.
+//!
+//! A slice makes two writes of the store at most for each step. A cursor counts its steps, and at 10^12 of them the fault is that of the
+//! limit, before any other. To put bodies that are kept into effect, and to take them out again, has no answer for want of memory.
 #![tactic(auto)]
 
 mod book;

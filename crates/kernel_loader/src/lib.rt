@@ -15,6 +15,9 @@
 //!
 //! It gives names of `kernel_runner` and of `janus_machine` again for the history, which works with a runner and loaded cells; `Cursor`, `Procedures` and
 //! `slice` for a wrong body of the history that runs the machine itself.
+//!
+//! The store has as many slots as before, or exactly as many as the cell needs. What is refused leaves slots, names and bodies as they
+//! were.
 #![tactic(auto)]
 
 mod checking;

@@ -13,6 +13,8 @@
 //!
 //! It gives the names of `janus_machine` again that the loader and the history cite: its books, cursors, procedures and stores, and its
 //! slices.
+//!
+//! A step makes two writes of the store at most. `enter` has no answer for want of memory where the cell declares nothing.
 #![tactic(auto)]
 
 mod program;

@@ -13,6 +13,9 @@
 //!
 //! To the layer above this crate promises that rule, that count, that time and safety: no clause can say what a socket does. The register under the
 //! lock is exact on what it is lent ([`Connections`] is that register under a lock). It stands on no other crate of the kernel.
+//!
+//! A register that was closed stays so, and closing it takes nobody from its place. What stays within a stranger's own share is never
+//! refused, and `Common::bring` refuses other octets only where there would be more than [`COMMON_OCTETS`].
 #![tactic(auto)]
 
 mod connections;
