@@ -28,6 +28,11 @@ pub use Rattle.kernel_text.specs.MachineCode
 pub use Rattle.kernel_text.specs.State as CoreState
 pub use Rattle.kernel_text.specs.Minutes
 pub use Rattle.kernel_text.specs.outcome
+pub use Rattle.kernel_text.specs.Begins
+pub use Rattle.kernel_text.specs.Slices
+pub use Rattle.kernel_text.specs.progress
+pub use Rattle.kernel_text.specs.heading
+pub use Rattle.kernel_text.specs.travel
 pub use Rattle.kernel_text.specs.minutes
 pub use Rattle.kernel_text.specs.Refusal
 pub use Rattle.kernel_text.specs.PostFault

@@ -27,3 +27,8 @@ pub use Rattle.kernel_ask.specs.CoreState as State
 pub use Rattle.kernel_ask.specs.Request
 pub use Rattle.kernel_ask.specs.Minutes
 pub use Rattle.kernel_ask.specs.outcome
+pub use Rattle.kernel_ask.specs.Begins
+pub use Rattle.kernel_ask.specs.Slices
+pub use Rattle.kernel_ask.specs.progress
+pub use Rattle.kernel_ask.specs.heading
+pub use Rattle.kernel_ask.specs.travel
