@@ -432,20 +432,28 @@ made_of_told settled minutes wished es next n d b untold t =
     (subst (λ (o : Outcome). WereMade minutes d.number o given (option_map string_bytes t.kept.shown) t.kept.values.items) (ap (outcome_at d.outcome) same)
     (subst (λ (k : ℕ). WereMade minutes k h.outcome given (option_map string_bytes t.kept.shown) t.kept.values.items) (ap number_at same) made)))
 
--- where nothing was taken down of an end there is none
-pub ends_nowhere : (settled : ℕ) (m : Machine) (wished : List (List WishOf)) (es : List PendingResult) (n : ℕ) → IsLegalMachine m →
-    ended_in m.minutes ≡ settled → AreBeside settled m.minutes wished es → HasNoEnd m.minutes es n → EndsNowhere m.minutes n
-ends_nowhere settled m wished es n legal all b none = λ place end.
+-- where nothing was taken down of an end that is settled there is none
+pub ends_nowhere_settled : (settled : ℕ) (m : Machine) (wished : List (List WishOf)) (es : List PendingResult) (n : ℕ) → IsLegalMachine m →
+    n ≤ settled → AreBeside settled m.minutes wished es → HasNoEnd m.minutes es n → EndsNowhere m.minutes n
+ends_nowhere_settled settled m wished es n legal low b none = λ place end.
     let number : n ≡ suc (ended_in (take place m.minutes)) = in_order m legal.minutes place n end.0 end.1 end.2 end.3 in
     let fewer : ended_in (take place m.minutes) < ended_in m.minutes = fewer_before m.minutes place n end.0 end.1 end.2 end.3 in
     let le : ended_in m.minutes ≤ posted_in m.minutes = no_more_end m legal.minutes in
     let many : length es ≡ posted_in m.minutes = b.many in
     let done : n - 1 < ended_in m.minutes = omega (arith, number, fewer) in
     let x = there_is es (n - 1) (omega (arith, done, le, many)) in
-    let h : HasSettled m.minutes (suc (n - 1)) (get_or wished (n - 1) []) x.0 = b.settled (n - 1) x.0 x.1 (omega (arith, done, all)) in
+    let h : HasSettled m.minutes (suc (n - 1)) (get_or wished (n - 1) []) x.0 = b.settled (n - 1) x.0 x.1 (omega (arith, number, low)) in
     let own : suc (n - 1) ≡ n = omega (arith, number) in
     none (omega (arith, number)) x.0 x.1 h.place h.ended
     (h.outcome, h.count, h.node, subst (λ (k : ℕ). slice_get m.minutes h.place ≡ Some (Ended k h.outcome h.count h.node)) own h.there)
+
+-- where all is settled, there is none at all
+pub ends_nowhere : (settled : ℕ) (m : Machine) (wished : List (List WishOf)) (es : List PendingResult) (n : ℕ) → IsLegalMachine m →
+    ended_in m.minutes ≡ settled → AreBeside settled m.minutes wished es → HasNoEnd m.minutes es n → EndsNowhere m.minutes n
+ends_nowhere settled m wished es n legal all b none = λ place end.
+    let number : n ≡ suc (ended_in (take place m.minutes)) = in_order m legal.minutes place n end.0 end.1 end.2 end.3 in
+    let fewer : ended_in (take place m.minutes) < ended_in m.minutes = fewer_before m.minutes place n end.0 end.1 end.2 end.3 in
+    ends_nowhere_settled settled m wished es n legal (omega (arith, number, fewer, all)) b none place end
 
 -- ---- by what is answered
 
@@ -475,6 +483,13 @@ pub nowhere : (settled : ℕ) (m : Machine) (wished : List (List WishOf)) (es : 
 nowhere settled m wished es n None under_way Q legal b results none = λ _ nothing place end.
     not_there b (λ a. ends_nowhere settled m wished es n legal (all_settled settled m wished under_way nothing results) a none place end)
 nowhere settled m wished es n (Some d) under_way Q legal b results none = tt
+
+pub nowhere_settled : (settled : ℕ) (m : Machine) (wished : List (List WishOf)) (es : List PendingResult) (n : ℕ) (r : Option Done)
+    (Q : Type 0) → IsLegalMachine m → ∥ AreBeside settled m.minutes wished es ∥₁ →
+    IfNone r (HasNoEnd m.minutes es n) → IfNone r (Q → n ≤ settled → EndsNowhere m.minutes n)
+nowhere_settled settled m wished es n None Q legal b none = λ _ low place end.
+    not_there b (λ a. ends_nowhere_settled settled m wished es n legal low a none place end)
+nowhere_settled settled m wished es n (Some d) Q legal b none = tt
 
 -- to the first all is told that is settled and was not told
 pub first_told : (settled : ℕ) (minutes : List Entry) (wished : List (List WishOf)) (es : List PendingResult) (n : ℕ) (r : Option Done) (Q : Type 0) →

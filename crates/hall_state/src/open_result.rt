@@ -1,5 +1,5 @@
 //! What is being made for the job that has ended last, until all of it is there.
-ghost use Rattle.std.specs.Prelude.{◌≡◌, ◌-◌, [], false, length};
+ghost use Rattle.std.specs.Prelude.{◌≡◌, ◌≤◌, ◌-◌, [], true, false, length};
 ghost use Rattle.kernel_audit.specs.State.{Idle};
 ghost use Rattle.kernel_audit.specs.Making.{HasRoom, left_of};
 ghost use Rattle.hall_state.specs.OpenResults.{GoesOn};
@@ -29,6 +29,7 @@ impl OpenResult {
         ensures goes { GoesOn kernel.now.machine.state.past self.old self.new }
         ensures fewer { length (left_of self.new.making) ≡ length (left_of self.old.making) - most }
         ensures left { result ≡ false → left_of self.new.making ≡ [] }
+        ensures some { result ≡ true → most ≤ length (left_of self.old.making) }
     {
         self.making.make(alloc, kernel, most)
     }

@@ -247,6 +247,8 @@ impl<W: Ledger, L: HistoryName> State<W, L> {
         ensures notes { self.new.notes ≡ self.old.notes }
         ensures all { result ≡ false → self.new.under_way ≡ None }
         ensures fewer { length (left_in self.new.under_way) ≡ length (left_in self.old.under_way) - WISHES_OF_A_PIECE }
+        // It answers that more may be left only where a whole piece was: so it comes to an end.
+        ensures some { result ≡ true → WISHES_OF_A_PIECE ≤ length (left_in self.old.under_way) }
         ensures kept { AreKept self.old.settled self.old.pending_results.items self.new.pending_results.items }
         ensures untold { AreUntold self.old.settled self.new.settled self.new.pending_results.items }
         ensures legal { IsLegalMachine self.old.kernel.machine }
@@ -313,6 +315,8 @@ impl<W: Ledger, L: HistoryName> State<W, L> {
         ensures told { IfSome result (λ d. IsTold self.old.kernel.machine.minutes self.old.pending_results.items number d self.new.pending_results.items) }
         ensures none { IfNone result (self.new.pending_results.items ≡ self.old.pending_results.items) }
         ensures unended { IfNone result (is_first ≡ false → self.old.under_way ≡ None → EndsNowhere self.old.kernel.machine.minutes number) }
+        // Of what is settled the end is told, whatever is under way.
+        ensures settled { IfNone result (is_first ≡ false → number ≤ self.old.settled → EndsNowhere self.old.kernel.machine.minutes number) }
         // To the first all is told that is settled and was not told.
         ensures first { IfNone result (is_first ≡ true → WasTold self.old.settled self.old.pending_results.items number) }
         ensures made { IfSome result (λ d. is_first ≡ true → ∥ WereMade self.old.kernel.machine.minutes d.number d.outcome

@@ -1,5 +1,5 @@
 //! The values of user expressions after a job that has ended, made one by one: whoever makes them may stop between two.
-ghost use Rattle.std.specs.Prelude.{◌≡◌, ◌≤◌, ◌-◌, [], false, List, IfSome, vec_len, vec_capacity, length};
+ghost use Rattle.std.specs.Prelude.{◌≡◌, ◌<◌, ◌≤◌, ◌-◌, [], true, false, List, IfSome, vec_len, vec_capacity, length};
 ghost use Rattle.janus_meaning.specs.Shape.{shape_of};
 ghost use Rattle.janus_check.specs.Names.{shape_in};
 ghost use Rattle.kernel_text.specs.State.{Idle, Past, here};
@@ -92,6 +92,7 @@ impl Making {
         ensures room { HasRoom self.new }
         ensures fewer { length (left_of self.new) ≡ length (left_of self.old) - 1 }
         ensures left { result ≡ false → left_of self.new ≡ [] }
+        ensures some { result ≡ true → 0 < length (left_of self.old) }
     {
         let Some(wish) = self.rest.pop_front() else {
             return false;
@@ -112,6 +113,8 @@ impl Making {
             IsUnderWay o kernel.now.machine.state.past given self.new }
         ensures fewer { length (left_of self.new) ≡ length (left_of self.old) - most }
         ensures left { result ≡ false → left_of self.new ≡ [] }
+        // It answers that more may be left only where so many were.
+        ensures some { result ≡ true → most ≤ length (left_of self.old) }
     {
         let names = names_for(alloc, kernel, self.needs_names());
         for _i in 0..most {

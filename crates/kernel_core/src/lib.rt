@@ -17,8 +17,9 @@
 //! a path `kernel_core.specs.X` that is not in the folder is found through `specs/Lib.antt`, which gives the definitions of the crates below again.
 //!
 //! The count of the store's writes never falls. A slice adds two at most for each step that it takes or goes back; a post, a begin and a
-//! shutdown add none: so the store isn't rewritten by a run from the root. Each end stands in the minutes with its job's number, and with
-//! the counter and the position as the job ended. Along the minutes the counters never fall, and no two counted cells carry the same.
+//! shutdown add none: so no slice rewrites the store by counted writes that a run from the root makes. Each end stands in the minutes with its
+//! job's number, and with the counter and the position as the job ended. Along the minutes the counters never fall, and no two counted cells
+//! carry the same.
 #![tactic(auto)]
 
 mod events;

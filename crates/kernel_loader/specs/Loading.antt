@@ -20,7 +20,7 @@ pub record ShowsKnown {L : Type 0} (runner : Runner L) (env : Known) (shown : Sh
   pub known : IsKnownOf env shown.world
   pub values : HaveValues shown.world.store
 
--- the runner shows the world that it showed: there may be more names of procedures, and more bodies that are kept
+-- the runner shows the well-formed world that it showed: there may be more names of procedures, and more bodies that are kept
 abbrev pub KeepsShown : {L : Type 0} → Runner L → Runner L → Type 0
 KeepsShown old new = (shown : ShownWorld) → IsSound shown.world → Is old (Between shown) → Is new (Between shown)
 

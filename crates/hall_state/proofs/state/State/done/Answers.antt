@@ -3,7 +3,7 @@ use Rattle.std.proofs.lemmas.List.{with_items_is, places}
 use Rattle.kernel_audit.specs.Notes.{wished_in}
 use Rattle.hall_state.specs.PendingResults.{AreBeside, WasTold}
 use Rattle.hall_state.specs.declared.pending_result.PendingResult.{PendingResult}
-use Rattle.hall_state.proofs.Beside.{beside_on, first_made, first_told, nowhere}
+use Rattle.hall_state.proofs.Beside.{beside_on, first_made, first_told, nowhere, nowhere_settled}
 use Rattle.hall_state.proofs.state.State.done.Goals as goal
 
 pub invariant_of-self : goal.invariant_of-self
@@ -70,3 +70,12 @@ returns-else-is_first-clause-unended g c =
     let b = subst (λ (l : List PendingResult). ∥ AreBeside old.settled m.minutes wished l ∥₁) (sym c.deref_mut-else-is_first.ensures.value) old.beside in
     nowhere old.settled m wished c.deref_mut-else-is_first.result.now c.args.number c.fetch.result old.under_way (c.args.is_first ≡ false)
     c.show_legal.ensures b old.results c.fetch.ensures.unended
+
+pub returns-else-is_first-clause-settled : goal.returns-else-is_first-clause-settled
+returns-else-is_first-clause-settled g c =
+    let old = c.args.self.now in
+    let m = old.kernel.machine in
+    let wished = wished_in old.notes in
+    let b = subst (λ (l : List PendingResult). ∥ AreBeside old.settled m.minutes wished l ∥₁) (sym c.deref_mut-else-is_first.ensures.value) old.beside in
+    nowhere_settled old.settled m wished c.deref_mut-else-is_first.result.now c.args.number c.fetch.result (c.args.is_first ≡ false)
+    c.show_legal.ensures b c.fetch.ensures.unended

@@ -15,4 +15,7 @@ loop-i-preserved g c = (
       omega (arith, was, fewer),
   c.loop-i.invariant.2,
   c.make_next.ensures.room,
+  let was = c.loop-i.invariant.1 in
+      let some = c.make_next.ensures.some c.if-make_next.true in
+      omega (arith, was, some),
 )

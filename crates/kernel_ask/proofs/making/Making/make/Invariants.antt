@@ -1,4 +1,4 @@
-use Rattle.std.proofs.Common.{◌≡◌, ◌-◌, List, length, IfSome}
+use Rattle.std.proofs.Common.{◌≡◌, ◌≤◌, ◌-◌, List, length, IfSome}
 use Rattle.janus_meaning.specs.Shape.{shape_of}
 use Rattle.janus_check.specs.Names.{shape_in}
 use Rattle.kernel_text.specs.State.{here}
@@ -15,3 +15,4 @@ invariant-loop-i g l =
     × (length (left_of l.self) ≡ length (left_of l.initial.self) - l._i)
     × IfSome l.names (λ env. shape_in env.names ≡ shape_of (here l.kernel.machine.state.past).store)
     × HasRoom l.self
+    × (l._i ≤ length (left_of l.initial.self))
