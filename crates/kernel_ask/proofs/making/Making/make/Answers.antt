@@ -16,6 +16,6 @@ loop-i-preserved g c = (
   c.loop-i.invariant.2,
   c.make_next.ensures.room,
   let was = c.loop-i.invariant.1 in
-      let some = c.make_next.ensures.some c.if-make_next.true in
+      let some = c.make_next.ensures.some c.if-not-make_next.false in
       omega (arith, was, some),
 )
