@@ -15,6 +15,7 @@ bool lock;                      /* Hall::state */
 byte moved;                     /* Hall::moved */
 byte ends[PLACES];              /* Ends::places, of which the hall has 16 */
 byte posted, ended;             /* the minutes: posts and ends, both numbered from 1 */
+byte settled;                   /* State::settled: of so many jobs all is made that is told */
 bool is_inside, is_closing;     /* the kernel */
 byte slices;
 bool waits[FRONTENDS];          /* whose job was posted and whose end was not told yet */
@@ -38,13 +39,13 @@ proctype Frontend(byte me) {
 #endif
         LOCK(lock);                                     /* Hall::end_of: the first look */
         if
-        :: ended >= number -> UNLOCK(lock)              /* State::done */
-        :: ended < number ->
+        :: settled >= number -> UNLOCK(lock)            /* State::done */
+        :: settled < number ->
             UNLOCK(lock);                               /* Ends::watch: it may give up at once */
             LOCK(lock);
             do
-            :: ended >= number -> break
-            :: ended < number -> SLEEP(lock, PLACE(number))     /* Ends::wait */
+            :: settled >= number -> break
+            :: settled < number -> SLEEP(lock, PLACE(number))     /* Ends::wait */
             od;
             UNLOCK(lock)
         fi;
@@ -57,6 +58,7 @@ gone:
 
 proctype Worker(byte me) {
     byte number;
+    bool is_making;
     do
     :: true ->
         if
@@ -82,7 +84,17 @@ end_of_work:                                            /* it may sleep for ever
         :: !is_inside && !is_closing -> atomic { is_inside = true; slices = 1 }     /* Kernel::begin enters a cell */
         :: !is_inside -> atomic { ended++; number = ended }                         /* or refuses the job */
         fi;
+        if
+        :: number > 0 -> settled = ended                /* State::make, which the turn calls, makes all values */
+        :: number > 0 -> is_making = true               /* or the first ones */
+        :: number == 0 -> skip
+        fi;
         UNLOCK(lock);
+        if
+        :: is_making -> UNDER(lock, settled = ended);   /* Hall::make_all: Hall::make, with the lock free before, as often as one likes */
+            is_making = false
+        :: !is_making -> skip
+        fi;
         if
         :: number > 0 -> WAKE_ALL(PLACE(number))        /* Ends::wake, with the lock free */
         :: number == 0 -> skip                          /* Hall::give_way: it waits for nobody for ever */

@@ -10,6 +10,10 @@
 //! for it; `fault` and `words` say with which status and line the program ends. The language is Janus (Yokoyama and Glück 2007).
 //!
 //! It gives `WriteFailed` of `kernel_text` again, which its transcript answers.
+//!
+//! Of an input that is not served: too long is told of more than 16 MiB, not text of one within them that is no UTF-8; cannot read and no
+//! memory are told only where no more had been read. Then nothing is written. Behind a write fault what went out is a beginning of the
+//! transcript. No more than 16 MiB and one octet are read.
 #![tactic(auto)]
 
 mod choice;

@@ -1,7 +1,7 @@
 //! The lines that are written: those of `kernel_text` with their LF, the position, and the line of a fault.
 ghost use Rattle.std.specs.Prelude.{true, OnOk, OnErr};
 ghost use Rattle.std.specs.Io.KnownBytes.{Appends};
-ghost use Rattle.janus_store.specs.Values.{shown};
+ghost use Rattle.kernel_text.specs.Values.{shown};
 ghost use Rattle.kernel_text.specs.Lines.{outcome_line, post_fault_line};
 ghost use Rattle.exact_write.specs.Sent.{SentSome};
 ghost use Rattle.kernel_text.specs.ValueTexts.{value_text};
@@ -12,9 +12,8 @@ ghost use Rattle.cells_program.specs.Transcript.{told_outcome, told_refusal};
 
 use crate::explanation::send_explained;
 use crate::fault::RunFault;
-use janus_store::ValueView;
 use kernel_core::{Outcome, PostFault, Refusal};
-use kernel_text::{WriteFailed, send, send_counted};
+use kernel_text::{ValueView, WriteFailed, send, send_counted};
 use std::io::Write;
 
 /// Writes the line of an outcome.

@@ -9,6 +9,8 @@
 //! Proved is that all of it is safe, that a wire writes just the frames that it is given, that a request goes out as the signed message of its session, and the
 //! status of each way in which the program ends; of what is told where all went well, of the help and of what is wrong with the words, that it goes out or a
 //! beginning of it. How the parts are put together is tested by `tests_programs`. Nothing is said of what a socket gives or takes, nor that an answer comes.
+//!
+//! What goes out of a request at a fault is no clause's, and that each ping is answered is tested.
 #![tactic(auto)]
 
 mod frontend;

@@ -8,6 +8,8 @@
 //!
 //! To the layer above it promises that all of these are the functions of specs/ (`Requests`, `Headers`, `Lines`, `Faults`), exactly, want of memory
 //! aside; and, in `laws`, that the kernel's own reading of each request gives what was asked.
+//!
+//! That the octets of a request are read as its JSON, and that no field is refused, is no law's: it is tested.
 #![tactic(auto)]
 
 mod broadcast;

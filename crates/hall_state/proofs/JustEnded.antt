@@ -1,34 +1,33 @@
 -- Where a begin or a slice tells an end, no job is open behind it, and the machine stands where the outcome left it.
-use Rattle.std.proofs.Common.{◌≡◌, ◌∙◌, ℕ, ◌+◌, ◌-◌, suc, zero, Bool, true, false, List, [], ◌∷◌, ◌++◌, refl, sym, ap, subst, ⊎_elim, append-nil}
+use Rattle.std.proofs.Common.{◌≡◌, ◌∙◌, ℕ, ◌+◌, ◌-◌, suc, zero, Bool, true, false, List, [], ◌∷◌, ◌++◌, sym, ap, subst, ⊎_elim, append-nil}
 use Rattle.janus_meaning.specs.World.{World}
-use Rattle.kernel_core.specs.State.{Past, State, Work, Posted, Move, Job as Open, Idle, Border, Inside}
-use Rattle.kernel_core.specs.Begins.{travel_to, Enters, Departs, TakesCell, TakesMove, TakesGoto}
-use Rattle.kernel_core.specs.Slices.{finished_by, cells, stepped, moved, Arrives, Backs, Settles, Comes, SlicesIn, SlicesAt}
-use Rattle.kernel_core.specs.progress.Progress.{Progress}
-use Rattle.kernel_core.specs.progress.Progress.TheVariants.{Went, Ended, Stopped}
-use Rattle.kernel_core.specs.heading.Why.{Why}
-use Rattle.kernel_core.specs.heading.Why.TheVariants.{WasAsked, Faulted}
-use Rattle.kernel_core.specs.heading.Heading.{Heading}
-use Rattle.kernel_core.specs.heading.Heading.TheVariants.{GoesOn, GoesBack}
-use Rattle.kernel_core.specs.Request.{Request, RunCell, Undo, Redo, Goto}
-use Rattle.kernel_core.specs.Minutes as minutes
-use Rattle.kernel_core.specs.Minutes.{Entry, ended_in}
-use Rattle.kernel_core.specs.Runs.{Machine, Takes, TakesUnless, BeginsAt, IsBegin, IsSliceOf}
-use Rattle.kernel_core.specs.travel.Aim.{Aim}
-use Rattle.kernel_core.specs.travel.Aim.TheVariants as aim
-use Rattle.kernel_core.specs.travel.Travel.{Travel}
-use Rattle.kernel_core.specs.outcome.TravelEnd.{TravelEnd}
-use Rattle.kernel_core.specs.outcome.TravelEnd.TheVariants.{Asked}
-use Rattle.kernel_core.specs.outcome.Outcome.{Outcome}
-use Rattle.kernel_core.specs.outcome.Outcome.TheVariants as outcome
-use Rattle.kernel_core.specs.outcome.Begun.{Begun}
-use Rattle.kernel_core.specs.outcome.Begun.TheVariants as begun
-use Rattle.kernel_core.specs.outcome.Sliced.{Sliced}
-use Rattle.kernel_core.specs.outcome.Sliced.TheVariants as sliced
+use Rattle.kernel_audit.specs.State.{Past, State, Work, Posted, Move, Job as Open, Idle, Border, Inside}
+use Rattle.kernel_audit.specs.Begins.{travel_to, Enters, Departs, TakesCell, TakesMove, TakesGoto}
+use Rattle.kernel_audit.specs.Slices.{finished_by, cells, stepped, moved, Arrives, Backs, Settles, Comes, SlicesIn, SlicesAt}
+use Rattle.kernel_audit.specs.progress.Progress.{Progress}
+use Rattle.kernel_audit.specs.progress.Progress.TheVariants.{Went, Ended, Stopped}
+use Rattle.kernel_audit.specs.heading.Why.{Why}
+use Rattle.kernel_audit.specs.heading.Why.TheVariants.{WasAsked, Faulted}
+use Rattle.kernel_audit.specs.heading.Heading.{Heading}
+use Rattle.kernel_audit.specs.heading.Heading.TheVariants.{GoesOn, GoesBack}
+use Rattle.kernel_audit.specs.Request.{Request, RunCell, Undo, Redo, Goto}
+use Rattle.kernel_audit.specs.Minutes as minutes
+use Rattle.kernel_audit.specs.Minutes.{Entry, ended_in}
+use Rattle.kernel_audit.specs.Runs.{Machine, Takes, TakesUnless, BeginsAt, IsBegin, IsSliceOf}
+use Rattle.kernel_audit.specs.travel.Aim.{Aim}
+use Rattle.kernel_audit.specs.travel.Aim.TheVariants as aim
+use Rattle.kernel_audit.specs.travel.Travel.{Travel}
+use Rattle.kernel_audit.specs.outcome.TravelEnd.{TravelEnd}
+use Rattle.kernel_audit.specs.outcome.TravelEnd.TheVariants.{Asked}
+use Rattle.kernel_audit.specs.outcome.Outcome.{Outcome}
+use Rattle.kernel_audit.specs.outcome.Begun.{Begun}
+use Rattle.kernel_audit.specs.outcome.Begun.TheVariants as begun
+use Rattle.kernel_audit.specs.outcome.Sliced.{Sliced}
+use Rattle.kernel_audit.specs.outcome.Sliced.TheVariants as sliced
 use Rattle.kernel_audit.specs.EndedAt.{StandsAtEnd}
 use Rattle.hall_state.specs.declared.turn.Turn.TheVariants.{Cut, Began}
 use Rattle.hall_state.specs.PendingResults.{ends_job}
-use Rattle.hall_state.specs.JustEnded.{HasJustEnded, EndsOrWrites}
+use Rattle.hall_state.specs.JustEnded.{EndsOrWrites}
 use Rattle.hall_state.proofs.Turns.{same_minutes}
 
 -- no job is open, and the state stands where the outcome left it

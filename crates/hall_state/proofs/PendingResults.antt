@@ -1,10 +1,11 @@
 -- What is told once, and what is settled.
-use Rattle.std.proofs.Common.{◌≡◌, ℕ, ◌-◌, ◌<◌, ◌≤◌, suc, List, [], ◌∷◌, Option, None, Some, IfSome, IfNone, length, get_or, slice_get, slice_set, true, refl}
+use Rattle.std.proofs.Common.{◌≡◌, ℕ, ◌-◌, ◌<◌, ◌≤◌, suc, List, [], ◌∷◌, Option, None, Some, IfSome, IfNone, length}
+use Rattle.std.proofs.Common.{get_or, slice_get, slice_set, true, false, refl}
 use Rattle.std.proofs.Common.{ap, ◌∙◌, sym, subst, arith, ⊎_elim, vec_len, vec_capacity}
 use Rattle.std.proofs.lemmas.Grind.{not_there}
 use Rattle.std.proofs.lemmas.List.{set-get_or}
 use Rattle.std.proofs.lemmas.Option.{slice_get-get_or, get_or_from_slice_get, slice_get_within}
-use Rattle.kernel_audit.specs.Minutes.{Entry, Posted, Ended, ended_in}
+use Rattle.kernel_audit.specs.Minutes.{Entry, Ended, ended_in}
 use Rattle.kernel_audit.specs.Runs.{Machine}
 use Rattle.kernel_audit.specs.State.{Idle}
 use Rattle.kernel_audit.specs.EndedAt.{StandsAtEnd}
@@ -12,9 +13,17 @@ use Rattle.kernel_audit.specs.outcome.Outcome.{Outcome}
 use Rattle.kernel_audit.specs.done.Done.{Done}
 use Rattle.hall_state.specs.declared.pending_result.PendingResult.{PendingResult}
 use Rattle.hall_state.specs.declared.pending_result.LastEnd.{LastEnd}
-use Rattle.hall_state.specs.JustEnded.{HasJustEnded}
-use Rattle.hall_state.specs.PendingResults.{IsTold, IsSettled, IsBehind, HasNoEnd, SettlesLast}
-use Rattle.hall_state.specs.LastEnds.{IsLastEnd, EndsNoNumber, StandsAt, IsEndAt, last_of, number_in}
+use Rattle.std.proofs.Common.{◌⊎◌, inl, inr, option_map, string_bytes}
+use Rattle.std.specs.Global.{Vec}
+use Rattle.kernel_audit.specs.State.{Past}
+use Rattle.kernel_audit.specs.Shown.{IsShownOfNode}
+use Rattle.kernel_audit.specs.Evaluation.{AreValuesAfter}
+use Rattle.kernel_audit.specs.Making.{IsUnderWay}
+use Rattle.kernel_audit.specs.Wishes.{WishOf}
+use Rattle.kernel_audit.specs.done.NamedValue.{NamedValue}
+use Rattle.hall_state.specs.declared.open_result.OpenResult.{OpenResult}
+use Rattle.hall_state.specs.PendingResults.{IsTold, IsTakenOut, IsBehind, IsToldOrEndless, HasNoEnd, OpensLast, SettlesLast}
+use Rattle.hall_state.specs.LastEnds.{IsLastEnd, EndsNoNumber, StandsAt, IsEndAt, last_of}
 use Rattle.hall_state.proofs.Places.{last_added, below_or}
 use Rattle.hall_state.proofs.Beside.{last_index, last_outcome}
 
@@ -78,6 +87,16 @@ unended minutes es i n x None at h = λ some e there place ended end.
     h place (subst (λ (y : PendingResult). y.ended ≡ Some place) (sym same) ended) end
 unended minutes es i n x (Some d) at h = tt
 
+-- it was told, or there is none
+pub was_told_already : (minutes : List Entry) (es : List PendingResult) (n : ℕ) →
+    ((e : PendingResult) → 0 < n → slice_get es (n - 1) ≡ Some e → e.is_told ≡ true) → IsToldOrEndless minutes es n
+was_told_already minutes es n h = λ some e there. inl (h e some there)
+
+pub is_endless : (minutes : List Entry) (es : List PendingResult) (n : ℕ) (r : Option Done) → IfNone r (HasNoEnd minutes es n) →
+    IfNone r (IsToldOrEndless minutes es n)
+is_endless minutes es n None h = λ some e there. inr (h some e there)
+is_endless minutes es n (Some d) h = tt
+
 -- of no number, and of one past all, nothing was
 pub none_past : (minutes : List Entry) (es : List PendingResult) (i n : ℕ) → i ≡ n - 1 → length es ≤ i → HasNoEnd minutes es n
 none_past minutes es i n at far = λ some e there place ended end.
@@ -130,30 +149,40 @@ stands m es end b is =
 pub is_idle : (m : Machine) (es : List PendingResult) → IsBehind m es → m.state.job ≡ Idle
 is_idle m es b = b.2.idle
 
--- the one with the end's index is settled
-pub settles : (m : Machine) (es : List PendingResult) (end : LastEnd) (x left : PendingResult) → IsLastEnd m.minutes end → end.index < length es →
-    IsSettled (get_or es end.index x) end.place m.state.past end.outcome left → SettlesLast m es (slice_set es end.index left)
-settles m es end x left is low s = record {
-  index = end.index;
+-- what is to be made for it stands under way
+pub opens : (m : Machine) (es : List PendingResult) (end : LastEnd) (x left : PendingResult) (r : OpenResult) → IsLastEnd m.minutes end →
+    end.index < length es → r.index ≡ end.index → r.number ≡ end.number → r.place ≡ end.place → IsTakenOut (get_or es end.index x) left →
+    IsShownOfNode end.outcome m.state.past (option_map string_bytes r.shown) ⊎ (option_map string_bytes r.shown ≡ None) →
+    IsUnderWay end.outcome m.state.past (get_or es end.index x).wishes.items r.making → OpensLast m es (slice_set es end.index left) r
+opens m es end x left r is low index number place taken shown going = record {
   outcome = end.outcome;
   count = is.count;
   node = is.node;
-  last = is.last;
+  last = subst (λ (k : ℕ). last_of m.minutes ≡ Some (Ended (suc k) end.outcome is.count is.node)) (sym index) is.last;
+  number = number ∙ is.number ∙ ap suc (sym index);
+  place = place ∙ is.place;
   kept = get_or es end.index x;
   left = left;
-  there = slice_get-get_or es end.index x low;
-  settled = subst (λ (p : ℕ). IsSettled (get_or es end.index x) p m.state.past end.outcome left) is.place s;
-  others = refl;
+  there = subst (λ (k : ℕ). slice_get es k ≡ Some (get_or es end.index x)) (sym index) (slice_get-get_or es end.index x low);
+  taken = taken;
+  others = ap (λ (k : ℕ). slice_set es k left) (sym index);
+  is_shown = shown;
+  going = going;
 }
 
--- ---- numbers
-
--- the number of the end that stands last
-pub numbered : (entries : List Entry) (end : LastEnd) → IsLastEnd entries end → end.number ≡ number_in (last_of entries)
-numbered entries end is = is.number ∙ sym (ap number_in is.last)
-
--- where no end of a number stands last
-pub unnumbered : (o : Option Entry) → EndsNoNumber o → 0 ≡ number_in o
-unnumbered None h = refl
-unnumbered (Some (Posted lane job)) h = refl
-unnumbered (Some (Ended number out count node)) h = sym h
+-- what was made for it is kept
+pub settles : (es : List PendingResult) (x left : PendingResult) (r : OpenResult) (values : Vec NamedValue) → r.index < length es →
+    left.posted ≡ (get_or es r.index x).posted → left.ended ≡ Some r.place → left.is_told ≡ false → left.shown ≡ r.shown → left.values ≡ values →
+    ((o : Outcome) (s : Past) (given : List WishOf) → IsUnderWay o s given r.making → AreValuesAfter o s given values.items) →
+    SettlesLast es (slice_set es r.index left) r
+settles es x left r values low posted ended untold shown same made = record {
+  kept = get_or es r.index x;
+  left = left;
+  there = slice_get-get_or es r.index x low;
+  posted = posted;
+  ended = ended;
+  untold = untold;
+  shown = shown;
+  values = λ o p given going. subst (λ (v : Vec NamedValue). AreValuesAfter o p given v.items) (sym same) (made o p given going);
+  others = refl;
+}

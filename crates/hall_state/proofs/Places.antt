@@ -1,5 +1,5 @@
 -- Elements of lists to which one was added, or in which one was replaced.
-use Rattle.std.proofs.Common.{◌≡◌, ◌⊎◌, ◌<◌, ◌≤◌, ◌-◌, ℕ, zero, suc, List, [], ◌∷◌, ◌++◌, length, get_or, slice_get, slice_set, None, Some, refl, sym, ap}
+use Rattle.std.proofs.Common.{◌≡◌, ◌⊎◌, ◌<◌, ◌≤◌, ◌-◌, ℕ, zero, suc, List, [], ◌∷◌, ◌++◌, length, get_or, slice_get, slice_set, Some, refl, sym, ap}
 use Rattle.std.proofs.Common.{subst, inl, inr, ⊎_elim, arith, unwrap_or, length-append}
 
 pub below_or : (i k : ℕ) → (i < k) ⊎ (k ≤ i)
@@ -30,6 +30,14 @@ module _ {A : Type 0} where
   set_cases (z ∷ xs) (suc j) zero x y h = inr ((λ e. omega (arith, e)), h)
   set_cases (z ∷ xs) (suc j) (suc i) x y h =
       ⊎_elim (λ p. inl (ap suc p.0, p.1)) (λ p. inr ((λ e. p.0 (omega (arith, e))), p.1)) (set_cases xs j i x y h)
+
+  -- another one is as it was
+  pub other : (xs : List A) (j i : ℕ) (x : A) → (i ≡ j → ⊥) → slice_get (slice_set xs j x) i ≡ slice_get xs i
+  other [] j i x h = refl
+  other (y ∷ xs) zero zero x h = absurd (h refl)
+  other (y ∷ xs) zero (suc i) x h = refl
+  other (y ∷ xs) (suc j) zero x h = refl
+  other (y ∷ xs) (suc j) (suc i) x h = other xs j i x (λ e. h (ap suc e))
 
   -- it is one of before, or the one that was added
   pub append_cases : (xs : List A) (z : A) (i : ℕ) (y : A) → slice_get (xs ++ z ∷ []) i ≡ Some y →

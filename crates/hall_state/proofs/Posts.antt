@@ -12,7 +12,7 @@ use Rattle.kernel_audit.proofs.Noted.{open_before}
 use Rattle.hall_state.proofs.Places.{get_last}
 use Rattle.kernel_audit.specs.Runs.{Machine, posted}
 use Rattle.kernel_audit.proofs.Posts.{posts-append}
-use Rattle.kernel_audit.proofs.Fronts.{number_of_last}
+use Rattle.kernel_audit.proofs.Fronts.{number_of_last, posted_behind}
 
 -- a post is one more
 pub one_more : (m : Machine) (lane : ℕ) (job : Request) → posted_in (posted m lane job).minutes ≡ posted_in m.minutes + 1
@@ -21,12 +21,12 @@ one_more m lane job =
     let n = length-append (posts_of m.minutes) (posts_of (Posted lane job ∷ [])) in
     ap length e ∙ n
 
--- a pass that has posted, and then sees the minutes behind its post, and the notes behind its wishes
-pub stands : (old mid new : PassOf) (m next : Machine) (job : Request) (given : List WishOf) (number : ℕ) (wished : List (List WishOf))
+-- a pass that had seen all minutes and has posted, and then sees the minutes behind its post, and the notes behind its wishes
+stands_behind : (old mid new : PassOf) (m next : Machine) (job : Request) (given : List WishOf) (number : ℕ) (wished : List (List WishOf))
     → number ≡ suc (posted_in m.minutes) → next ≡ posted m old.lane job → mid ≡ pass_of old.lane (old.posts + 1) old.front old.notes → HasSeen mid new
     → new.front ≡ next.minutes → IsLegalMachine next → length wished ≡ posted_in m.minutes → wished_in new.notes ≡ wished ++ given ∷ []
-    → has_shutdown new.notes ≡ false → HasPosted old job given number new
-stands old mid new m next job given number wished numbered is counted seen front legal many all serving =
+    → has_shutdown new.notes ≡ false → old.front ≡ m.minutes → HasPosted old job given number new
+stands_behind old mid new m next job given number wished numbered is counted seen front legal many all serving had =
     let post : Post = record { lane = old.lane; job = job } in
     let last = m.minutes ++ Posted old.lane job ∷ [] in
     let noted : IsPrefix old.notes new.notes = subst (λ (l : List Note). IsPrefix l new.notes) (ap (λ (p : PassOf). p.notes) counted) seen.noted in
@@ -42,4 +42,14 @@ stands old mid new m next job given number wished numbered is counted seen front
           (subst (λ (n : ℕ). slice_get (wished ++ given ∷ []) n ≡ Some given) at (get_last wished given));
       posted = subst (λ (l : List Entry). IsNumberOf l number post) (sym (front ∙ ap (λ (k : Machine). k.minutes) is))
           (subst (λ (n : ℕ). IsNumberOf last n post) (sym numbered) (number_of_last m.minutes old.lane job));
+      fresh = omega (arith, ap posted_in had, numbered);
     }
+
+-- a pass that first saw all minutes
+pub stands : (start old mid new : PassOf) (m next : Machine) (job : Request) (given : List WishOf) (number : ℕ) (wished : List (List WishOf))
+    → HasSeen start old → number ≡ suc (posted_in m.minutes) → next ≡ posted m old.lane job → mid ≡ pass_of old.lane (old.posts + 1) old.front old.notes
+    → HasSeen mid new → new.front ≡ next.minutes → IsLegalMachine next → length wished ≡ posted_in m.minutes → wished_in new.notes ≡ wished ++ given ∷ []
+    → has_shutdown new.notes ≡ false → old.front ≡ m.minutes → HasPosted start job given number new
+stands start old mid new m next job given number wished first numbered is counted seen front legal many all serving had =
+    posted_behind start old new job given number first
+    (stands_behind old mid new m next job given number wished numbered is counted seen front legal many all serving had)

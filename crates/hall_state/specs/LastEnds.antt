@@ -1,5 +1,5 @@
 -- How the end that stands last in the minutes is read.
-use Rattle.std.specs.Prelude.{◌≡◌, ℕ, ◌-◌, List, Option, None, Some, length, slice_get, zero, suc}
+use Rattle.std.specs.Prelude.{◌≡◌, ℕ, ◌-◌, List, Option, None, Some, length, slice_get, suc}
 use Rattle.kernel_audit.specs.Minutes.{Entry, Posted, Ended}
 use Rattle.kernel_audit.specs.outcome.Outcome.{Outcome}
 use Rattle.kernel_audit.specs.done.Done.{Done}
@@ -22,12 +22,6 @@ abbrev pub EndsNoNumber : Option Entry → Type 0
 EndsNoNumber None = Unit {0}
 EndsNoNumber (Some (Posted lane job)) = Unit {0}
 EndsNoNumber (Some (Ended number o count node)) = number ≡ 0
-
--- the number of an end, or 0
-abbrev pub number_in : Option Entry → ℕ
-number_in None = 0
-number_in (Some (Posted lane job)) = 0
-number_in (Some (Ended number o count node)) = number
 
 -- the end that is told stands at this place
 abbrev pub StandsAt : List Entry → ℕ → Done → Type 0

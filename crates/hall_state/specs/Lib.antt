@@ -1,5 +1,6 @@
 pub mod Turns
 pub mod JustEnded
+pub mod OpenResults
 pub mod PendingResults
 pub mod LastEnds
 -- Of shared_history, given again.

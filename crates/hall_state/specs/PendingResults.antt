@@ -9,9 +9,7 @@ use Rattle.kernel_audit.specs.LegalMinutes.{IsLegalMachine}
 use Rattle.kernel_audit.specs.Shown.{IsShownOfNode}
 use Rattle.kernel_audit.specs.Evaluation.{AreValuesAfter}
 use Rattle.kernel_audit.specs.outcome.Outcome.{Outcome}
-use Rattle.kernel_audit.specs.outcome.Begun.{Begun}
 use Rattle.kernel_audit.specs.outcome.Begun.TheVariants as begun
-use Rattle.kernel_audit.specs.outcome.Sliced.{Sliced}
 use Rattle.kernel_audit.specs.outcome.Sliced.TheVariants as sliced
 use Rattle.kernel_audit.specs.done.Done.{Done}
 use Rattle.kernel_audit.specs.done.NamedValue.{NamedValue}
@@ -19,6 +17,8 @@ use Rattle.kernel_audit.specs.Wishes.{WishOf}
 use Rattle.hall_state.specs.JustEnded.{HasJustEnded}
 use Rattle.hall_state.specs.LastEnds.{last_of, StandsAt, IsEndAt}
 use Rattle.hall_state.specs.declared.pending_result.PendingResult.{PendingResult}
+use Rattle.kernel_audit.specs.Making.{IsUnderWay}
+use Rattle.hall_state.specs.declared.open_result.OpenResult.{OpenResult}
 use Rattle.hall_state.specs.declared.turn.Turn.{Turn}
 use Rattle.hall_state.specs.declared.turn.Turn.TheVariants.{Cut, Began, Worn}
 
@@ -54,12 +54,10 @@ pub record IsNewPending (place : ℕ) (given : List WishOf) (e : PendingResult) 
   pub posted : e.posted ≡ place
   pub waiting : IsWaiting given e
 
--- the job has ended at this place of the minutes, and so, in this past: its wishes are spent on what was made
-pub record IsSettled (old : PendingResult) (place : ℕ) (s : Past) (o : Outcome) (new : PendingResult) : Type 0 where
+-- its wishes and the room for their values are taken out of it, for what is made of them
+pub record IsTakenOut (old new : PendingResult) : Type 0 where
   pub posted : new.posted ≡ old.posted
-  pub ended : new.ended ≡ Some place
-  pub untold : new.is_told ≡ false
-  pub made : AreMadeIn s o old.wishes.items (option_map string_bytes new.shown) new.values.items
+  pub ended : new.ended ≡ old.ended
 
 -- its job has this number and has ended: its end stands in the minutes, and what was made is kept until it is told
 pub record HasSettled (minutes : List Entry) (number : ℕ) (given : List WishOf) (e : PendingResult) : Type 0 where
@@ -73,17 +71,21 @@ pub record HasSettled (minutes : List Entry) (number : ℕ) (given : List WishOf
 
 -- ---- beside all posts
 
--- one stands beside each post: the first that have ended are settled, and the others wait. The wishes are those that were posted, in the order of the posts.
-pub record AreBeside (minutes : List Entry) (wished : List (List WishOf)) (es : List PendingResult) : Type 0 where
+-- One stands beside each post: so many are settled, the first ones; of the others nothing is taken down, and those whose jobs have not ended wait. The
+-- wishes are those that were posted, in the order of the posts.
+pub record AreBeside (count : ℕ) (minutes : List Entry) (wished : List (List WishOf)) (es : List PendingResult) : Type 0 where
   pub many : length es ≡ posted_in minutes
   pub wishes : length wished ≡ posted_in minutes
-  pub settled : (i : ℕ) (e : PendingResult) → slice_get es i ≡ Some e → i < ended_in minutes → HasSettled minutes (suc i) (get_or wished i []) e
+  pub order : count ≤ ended_in minutes
+  pub settled : (i : ℕ) (e : PendingResult) → slice_get es i ≡ Some e → i < count → HasSettled minutes (suc i) (get_or wished i []) e
+  pub untaken : (i : ℕ) (e : PendingResult) → slice_get es i ≡ Some e → count ≤ i → e.ended ≡ None
   pub waiting : (i : ℕ) (e : PendingResult) → slice_get es i ≡ Some e → ended_in minutes ≤ i → IsWaiting (get_or wished i []) e
 
--- a job has just ended in this machine, and what stands beside the posts is that of before
+-- a job has just ended in this machine, and what stands beside the posts is that of before, where all results are settled
 abbrev pub IsBehind : Machine → List PendingResult → Type 0
 IsBehind m es =
-    (before : List Entry) × (wished : List (List WishOf)) × HasJustEnded before m × ∥ AreBeside before wished es ∥₁ × (ended_in before < posted_in before)
+    (before : List Entry) × (wished : List (List WishOf)) × HasJustEnded before m × ∥ AreBeside (ended_in before) before wished es ∥₁
+    × (ended_in before < posted_in before)
 
 -- what is told of this number is the end where it was taken down, with the shown text and the values that were kept for it, of which nothing is kept any
 -- more; all else is as it was
@@ -108,23 +110,55 @@ pub record IsTold (minutes : List Entry) (old : List PendingResult) (n : ℕ) (d
 abbrev pub IsUntold : List PendingResult → ℕ → Type 0
 IsUntold es n = (e : PendingResult) → slice_get es (n - 1) ≡ Some e → e.is_told ≡ false
 
+-- what was made for this number is not settled, or was told
+abbrev pub WasTold : ℕ → List PendingResult → ℕ → Type 0
+WasTold settled es n = (e : PendingResult) → 0 < n → n ≤ settled → slice_get es (n - 1) ≡ Some e → e.is_told ≡ true
+
+-- the first ones, so many, are as they were
+abbrev pub AreKept : ℕ → List PendingResult → List PendingResult → Type 0
+AreKept count old new = (i : ℕ) → i < count → slice_get new i ≡ slice_get old i
+
+-- those that were settled since are not told yet
+abbrev pub AreUntold : (before settled : ℕ) → List PendingResult → Type 0
+AreUntold before settled es = (i : ℕ) (e : PendingResult) → before ≤ i → i < settled → slice_get es i ≡ Some e → e.is_told ≡ false
+
 -- nothing was taken down of an end of this number that stands in the minutes
 abbrev pub HasNoEnd : List Entry → List PendingResult → ℕ → Type 0
 HasNoEnd minutes es n =
     0 < n → (e : PendingResult) → slice_get es (n - 1) ≡ Some e → (place : ℕ) → e.ended ≡ Some place → IsEndAt minutes place n → ⊥
 
--- The job that has just ended in this machine is settled, at the place of its end, and all others are as they were.
-pub record SettlesLast (m : Machine) (old new : List PendingResult) : Type 0 where
-  pub index : ℕ
+-- it was told already, or nothing was taken down of such an end
+abbrev pub IsToldOrEndless : List Entry → List PendingResult → ℕ → Type 0
+IsToldOrEndless minutes es n =
+    0 < n → (e : PendingResult) → slice_get es (n - 1) ≡ Some e → (e.is_told ≡ true) ⊎ ((place : ℕ) → e.ended ≡ Some place → IsEndAt minutes place n → ⊥)
+
+-- The job that has just ended in this machine has what is made for it, of the wishes that stood beside its post; all others are as they were.
+pub record OpensLast (m : Machine) (old new : List PendingResult) (r : OpenResult) : Type 0 where
   pub outcome : Outcome
   pub count : ℕ
   pub node : ℕ
-  pub last : last_of m.minutes ≡ Some (Ended (suc index) outcome count node)
+  pub last : last_of m.minutes ≡ Some (Ended (suc r.index) outcome count node)
+  pub number : r.number ≡ suc r.index
+  pub place : r.place ≡ length m.minutes - 1
   pub kept : PendingResult
   pub left : PendingResult
-  pub there : slice_get old index ≡ Some kept
-  pub settled : IsSettled kept (length m.minutes - 1) m.state.past outcome left
-  pub others : new ≡ slice_set old index left
+  pub there : slice_get old r.index ≡ Some kept
+  pub taken : IsTakenOut kept left
+  pub others : new ≡ slice_set old r.index left
+  pub is_shown : IsShownOfNode outcome m.state.past (option_map string_bytes r.shown) ⊎ (option_map string_bytes r.shown ≡ None)
+  pub going : IsUnderWay outcome m.state.past kept.wishes.items r.making
+
+-- What was made for the job that ended last is kept beside its post, and all others are as they were.
+pub record SettlesLast (old new : List PendingResult) (r : OpenResult) : Type 0 where
+  pub kept : PendingResult
+  pub left : PendingResult
+  pub there : slice_get old r.index ≡ Some kept
+  pub posted : left.posted ≡ kept.posted
+  pub ended : left.ended ≡ Some r.place
+  pub untold : left.is_told ≡ false
+  pub shown : left.shown ≡ r.shown
+  pub values : (o : Outcome) (s : Past) (given : List WishOf) → IsUnderWay o s given r.making → AreValuesAfter o s given left.values.items
+  pub others : new ≡ slice_set old r.index left
 
 -- whether a turn ended a job
 abbrev pub ends_job : Turn → Bool

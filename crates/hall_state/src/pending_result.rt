@@ -1,13 +1,16 @@
 //! What is made for a job that ends, to be fetched by the first wait for it.
-ghost use Rattle.std.specs.Prelude.{◌≡◌, ◌-◌, ◌≤◌, ℕ, [], IfSome, IfNone, None, Some, map, slice_get, suc, true, false, vec_len, vec_capacity};
-ghost use Rattle.kernel_audit.specs.State.{Idle};
+ghost use Rattle.std.specs.Prelude.{◌≡◌, ◌-◌, ◌<◌, ◌≤◌, ℕ, [], IfSome, IfNone, None, Some, length, map, slice_get, suc, true, false, vec_len, vec_capacity};
+ghost use Rattle.kernel_audit.specs.State.{Past};
 ghost use Rattle.kernel_audit.specs.Written.{entry_of};
 ghost use Rattle.kernel_audit.specs.EndedAt.{StandsAtEnd};
 ghost use Rattle.kernel_audit.specs.Ends.{HasEnd};
-ghost use Rattle.hall_state.specs.PendingResults.{IsNewPending, IsTold, IsSettled, SettlesLast, IsBehind, IsUntold, HasNoEnd};
-ghost use Rattle.hall_state.specs.LastEnds.{IsLastEnd, EndsNoNumber, StandsAt, IsEndAt, last_of, number_in};
+ghost use Rattle.kernel_audit.specs.Making.{IsUnderWay, left_of};
+ghost use Rattle.hall_state.specs.PendingResults.{IsNewPending, IsTold, IsTakenOut, OpensLast, SettlesLast, IsBehind, IsUntold, IsToldOrEndless, HasNoEnd};
+ghost use Rattle.hall_state.specs.LastEnds.{IsLastEnd, EndsNoNumber, StandsAt, IsEndAt, last_of};
+ghost use Rattle.hall_state.specs.declared.pending_result.PendingResult.{PendingResult};
 
-use kernel_audit::{Done, Entry, Kernel, NamedValue, Outcome, Wish, shown_after, values_after};
+use crate::open_result::OpenResult;
+use kernel_audit::{Done, Entry, Kernel, Making, NamedValue, Outcome, Wish, shown_after};
 use std::alloc::Global;
 use std::mem;
 use std::sync::ledger::Ledger;
@@ -42,27 +45,30 @@ impl PendingResult {
         }
     }
 
-    /// Takes down that the job has ended so, at this place of the minutes, and makes the shown text and the values. A shown text that
-    /// finds no memory is left out, and a value that finds none says so.
-    fn settle<W: Ledger>(
-        &mut self,
-        alloc: Global,
-        kernel: &Kernel<W>,
-        place: usize,
-        outcome: &Outcome,
-    )
-        requires idle { kernel.now.machine.state.job ≡ Idle }
-        requires still { StandsAtEnd outcome.now kernel.now.machine.state.past }
+    /// Takes its wishes out, with the room for their values: for what is made of them as the job has ended.
+    fn take_out(&mut self, alloc: Global, outcome: &Outcome) -> Making
         requires empty { self.old.values.items ≡ [] }
         requires room { vec_len self.old.wishes ≤ vec_capacity self.old.values }
-        ensures { IsSettled self.old place kernel.now.machine.state.past outcome.now self.new }
+        ensures taken { IsTakenOut self.old self.new }
+        ensures making { (s : Past) → StandsAtEnd outcome.now s → IsUnderWay outcome.now s self.old.wishes.items result }
     {
         let wishes = mem::replace(&mut self.wishes, Vec::new(alloc));
         let room = mem::replace(&mut self.values, Vec::new(alloc));
+        Making::new(outcome, wishes, room)
+    }
+
+    /// Keeps what was made for it, and takes down at which place of the minutes the job has ended.
+    fn settle(&mut self, place: usize, shown: Option<String>, values: Vec<NamedValue>)
+        ensures posted { self.new.posted ≡ self.old.posted }
+        ensures ended { self.new.ended ≡ Some place }
+        ensures untold { self.new.is_told ≡ false }
+        ensures shown { self.new.shown ≡ shown }
+        ensures values { self.new.values ≡ values }
+    {
         self.ended = Some(place);
         self.is_told = false;
-        self.shown = shown_after(alloc, kernel, outcome);
-        self.values = values_after(alloc, kernel, outcome, wishes, room);
+        self.shown = shown;
+        self.values = values;
     }
 
     /// What came of the job of this number, if its end stands where it was taken down. What was made for it goes along.
@@ -106,25 +112,50 @@ impl PendingResult {
     }
 }
 
-/// Takes down the end that stands last in the minutes, of the job that has just ended.
-pub(crate) fn settle_last<W: Ledger>(
+/// What is to be made for the job that has just ended, whose end stands last in the minutes: its shown text is made. A shown text that finds no memory is
+/// left out.
+pub(crate) fn open_last<W: Ledger>(
     alloc: Global,
     kernel: &Kernel<W>,
     pending_results: &mut [PendingResult],
-)
+) -> OpenResult
     requires { IsBehind kernel.now.machine pending_results.old }
-    ensures { SettlesLast kernel.now.machine pending_results.old pending_results.new }
+    ensures { OpensLast kernel.now.machine pending_results.old pending_results.new result }
 {
     let Some(end) = last_end(kernel.minutes()) else {
         unreachable!()
     };
     let LastEnd {
+        number,
         index,
         place,
         outcome,
-        ..
     } = end;
-    pending_results[index].settle(alloc, kernel, place, &outcome);
+    let shown = shown_after(alloc, kernel, &outcome);
+    let making = pending_results[index].take_out(alloc, &outcome);
+    OpenResult {
+        number,
+        index,
+        place,
+        shown,
+        making,
+    }
+}
+
+/// Keeps what was made for the job that has ended last, all of which is there.
+pub(crate) fn settle_last(pending_results: &mut [PendingResult], made: OpenResult)
+    requires there { made.index < length pending_results.old }
+    requires all { left_of made.making ≡ [] }
+    ensures { SettlesLast pending_results.old pending_results.new made }
+{
+    let OpenResult {
+        index,
+        place,
+        shown,
+        making,
+        ..
+    } = made;
+    pending_results[index].settle(place, shown, making.values());
 }
 
 /// Of the end that stands last in the minutes: its number, where the pending_result of its post stands, its place, and what came of the job.
@@ -159,16 +190,6 @@ fn last_end(minutes: &[Entry]) -> Option<LastEnd>
     }
 }
 
-/// The number of the job whose end stands last in the minutes; 0 where no end does.
-pub(crate) fn last_number(minutes: &[Entry]) -> u64
-    ensures { result ≡ number_in (last_of (map entry_of minutes.now)) }
-{
-    match last_end(minutes) {
-        Some(end) => end.number,
-        None => 0,
-    }
-}
-
 /// Where the pending_result of a post stands.
 fn index_of(number: u64) -> Option<usize>
     ensures some { IfSome result (λ index. number ≡ suc index) }
@@ -179,7 +200,8 @@ fn index_of(number: u64) -> Option<usize>
 
 /// Whether nothing is to be told of the job of this number that was not told already.
 fn was_told(pending_results: &[PendingResult], number: u64) -> bool
-    ensures { result ≡ false → IsUntold pending_results.now number }
+    ensures untold { result ≡ false → IsUntold pending_results.now number }
+    ensures told { result ≡ true → (e : PendingResult) → 0 < number → slice_get pending_results.now (number - 1) ≡ Some e → e.is_told ≡ true }
 {
     let Some(index) = index_of(number) else {
         return true;
@@ -222,6 +244,7 @@ pub(crate) fn fetch_first<W: Ledger>(
     ensures told { IfSome result (λ d. IsTold kernel.now.machine.minutes pending_results.old number d pending_results.new) }
     ensures untold { IfSome result (λ d. IsUntold pending_results.old number) }
     ensures none { IfNone result (pending_results.new ≡ pending_results.old) }
+    ensures unended { IfNone result (IsToldOrEndless kernel.now.machine.minutes pending_results.old number) }
 {
     if was_told(pending_results, number) {
         return None;

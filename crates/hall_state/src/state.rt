@@ -1,8 +1,7 @@
 //! What lies under the hall's lock.
 ghost use Rattle.std.specs.Prelude.{◌≡◌, ◌+◌, ◌-◌, ◌^◌, ◌<◌, ◌≤◌, ◌↔◌, IsTrue, [], ◌∷◌, ◌++◌, IfOk, IfErr, OnErr, IfSome, IfNone, All, suc, length, map};
-ghost use Rattle.std.specs.Prelude.{true, false, get_or, option_map, string_bytes};
+ghost use Rattle.std.specs.Prelude.{None, is_some, true, false, get_or, option_map, string_bytes};
 ghost use mathlib.Core.List.{IsPrefix};
-ghost use Rattle.std.specs.Bool.{OnTrue, OnFalse};
 ghost use Rattle.kernel_audit.specs.Request.{request_of};
 ghost use Rattle.kernel_audit.specs.Minutes.{posted_in};
 ghost use Rattle.kernel_audit.specs.LegalMinutes.{IsLegalMachine};
@@ -14,17 +13,20 @@ ghost use Rattle.kernel_audit.specs.Written.{entry_of};
 ghost use Rattle.kernel_audit.specs.Notes.{wished_in, has_shutdown};
 ghost use Rattle.kernel_audit.specs.Passes.{pass_of, HasSeen, HasPosted};
 ghost use Rattle.hall_state.specs.Turns.{IsTurn};
-ghost use Rattle.hall_state.specs.PendingResults.{IsNewPending, IsTold, SettlesLast, AreBeside, WereMade, ends_job};
-ghost use Rattle.hall_state.specs.LastEnds.{EndsNowhere, last_of, number_in};
-ghost use Rattle.hall_state.specs.declared.limit.TheConstants.{PASSES, PARTS_OF_POSTS};
+ghost use Rattle.hall_state.specs.OpenResults.{AreSettled, left_in};
+ghost use Rattle.hall_state.specs.PendingResults.{IsNewPending, IsTold, WasTold, AreKept, AreUntold, AreBeside, WereMade};
+ghost use Rattle.hall_state.specs.LastEnds.{EndsNowhere};
+ghost use Rattle.hall_state.specs.declared.limit.TheConstants.{PASSES, PARTS_OF_POSTS, WISHES_OF_A_PIECE};
 ghost use Rattle.hall_state.specs.declared.pending_result.PendingResult.{PendingResult};
 ghost use Rattle.kernel_audit.specs.Ends.{HasEnd};
 ghost use Rattle.kernel_audit.specs.Audit.{Audited, IsAuditFault};
 
 use crate::history::{follow, note_shutdown, note_wishes, show_all};
+use crate::limit::WISHES_OF_A_PIECE;
 use crate::minutes::Minutes;
+use crate::open_result::OpenResult;
 use crate::passes::Passes;
-use crate::pending_result::{PendingResult, fetch, fetch_first, last_number, settle_last};
+use crate::pending_result::{PendingResult, fetch, fetch_first, open_last, settle_last};
 use crate::turn::{Turn, turn_on};
 use kernel_audit::{
     Answer, Ask, AuditFault, Beside, CommChange, Comms, Done, Entry, HallFault, HistoryName, Job,
@@ -36,13 +38,17 @@ use std::sync::ledger::{Book, Ledger, Share};
 
 /// The lock's value. Its type keeps that the book is the number of posts in the minutes, that the minutes are the history, that a shutdown is noted
 /// where the kernel closes, and that one pending result stands beside each post, of the wishes that are noted of it: those of the jobs that have ended
-/// are settled, and the others wait.
+/// are settled, but for the last one's while what is made for it is under way, and the others wait.
 #[derive(Drop)]
 pub struct State<W: Ledger, L: HistoryName> {
     kernel: Kernel<W>,
     comms: Comms,
     passes: Passes<L>,
     pending_results: Vec<PendingResult>,
+    /// How many of them are settled, the first ones.
+    settled: u64,
+    /// What is being made for the job that has ended last; none where all of it is there.
+    under_way: Option<OpenResult>,
     alloc: Global,
     book: Book<L>,
     history: Keeper<Entry, L>,
@@ -50,7 +56,8 @@ pub struct State<W: Ledger, L: HistoryName> {
     pub ghost counted: { book.total ≡ posted_in kernel.machine.minutes },
     pub ghost told: { map entry_of history ≡ kernel.machine.minutes },
     pub ghost closes: { has_shutdown notes ≡ kernel.machine.closing },
-    pub ghost beside: { ∥ AreBeside kernel.machine.minutes (wished_in notes) pending_results.items ∥₁ },
+    pub ghost beside: { ∥ AreBeside settled kernel.machine.minutes (wished_in notes) pending_results.items ∥₁ },
+    pub ghost results: { ∥ AreSettled settled kernel.machine (wished_in notes) under_way ∥₁ },
 }
 
 impl<W: Ledger, L: HistoryName> State<W, L> {
@@ -79,6 +86,8 @@ impl<W: Ledger, L: HistoryName> State<W, L> {
             comms,
             passes: Passes::new(rest),
             pending_results: Vec::new(alloc),
+            settled: 0,
+            under_way: None,
             alloc,
             book,
             history: history.keeper(),
@@ -110,8 +119,8 @@ impl<W: Ledger, L: HistoryName> State<W, L> {
         ensures legal { IsLegalMachine self.old.kernel.machine }
     {
         show_legal(&self.kernel);
+        self.see(pass);
         if let Some(fault) = self.kernel.post_fault() {
-            self.see(pass);
             return Err(fault);
         }
         match self.queue(pass, job, wishes) {
@@ -119,10 +128,7 @@ impl<W: Ledger, L: HistoryName> State<W, L> {
                 self.see(pass);
                 Ok(number)
             }
-            Err(fault) => {
-                self.see(pass);
-                Err(fault)
-            }
+            Err(fault) => Err(fault),
         }
     }
 
@@ -204,16 +210,19 @@ impl<W: Ledger, L: HistoryName> State<W, L> {
         Ok(number)
     }
 
-    /// One turn of the runner. In a turn that ends a job its shown text and its values are made; what stands beside other jobs stays.
+    /// One turn of the runner. In a turn that ends a job its shown text and the first of its values are made. What was under way of an earlier job is
+    /// finished first.
     pub fn turn(&mut self, bell: &Bell, runner: &mut RunnerSeat, m: u64) -> Turn
         requires own { runner.old.bell ≡ bell.now }
         requires room { runner.old.knows.serial < 2 ^ 64 - 1 }
         ensures turn { IsTurn self.old.kernel.machine runner.old m result self.new.kernel.machine runner.new }
         ensures legal { IsLegalMachine self.old.kernel.machine }
         ensures comms { self.new.comms ≡ self.old.comms }
-        ensures settled { OnTrue (ends_job result) (SettlesLast self.new.kernel.machine self.old.pending_results.items self.new.pending_results.items) }
-        ensures pending_results { OnFalse (ends_job result) (self.new.pending_results.items ≡ self.old.pending_results.items) }
+        ensures notes { self.new.notes ≡ self.old.notes }
+        ensures kept { AreKept self.old.settled self.old.pending_results.items self.new.pending_results.items }
+        ensures untold { AreUntold self.old.settled self.new.settled self.new.pending_results.items }
     {
+        self.finish();
         show_legal(&self.kernel);
         let State {
             kernel,
@@ -224,19 +233,92 @@ impl<W: Ledger, L: HistoryName> State<W, L> {
         if turn.is_end() {
             follow(history, kernel);
             show_legal(&self.kernel);
-            settle_last(self.alloc, &self.kernel, &mut self.pending_results);
+            let opened = open_last(self.alloc, &self.kernel, &mut self.pending_results);
+            self.under_way = Some(opened);
+            let _more = self.make();
         }
         turn
     }
 
-    /// What came of the job of this number; `None` where it has not ended, or where the first alone is to be told and was told already. What was made
-    /// as it ended is told once: of the wishes that are noted of its post.
+    /// Makes some more of what is under way for the job that has ended last; whether more may be left.
+    pub fn make(&mut self) -> bool
+        ensures kernel { self.new.kernel ≡ self.old.kernel }
+        ensures comms { self.new.comms ≡ self.old.comms }
+        ensures notes { self.new.notes ≡ self.old.notes }
+        ensures all { result ≡ false → self.new.under_way ≡ None }
+        ensures fewer { length (left_in self.new.under_way) ≡ length (left_in self.old.under_way) - WISHES_OF_A_PIECE }
+        // It answers that more may be left only where a whole piece was: so it comes to an end.
+        ensures some { result ≡ true → WISHES_OF_A_PIECE ≤ length (left_in self.old.under_way) }
+        ensures kept { AreKept self.old.settled self.old.pending_results.items self.new.pending_results.items }
+        ensures untold { AreUntold self.old.settled self.new.settled self.new.pending_results.items }
+        ensures legal { IsLegalMachine self.old.kernel.machine }
+    {
+        show_legal(&self.kernel);
+        let State {
+            kernel,
+            pending_results,
+            settled,
+            under_way,
+            alloc,
+            ..
+        } = self;
+        let Some(made) = under_way else {
+            return false;
+        };
+        if made.make(*alloc, kernel, WISHES_OF_A_PIECE) {
+            return true;
+        }
+        if let Some(made) = under_way.take() {
+            *settled = made.number;
+            settle_last(pending_results, made);
+        }
+        false
+    }
+
+    /// Makes all that is left of what is under way.
+    fn finish(&mut self)
+        ensures kernel { self.new.kernel ≡ self.old.kernel }
+        ensures comms { self.new.comms ≡ self.old.comms }
+        ensures notes { self.new.notes ≡ self.old.notes }
+        ensures all { self.new.under_way ≡ None }
+        ensures kept { AreKept self.old.settled self.old.pending_results.items self.new.pending_results.items }
+        ensures untold { AreUntold self.old.settled self.new.settled self.new.pending_results.items }
+    {
+        show_legal(&self.kernel);
+        let State {
+            kernel,
+            pending_results,
+            settled,
+            under_way,
+            alloc,
+            ..
+        } = self;
+        if let Some(mut made) = under_way.take() {
+            made.finish(*alloc, kernel);
+            *settled = made.number;
+            settle_last(pending_results, made);
+        }
+    }
+
+    /// Whether something is still made for a job that has ended.
+    pub fn is_making(&self) -> bool
+        ensures { result ≡ is_some self.now.under_way }
+    {
+        self.under_way.is_some()
+    }
+
+    /// What came of the job of this number; `None` where it has not ended, where what is made for it is under way, or where the first alone is to be told
+    /// and was told already. What was made as it ended is told once: of the wishes that are noted of its post.
     pub fn done(&mut self, number: u64, is_first: bool) -> Option<Done>
         ensures number { IfSome result (λ d. d.number ≡ number) }
         ensures end { IfSome result (HasEnd self.old.kernel.machine.minutes) }
         ensures told { IfSome result (λ d. IsTold self.old.kernel.machine.minutes self.old.pending_results.items number d self.new.pending_results.items) }
         ensures none { IfNone result (self.new.pending_results.items ≡ self.old.pending_results.items) }
-        ensures unended { IfNone result (is_first ≡ false → EndsNowhere self.old.kernel.machine.minutes number) }
+        ensures unended { IfNone result (is_first ≡ false → self.old.under_way ≡ None → EndsNowhere self.old.kernel.machine.minutes number) }
+        // Of what is settled the end is told, whatever is under way.
+        ensures settled { IfNone result (is_first ≡ false → number ≤ self.old.settled → EndsNowhere self.old.kernel.machine.minutes number) }
+        // To the first all is told that is settled and was not told.
+        ensures first { IfNone result (is_first ≡ true → WasTold self.old.settled self.old.pending_results.items number) }
         ensures made { IfSome result (λ d. is_first ≡ true → ∥ WereMade self.old.kernel.machine.minutes d.number d.outcome
             (get_or (wished_in self.old.notes) (number - 1) []) (option_map string_bytes d.shown) d.values.items ∥₁) }
         ensures notes { self.new.notes ≡ self.old.notes }
@@ -252,11 +334,11 @@ impl<W: Ledger, L: HistoryName> State<W, L> {
         }
     }
 
-    /// The number of the job whose end stands last in the minutes; 0 where no end does.
-    pub fn last_ended(&self) -> u64
-        ensures { result ≡ number_in (last_of self.now.kernel.machine.minutes) }
+    /// How many results are settled, those of the first jobs: the number of the job that was settled last.
+    pub fn settled(&self) -> u64
+        ensures { result ≡ self.now.settled }
     {
-        last_number(self.kernel.minutes())
+        self.settled
     }
 
     /// A new pass, with no posts, which has seen the minutes; `None` where all are given.
@@ -289,7 +371,7 @@ impl<W: Ledger, L: HistoryName> State<W, L> {
         self.kernel.minutes().len()
     }
 
-    /// Whether nothing is to be done.
+    /// Whether the kernel has nothing to do.
     pub fn is_idle(&self) -> bool
         ensures { IsTrue result ↔ (phase_of self.now.kernel.machine.state.job self.now.kernel.machine.queue ≡ Idle) }
     {

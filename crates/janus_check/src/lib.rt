@@ -13,6 +13,8 @@
 //! limits.
 //!
 //! It gives the slots of `janus_slots`, and the lemma on their stores, again: `janus_code` cites them.
+//!
+//! What `cell_names` tells is exact: a local's name stands for no declared name in its own statements.
 #![tactic(auto)]
 
 ghost use Rattle.janus_check.specs.WellFormed.{FaultsAreExact};

@@ -13,6 +13,8 @@
 //!
 //! It gives again what the layers above cite with flat code: how trees are read (`View` of `janus_syntax`), `Kind` of `janus_check`, and `Names` of
 //! `janus_names`, in which procedures have their numbers.
+//!
+//! Flat code tells how many slots it needs, which is a function of the cell and of the table of names.
 #![tactic(auto)]
 
 ghost use Rattle.janus_code.specs.Cells.{InverseCellTwice};

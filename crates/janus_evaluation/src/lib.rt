@@ -1,25 +1,15 @@
-//! The numbers of expressions, and what assignments, pushes, pops and swaps do to a store.
+//! What operators make of numbers, and why an expression has no number.
 //!
-//! To the layer above it promises that an expression of flat code has in a store the number, or the first fault, that the
-//! meaning gives it, and that an assignment changes its variable or element alone, a push or a pop its variable and its stack alone, a swap
-//! its two variables alone, and each of them nothing at a fault. Numbers have 32 bits
-//! in two's complement; operators are those of Janus (Yokoyama, Axelsen and Glück 2008), division truncates towards zero as
-//! in C.
+//! To the layers above it promises that an operator makes of two numbers what the meaning makes of them, or has its fault, and that each fault is read
+//! as that of the meaning. Numbers have 32 bits in two's complement; operators are those of Janus (Yokoyama, Axelsen and Glück 2008), division truncates
+//! towards zero as in C.
 //!
-//! It gives again what `janus_flat` cites of the store that it works on: `Values`, `Stores` and the lemma on lone writes of
-//! `janus_store`.
+//! Code reads all that a statement reads before it writes, where the meaning takes a name's value out, reads, and puts another one back: the lemmas of
+//! assignments (`Assigns`), swaps (`Swaps`), and pushes and pops (`Transfers`), in proofs/, say that this comes to the same.
 #![tactic(auto)]
 
-mod assignment;
-mod expression;
 mod fault;
-mod local;
 mod operator;
-mod transfer;
 
-pub use crate::assignment::{assign, assign_element};
-pub use crate::expression::{test, value};
 pub use crate::fault::ValueFault;
-pub use crate::local::{close_number, close_stack, open_number, open_stack};
 pub use crate::operator::{bit_of, changed, holds, negative, operate};
-pub use crate::transfer::{pop, push, swap};

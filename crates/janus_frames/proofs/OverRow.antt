@@ -10,7 +10,7 @@ use Rattle.janus_meaning.specs.Stepping as meaning
 use Rattle.janus_meaning.specs.Stepping.{Place, To, Halt, live, kept, frames_of}
 use Rattle.janus_memory.specs.Memory.{MemoryState, val_at, reached, stacks_among}
 use Rattle.janus_row.specs.Frames.{IsSeen}
-use Rattle.janus_row.specs.Over.{seen_of}
+use Rattle.janus_row.specs.Over.{cells_of, others_of, front_of}
 use Rattle.janus_row.specs.Rows.{instruction_at, body_at, sight_of}
 use Rattle.janus_row.specs.Slices.{EndsBy, IsSliced, IsStepTo, IsOneStep}
 use Rattle.janus_row.specs.Sound.{World, Sees, TakesStep, IsSound, IsSafeAhead, IsRefused}
@@ -31,12 +31,12 @@ use Rattle.janus_frames.proofs.Reading.{size-stored}
 use Rattle.janus_frames.proofs.Ran.{seen, room-is, callers-are, slots-are, in-again, stacks-are, values-are}
 
 seen-as : (n m v : ℕ) (s : Store) (o p q : ℕ) (t : Store) (a : MemoryState) → n ≡ o → m ≡ p → v ≡ q → s ≡ t
-    → IsSeen n m v s (seen_of a).cells (seen_of a).others → IsSeen o p q t (seen_of a).cells (seen_of a).others
+    → IsSeen n m v s (cells_of a) (others_of a) → IsSeen o p q t (cells_of a) (others_of a)
 seen-as n m v s o p q t a e f g h x =
-    subst (λ n. IsSeen n p q t (seen_of a).cells (seen_of a).others) e
-    (subst (λ m. IsSeen n m q t (seen_of a).cells (seen_of a).others) f
-    (subst (λ v. IsSeen n m v t (seen_of a).cells (seen_of a).others) g
-    (subst (λ s. IsSeen n m v s (seen_of a).cells (seen_of a).others) h x)))
+    subst (λ n. IsSeen n p q t (cells_of a) (others_of a)) e
+    (subst (λ m. IsSeen n m q t (cells_of a) (others_of a)) f
+    (subst (λ v. IsSeen n m v t (cells_of a) (others_of a)) g
+    (subst (λ s. IsSeen n m v s (cells_of a) (others_of a)) h x)))
 
 pub same-state : (g h : FramesState) → g.slots ≡ h.slots → g.callers ≡ h.callers → g.room ≡ h.room → g.writes ≡ h.writes → g ≡ h
 same-state g h a b c d =
@@ -66,13 +66,13 @@ module _ (m : MemoryState) (top : ℕ) (calls : List OpenCall) (i : AreIn m top 
   long = subst (λ (r : MemoryState). m.base + row.width ≤ length r.numbers) (sym reach) (reach-long m (m.base + row.width))
 
   -- the row has its cells
-  pub has-cells : row.width ≤ length (seen_of r).cells
+  pub has-cells : row.width ≤ length (cells_of r)
   has-cells = let l = long in let d = length-drop r.base r.numbers in let b = base-is in omega (arith, l, d, b)
 
   -- the row sees the names there
   pub start : (w : World) (k : ℕ) → w.sight k ≡ sight_of row k → size_of f.slots ≡ sight_of row k
       → stacks_there f ≡ live w.outside.stacks (frames_of (w.places k)) → values_lent f.callers ≡ kept w.outside.values (frames_of (w.places k))
-      → Sees w k f.slots (seen_of r).cells (seen_of r).others
+      → Sees w k f.slots (cells_of r) (others_of r)
   start w k sight size stacks values =
       let x = seen r top calls there wide in
       seen-as (top - r.base) (stacks_there f0) (values_lent f0.callers) f0.slots (w.sight k) (live w.outside.stacks (frames_of (w.places k)))
@@ -80,25 +80,25 @@ module _ (m : MemoryState) (top : ℕ) (calls : List OpenCall) (i : AreIn m top 
       (sym x.size ∙ ap (λ (f : FramesState). size_of f.slots) same ∙ size ∙ sym sight)
       (ap stacks_there same ∙ stacks) (ap (λ (f : FramesState). values_lent f.callers) same ∙ values) (ap (λ (f : FramesState). f.slots) same) x
 
-  module _ (free : r.spare + stacks_among r.contents ≡ live_stack_limit) (n : MemoryState) (before : (seen_of n).before ≡ (seen_of r).before)
-      (size : length (seen_of n).cells ≡ length (seen_of r).cells) (spare : n.spare + stacks_among n.contents ≡ live_stack_limit)
+  module _ (free : r.spare + stacks_among r.contents ≡ live_stack_limit) (n : MemoryState) (before : front_of n ≡ front_of r)
+      (size : length (cells_of n) ≡ length (cells_of r)) (spare : n.spare + stacks_among n.contents ≡ live_stack_limit)
       (w : World) (k : ℕ) (sight : w.sight k ≡ sight_of row k) (lt : k < length row.instructions.items) (s : Store)
-      (sees : Sees w k s (seen_of n).cells (seen_of n).others) where
+      (sees : Sees w k s (cells_of n) (others_of n)) where
     abbrev u : ℕ
     u = sight_of row k
 
     abbrev g : FramesState
     g = frames_in n (n.base + u) calls
 
-    at-u : IsSeen u (live w.outside.stacks (frames_of (w.places k))) (kept w.outside.values (frames_of (w.places k))) s (seen_of n).cells (seen_of n).others
+    at-u : IsSeen u (live w.outside.stacks (frames_of (w.places k))) (kept w.outside.values (frames_of (w.places k))) s (cells_of n) (others_of n)
     at-u = subst (λ n'. IsSeen n' (live w.outside.stacks (frames_of (w.places k))) (kept w.outside.values (frames_of (w.places k))) s
-        (seen_of n).cells (seen_of n).others) sight sees
+        (cells_of n) (others_of n)) sight sees
 
     own : own_names 0 f0.callers ≤ u
     own = subst (λ (f : FramesState). own_names 0 f.callers ≤ u) (sym same) (cells.own k lt)
 
     room : r.base + u ≤ length r.numbers
-    room = let l = long in let e = cells.sights k lt in let b = base-is in omega (arith, l, e, b)
+    room = let l = long in let e = cells.sights k lt in let s = cells.wide in let b = base-is in omega (arith, l, e, s, b)
 
     pub left-in : AreIn n (n.base + sight_of row k) calls
     left-in = in-again r top calls there wide free n before size spare u _ _ s at-u own room
@@ -139,13 +139,13 @@ module _ (m : MemoryState) (top : ℕ) (calls : List OpenCall) (i : AreIn m top 
 -- what contracts say of a slice and of one step
 abbrev pub SliceOf : (m n : MemoryState) (at many : ℕ) → Sliced → List Instruction → List Span → List Primitive → Type 0
 SliceOf m n at many out ins es qs =
-    (w : World) (s : Store) → IsSound w (length (seen_of m).cells) ins es qs → Sees w (body_at ins at) s (seen_of m).cells (seen_of m).others
-    → IsSafeAhead w many (w.places at) s → IsSliced w ins at s many out (seen_of n).cells (seen_of n).others
+    (w : World) (s : Store) → IsSound w (length (cells_of m)) ins es qs → Sees w (body_at ins at) s (cells_of m) (others_of m)
+    → IsSafeAhead w many (w.places at) s → IsSliced w ins at s many out (cells_of n) (others_of n)
 
 abbrev pub StepOf : (m n : MemoryState) (at : ℕ) → Result ℕ Stop → List Instruction → List Span → List Primitive → Type 0
 StepOf m n at out ins es qs =
-    (w : World) (s : Store) → TakesStep w (length (seen_of m).cells) ins es qs at → Sees w at s (seen_of m).cells (seen_of m).others
-    → meaning.step w.outside (w.places at) s ≢ Halt Broken → IsOneStep w ins at s out (seen_of n).cells (seen_of n).others
+    (w : World) (s : Store) → TakesStep w (length (cells_of m)) ins es qs at → Sees w at s (cells_of m) (others_of m)
+    → meaning.step w.outside (w.places at) s ≢ Halt Broken → IsOneStep w ins at s out (cells_of n) (others_of n)
 
 -- a fact of three lists, which are others
 pub of-lists : (P : List Instruction → List Span → List Primitive → Type 0) (ins jns : List Instruction) (es fs : List Span) (qs rs : List Primitive)
@@ -157,8 +157,8 @@ to-place p q s t e = cc
 
 module _ (m : MemoryState) (top : ℕ) (calls : List OpenCall) (i : AreIn m top calls) (row : Row) (cells : HasCellRoom row (frames_in m top calls))
     (r : MemoryState) (reach : r ≡ reached m (m.base + row.width)) (wide : length r.contents ≡ length r.numbers)
-    (free : r.spare + stacks_among r.contents ≡ live_stack_limit) (n : MemoryState) (before : (seen_of n).before ≡ (seen_of r).before)
-    (size : length (seen_of n).cells ≡ length (seen_of r).cells) (spare : n.spare + stacks_among n.contents ≡ live_stack_limit) where
+    (free : r.spare + stacks_among r.contents ≡ live_stack_limit) (n : MemoryState) (before : front_of n ≡ front_of r)
+    (size : length (cells_of n) ≡ length (cells_of r)) (spare : n.spare + stacks_among n.contents ≡ live_stack_limit) where
   -- ---- a slice
 
   module _ (at many : ℕ) (out : Sliced) (lt : body_at row.instructions.items out.at < length row.instructions.items)
@@ -170,8 +170,8 @@ module _ (m : MemoryState) (top : ℕ) (calls : List OpenCall) (i : AreIn m top 
     after = frames_in n (n.base + sight_of row k) calls
 
     sliced : (w : World) → IsRunnable w row at (undeclared (frames_in m top calls)) → IsSafeAhead w many (w.places at) (frames_in m top calls).slots
-        → IsSliced w row.instructions.items at (frames_in m top calls).slots many out (seen_of n).cells (seen_of n).others
-    sliced w a safe = slice w (frames_in m top calls).slots (a.sound (length (seen_of r).cells) (has-cells m top calls i row cells r reach wide))
+        → IsSliced w row.instructions.items at (frames_in m top calls).slots many out (cells_of n) (others_of n)
+    sliced w a safe = slice w (frames_in m top calls).slots (a.sound (length (cells_of r)) (has-cells m top calls i row cells r reach wide))
         (start m top calls i row cells r reach wide w (body_at row.instructions.items at) (a.sight (body_at row.instructions.items at))
         a.size a.stacks a.values) safe
 
@@ -223,15 +223,15 @@ module _ (m : MemoryState) (top : ℕ) (calls : List OpenCall) (i : AreIn m top 
 
   module _ (at : ℕ) (out : Result ℕ Stop) (step : StepOf r n at out row.instructions.items row.spans.items row.primitives.items) where
     stepped : (w : World) → IsRunnableOnce w row at (undeclared (frames_in m top calls))
-        → IsOneStep w row.instructions.items at (frames_in m top calls).slots out (seen_of n).cells (seen_of n).others
-    stepped w a = step w (frames_in m top calls).slots (a.step (length (seen_of r).cells) (has-cells m top calls i row cells r reach wide))
+        → IsOneStep w row.instructions.items at (frames_in m top calls).slots out (cells_of n) (others_of n)
+    stepped w a = step w (frames_in m top calls).slots (a.step (length (cells_of r)) (has-cells m top calls i row cells r reach wide))
         (start m top calls i row cells r reach wide w at (a.sight at) a.size a.stacks a.values) (λ e. a.safe e)
 
     -- it is taken, and the place q is next
     module _ (q : ℕ) (is : out ≡ Ok q) (lt : body_at row.instructions.items q < length row.instructions.items) where
       taken : (w : World) → IsRunnableOnce w row at (undeclared (frames_in m top calls))
-          → IsStepTo w row.instructions.items at (frames_in m top calls).slots q (seen_of n).cells (seen_of n).others
-      taken w a = subst (λ out. IsOneStep w row.instructions.items at (frames_in m top calls).slots out (seen_of n).cells (seen_of n).others) is (stepped w a)
+          → IsStepTo w row.instructions.items at (frames_in m top calls).slots q (cells_of n) (others_of n)
+      taken w a = subst (λ out. IsOneStep w row.instructions.items at (frames_in m top calls).slots out (cells_of n) (others_of n)) is (stepped w a)
 
       pub step-in : (w : World) → IsRunnableOnce w row at (undeclared (frames_in m top calls))
           → AreIn n (n.base + sight_of row (body_at row.instructions.items q)) calls
@@ -266,8 +266,8 @@ module _ (m : MemoryState) (top : ℕ) (calls : List OpenCall) (i : AreIn m top 
     module _ (stop : Stop) (is : out ≡ Err stop) (there : at < length row.instructions.items) where
       refused : (w : World) → IsRunnableOnce w row at (undeclared (frames_in m top calls))
           → IsRefused w (instruction_at row.instructions.items at).op (w.places at) (frames_in m top calls).slots stop
-          × Sees w at (frames_in m top calls).slots (seen_of n).cells (seen_of n).others
-      refused w a = subst (λ out. IsOneStep w row.instructions.items at (frames_in m top calls).slots out (seen_of n).cells (seen_of n).others) is (stepped w a)
+          × Sees w at (frames_in m top calls).slots (cells_of n) (others_of n)
+      refused w a = subst (λ out. IsOneStep w row.instructions.items at (frames_in m top calls).slots out (cells_of n) (others_of n)) is (stepped w a)
 
       -- as many names are in sight there
       top-is : (w : World) → IsRunnableOnce w row at (undeclared (frames_in m top calls)) → n.base + sight_of row at ≡ top

@@ -11,7 +11,7 @@ use Rattle.janus_memory.specs.Memory.{MemoryState, Content, Plain, HasArray, Has
 use Rattle.janus_memory.specs.Memory.{stack_count, value_count, stacks_among, values_among}
 use Rattle.janus_row.specs.Seen.{Others, cell, content}
 use Rattle.janus_row.specs.Frames.{IsVal, Holds, IsSeen}
-use Rattle.janus_row.specs.Over.{seen_of}
+use Rattle.janus_row.specs.Over.{cells_of, others_of, front_of}
 use Rattle.janus_row.proofs.Memories.{number_is, content_is}
 use Rattle.janus_frames.specs.Calls.{slots_of, own_names, stacks_lent, values_lent}
 use Rattle.janus_frames.specs.Cells.{stored, from, IsPresent}
@@ -102,10 +102,10 @@ module _ (m : MemoryState) (u : ℕ) (above : (p : ℕ) → m.base + u ≤ p →
 
 module _ (m : MemoryState) where
   abbrev cs : List ℤ
-  cs = (seen_of m).cells
+  cs = cells_of m
 
   abbrev os : Others
-  os = (seen_of m).others
+  os = others_of m
 
   val-there : (k : ℕ) (n : ℤ) (c : Content) → content os k ≡ c → cell cs k ≡ n → IsPresent (val_of n c) → IsVal (val_of n c) cs os k
   val-there k n Plain e g p = (e, g)
@@ -119,7 +119,7 @@ module _ (m : MemoryState) where
       let s = size-stored (from (val_at m) m.base) u in (
         ap slot (sym s),
         subst (IsVal (val_at m (m.base + u)) cs os) (sym s)
-            (val-there u (number_at m (m.base + u)) (content_at m (m.base + u)) (content_is m u) (number_is m u) (h u (omega arith))),
+            (val-there u (number_at m (m.base + u)) (content_at m (m.base + u)) (content_is 0 0 m u) (number_is 0 0 m u) (h u (omega arith))),
         holds-stored u (λ k lt. h k (omega (arith, lt))),
       )
 
@@ -131,7 +131,7 @@ module _ (m : MemoryState) where
 
   val-here : (v : Val) (k : ℕ) → IsVal v cs os k → v ≡ val_at m (m.base + k)
   val-here v k h =
-      val-is v k h ∙ ap (λ n. val_of n (content os k)) (number_is m k) ∙ ap (val_of (number_at m (m.base + k))) (content_is m k)
+      val-is v k h ∙ ap (λ n. val_of n (content os k)) (number_is 0 0 m k) ∙ ap (val_of (number_at m (m.base + k))) (content_is 0 0 m k)
 
   pub stored-held : (s : Store) → Holds cs os s → s ≡ stored (from (val_at m) m.base) (size_of s)
   stored-held Bare h = refl
@@ -165,11 +165,11 @@ enough-own v b n (c ∷ calls) h = let m = as-many (slots_of c.args) in omega (a
 module _ (m : MemoryState) (top : ℕ) (calls : List OpenCall) (i : AreIn m top calls) (wide : length m.contents ≡ length m.numbers) where
   -- it sees the names with their values
   pub seen : IsSeen (top - m.base) (stacks_there (frames_in m top calls)) (values_lent (frames_in m top calls).callers)
-      (frames_in m top calls).slots (seen_of m).cells (seen_of m).others
+      (frames_in m top calls).slots (cells_of m) (others_of m)
   seen = record {
     size = size-stored (from (val_at m) m.base) (top - m.base);
     slots = holds-stored m (top - m.base) i.frames.present;
-    above = λ k le. content_is m k ∙ i.above (m.base + k) (let o = i.frames.order in omega (arith, le, o));
+    above = λ k le. content_is 0 0 m k ∙ i.above (m.base + k) (let o = i.frames.order in omega (arith, le, o));
     wide = let a = length-drop m.base m.contents in let b = length-drop m.base m.numbers in omega (arith, a, b, wide);
     spare = i.counted.stacks;
     held = let c = i.counted.values in omega (arith, c);
@@ -193,9 +193,9 @@ module _ (m : MemoryState) (top : ℕ) (calls : List OpenCall) (i : AreIn m top 
         omega (arith, a, c)
 
     -- It ran: all in front is as it was, and u names have the values of the store s. Of all cells there are as many.
-    module _ (n : MemoryState) (before : (seen_of n).before ≡ (seen_of m).before) (size : length (seen_of n).cells ≡ length (seen_of m).cells)
+    module _ (n : MemoryState) (before : front_of n ≡ front_of m) (size : length (cells_of n) ≡ length (cells_of m))
         (spare : n.spare + stacks_among n.contents ≡ live_stack_limit) (u : ℕ) (stacks values : ℕ) (s : Store)
-        (sees : IsSeen u stacks values s (seen_of n).cells (seen_of n).others) (own : own_names 0 (frames_in m top calls).callers ≤ u)
+        (sees : IsSeen u stacks values s (cells_of n) (others_of n)) (own : own_names 0 (frames_in m top calls).callers ≤ u)
         (room : m.base + u ≤ length m.numbers) where
       base-is : n.base ≡ m.base
       base-is = ap (λ b. b.base) before
@@ -228,7 +228,7 @@ module _ (m : MemoryState) (top : ℕ) (calls : List OpenCall) (i : AreIn m top 
       behind : (p : ℕ) → n.base + u ≤ p → content_at n p ≡ Plain
       behind p le =
           let z : n.base + (p - n.base) ≡ p = omega (arith, le) in
-          sym (ap (content_at n) z) ∙ sym (content_is n (p - n.base)) ∙ sees.above (p - n.base) (omega (arith, le))
+          sym (ap (content_at n) z) ∙ sym (content_is 0 0 n (p - n.base)) ∙ sees.above (p - n.base) (omega (arith, le))
 
       pub callers-are : (frames_in n (n.base + u) calls).callers ≡ (frames_in m top calls).callers
       callers-are = ran-callers m n top u calls i base-is front enough

@@ -90,7 +90,8 @@ module _ (f : FramesState) (d : ℕ) (ts : List Name) (h : AreHeld f d ts) (row 
   -- the cells of the row have room
   pub cell-room : HasCellRoom row f
   cell-room = record {
-    sights = λ k lt. let s = room.sights k lt in let w = room.wide in omega (arith, s, w);
+    sights = λ k lt. room.sights k lt;
+    wide = room.wide;
     own = λ k lt. let o = room.own k lt in let l = own-least d f.callers in omega (arith, o, l);
     cells = let p = params-few f.callers h.short in let n = h.calls in let r = h.room in
         let w = room.width in let l = room.names in omega (arith, p, n, r, w, l);

@@ -30,7 +30,8 @@ use crate::moves::{give_back, lend};
 use crate::value::Declared;
 use janus_memory::{Kind, Memory, Tally, ValueView};
 use janus_row::code::Row;
-use janus_row::slice::{Sliced, body_of, slice, take_one};
+use janus_row::over::{slice_over, take_one_over};
+use janus_row::slice::{Sliced, body_of};
 use janus_row::{Stop, fits_wider_law};
 use std::alloc::{AllocError, Global};
 use std::marker::Model;
@@ -357,7 +358,7 @@ impl<L: Ledger> Frames<L> {
     /// Up to m steps of a row from a place, over the names in sight. Its results take the cells behind them.
     pub(crate) fn run(&mut self, row: &Row, at: usize, m: u64) -> Sliced
         requires row { IsRow row.now.instructions.items }
-        requires fits { Fits row.now.width row.now.instructions.items row.now.spans.items row.now.primitives.items }
+        requires fits { Fits row.now.names row.now.width row.now.instructions.items row.now.spans.items row.now.primitives.items }
         requires stands { at < length row.now.instructions.items }
         requires few { m + 4294967296 < 2 ^ 64 }
         requires room { HasCellRoom row.now self.old }
@@ -375,10 +376,11 @@ impl<L: Ledger> Frames<L> {
         self.memory.law();
         self.memory.reach(base + row.width as usize);
         self.memory.law();
-        let sliced = slice(
+        let sliced = slice_over(
             &row.instructions,
             &row.spans,
             &row.primitives,
+            row.names,
             at,
             &mut self.memory,
             m,
@@ -391,7 +393,7 @@ impl<L: Ledger> Frames<L> {
     /// The step of one instruction of a row, which is no tick; where it is not taken, the names stay.
     pub(crate) fn run_one(&mut self, row: &Row, at: usize) -> Result<usize, Stop>
         requires row { IsRow row.now.instructions.items }
-        requires fits { Fits row.now.width row.now.instructions.items row.now.spans.items row.now.primitives.items }
+        requires fits { Fits row.now.names row.now.width row.now.instructions.items row.now.spans.items row.now.primitives.items }
         requires body { IsBody row.now.instructions.items at }
         requires room { HasCellRoom row.now self.old }
         requires sound { (w : World) × IsRunnableOnce w row.now at (undeclared self.old) }
@@ -407,10 +409,11 @@ impl<L: Ledger> Frames<L> {
         self.memory.law();
         self.memory.reach(base + row.width as usize);
         self.memory.law();
-        let taken = take_one(
+        let taken = take_one_over(
             &row.instructions,
             &row.spans,
             &row.primitives,
+            row.names,
             at,
             &mut self.memory,
         );

@@ -1,15 +1,14 @@
 //! The store by frames of cells: the declared names with their numbers, arrays and stacks, in the order of declaration, and above them the parameters
 //! of open calls and the open locals.
 //!
-//! **No program runs over it yet.** The machine runs over `janus_store`, whose place this crate is to take.
-//!
 //! To the layer above it promises a map: the k-th name in sight, the oldest being 0, is read and written by its number k, whatever its kind, and a
 //! write changes no other name. The name of a number is its `slot` of `janus_slots`, so what runs compares no text. A call is entered by moving the
 //! values of its arguments to its parameters, and left by moving them back, as the meaning takes and fills them: while it is open the caller's names
 //! lend those values. A move is no write: the store counts each change of a number, an element or a stack, and nothing else, in a ledger of which
 //! there is one store. A declared name is shown with the value that it has now, which is followed inwards through the arguments of the open calls.
 //! A row of `janus_row` is run over the names in sight as they stand: `run` takes as many steps of the meaning as it is told to, and `run_one` that of one
-//! instruction, wherever the row takes the steps of the meaning; the callers' names stay.
+//! instruction, wherever the row takes the steps of the meaning; the callers' names stay. A row keeps results behind all cells for names, so what it does to
+//! those it does by counted writes; the number that it opens a local with is one of them.
 //! The memory of all stacks, calls, locals, parameters and results is taken with the store, and after that only a declared name takes memory. Which faults
 //! there are is the caller's affair: each call says what must hold, and the store offers the test.
 //! Contracts see what is in sight as a store of `janus_meaning`, and the open calls as the stores that they left behind, where just their arguments

@@ -1,6 +1,6 @@
-pub mod BlocksOver
-pub mod Statements
-pub mod Acts
+pub mod LaidCode
+pub mod Sites
+pub mod Laid
 pub mod Places
 pub mod Mirrored
 pub mod Turns
@@ -10,11 +10,11 @@ pub mod Bodies
 pub mod Nested
 pub mod Cursor
 pub mod Cursors
-pub mod Moved
 pub mod Counts
 pub mod CountedStore
 pub mod Open
 pub mod Calls
+pub mod Pause
 pub mod Steps
 pub mod Law
 -- Of janus_linear, given again.

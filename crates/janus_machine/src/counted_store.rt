@@ -1,9 +1,9 @@
 //! A store with the count of the steps that were taken over it.
 
 ghost use Rattle.std.specs.Prelude.{◌≡◌, ◌+◌, ◌<◌, IfOk};
-ghost use Rattle.janus_store.specs.StoreState.{empty_state};
+ghost use Rattle.janus_frames.specs.StoreState.{empty_state};
 
-use janus_store::{Store, Tally};
+use janus_frames::{Store, Tally};
 use std::alloc::{AllocError, Global};
 use std::sync::ledger::{Blank, Ledger};
 

@@ -1,27 +1,16 @@
 //! A place in code.
 
 ghost use Rattle.std.specs.Prelude.{◌≡◌, ◌+◌, ◌-◌, ◌≤◌, ◌<◌, ◌^◌, ℕ, List, [], true, false, IfOk, vec_capacity};
-ghost use Rattle.janus_meaning.specs.Syntax.{Name};
 ghost use Rattle.janus_meaning.specs.Stepping.{BeforeBlock as Before};
 ghost use Rattle.janus_meaning.specs.Limit.{step_limit};
-ghost use Rattle.janus_code.specs.CodeBlock.{code_block};
-ghost use Rattle.janus_linear.specs.Layout.{block_size};
-ghost use Rattle.janus_store.specs.StoreState.{call_limit};
+ghost use Rattle.janus_frames.specs.Limits.{call_limit};
 
 use crate::book::Book;
-use crate::linked_code::Direction;
+use crate::direction::Direction;
 use crate::running::running;
-use janus_linear::Linear;
+use janus_frames::CALL_LIMIT;
 use janus_meaning::limit::STEP_LIMIT;
-use janus_store::CALL_LIMIT;
 use std::alloc::{AllocError, Global};
-
-/// The last place of code.
-pub(crate) fn last(linear: &Linear) -> usize
-    ensures { (xs : List Name) → result ≡ block_size (code_block xs linear.now.code) - 1 }
-{
-    linear.instructions.len().saturating_sub(1)
-}
 
 /// An open call.
 #[derive(Clone, Copy)]
@@ -54,9 +43,10 @@ pub struct Cursor {
 }
 
 impl Cursor {
-    ghost use Rattle.janus_store.specs.StoreState.{StoreState, Caller};
+    ghost use Rattle.janus_frames.specs.StoreState.{StoreState};
+    ghost use Rattle.janus_frames.specs.Calls.{Caller};
     ghost use Rattle.janus_machine.specs.declared.procedures.Procedures as declared;
-    ghost use Rattle.janus_machine.specs.declared.linked_code.Direction.TheVariants.{Forward, Inverse};
+    ghost use Rattle.janus_machine.specs.declared.direction.Direction.TheVariants.{Forward, Inverse};
     ghost use Rattle.janus_machine.specs.Places.{block_in};
     ghost use Rattle.janus_machine.specs.Cursors.{place_of, has_ended, IsStanding};
     ghost use Rattle.janus_machine.specs.Counts.{counted, IsAtEntry, TurnsRound};
@@ -89,14 +79,14 @@ impl Cursor {
     /// Goes before the block of a book's code. No call is open then.
     pub fn enter(&mut self, book: &Book<'_>)
         ensures stands { (t : declared.Procedures) (h : StoreState) → h.callers ≡ [] → IsStanding t book.now.code.now self.new h }
-        ensures place { (xs : List Name) (t : declared.Procedures) (hs : List Caller) →
-            place_of xs t book.now.code.now self.new hs ≡ Before (block_in xs book.now.code.now Forward) [] }
+        ensures place { (t : declared.Procedures) (hs : List Caller) →
+            place_of t book.now.code.now self.new hs ≡ Before (block_in book.now.code.now Forward) [] }
         ensures counts { IsAtEntry self.new }
     {
         self.calls.clear();
         self.used = 0;
         self.direction = Direction::Forward;
-        self.to_go = last(&book.code.forward);
+        self.to_go = book.code.forward.last();
         self.count = 0;
         self.turned = false;
     }
@@ -104,14 +94,14 @@ impl Cursor {
     /// Goes before the block of a book's inverse code. No call is open then.
     pub fn enter_inverse(&mut self, book: &Book<'_>)
         ensures stands { (t : declared.Procedures) (h : StoreState) → h.callers ≡ [] → IsStanding t book.now.code.now self.new h }
-        ensures place { (xs : List Name) (t : declared.Procedures) (hs : List Caller) →
-            place_of xs t book.now.code.now self.new hs ≡ Before (block_in xs book.now.code.now Inverse) [] }
+        ensures place { (t : declared.Procedures) (hs : List Caller) →
+            place_of t book.now.code.now self.new hs ≡ Before (block_in book.now.code.now Inverse) [] }
         ensures counts { IsAtEntry self.new }
     {
         self.calls.clear();
         self.used = 0;
         self.direction = Direction::Inverse;
-        self.to_go = last(&book.code.inverse);
+        self.to_go = book.code.inverse.last();
         self.count = 0;
         self.turned = false;
     }
@@ -131,8 +121,8 @@ impl Cursor {
         ensures agrees { AgreesMirrored book.now.procedures.now book.now.code.now self.old self.new }
         ensures counts { TurnsRound self.old self.new }
     {
-        let linear = running(book.procedures, book.code, &self.calls).linear(self.direction);
-        self.to_go = last(linear).saturating_sub(self.to_go);
+        let code = running(book.procedures, book.code, &self.calls).laid(self.direction);
+        self.to_go = code.last().saturating_sub(self.to_go);
         self.direction = self.direction.opposite();
         self.turned = !self.turned;
     }

@@ -1,7 +1,5 @@
 //! The cells of all frames of names, with all arrays and stacks: the lowest layer of a store.
 //!
-//! **No program runs over it yet.**
-//!
 //! To the layer above it promises cells: each has a number, and beside it an array, a stack or nothing. What reads and writes a number looks at
 //! nothing else, so it may run over any cell, and what asks for an array or a stack finds an empty one where there is none. A frame is in sight, and
 //! its cells are called by their numbers from its first one on. An array or a stack is in one cell alone, and is moved as its index. It counts each

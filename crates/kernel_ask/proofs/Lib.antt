@@ -6,7 +6,8 @@ pub mod Joined
 pub mod Known
 pub mod Named
 pub mod Names
-pub mod Slotted
+pub mod Values
+pub mod Sizes
 pub mod Sound
 pub mod Walk
 pub mod Numbers

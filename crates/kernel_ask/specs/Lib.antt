@@ -10,7 +10,7 @@ pub mod Judgement
 pub mod EndedAt
 pub mod Wishes
 pub mod Evaluation
-pub mod Slotted
+pub mod Making
 pub mod Comms
 pub mod Completion
 pub mod HallFault
@@ -28,6 +28,11 @@ pub use Rattle.kernel_text.specs.MachineCode
 pub use Rattle.kernel_text.specs.State as CoreState
 pub use Rattle.kernel_text.specs.Minutes
 pub use Rattle.kernel_text.specs.outcome
+pub use Rattle.kernel_text.specs.Begins
+pub use Rattle.kernel_text.specs.Slices
+pub use Rattle.kernel_text.specs.progress
+pub use Rattle.kernel_text.specs.heading
+pub use Rattle.kernel_text.specs.travel
 pub use Rattle.kernel_text.specs.minutes
 pub use Rattle.kernel_text.specs.Refusal
 pub use Rattle.kernel_text.specs.PostFault

@@ -2,13 +2,13 @@
 ghost use Rattle.std.specs.Prelude.{IfOk};
 ghost use Rattle.std.specs.Str.{chars};
 ghost use Rattle.kernel_ask.specs.Completion.{IsCompletion};
-ghost use Rattle.janus_store.specs.StoreState.{shown_store};
+ghost use Rattle.janus_frames.specs.StoreState.{shown_store};
 ghost use Rattle.kernel_text.specs.Defined.{in_a_row};
 
 use crate::answer::Completion;
 use crate::cursor::prefix_at;
 use crate::matches::matches_of;
-use janus_store::Store;
+use janus_frames::Store;
 use janus_syntax::tree::Procedure;
 use std::alloc::{AllocError, Global};
 use std::sync::ledger::Ledger;

@@ -5,10 +5,10 @@ ghost use Rattle.janus_meaning.specs.Store.{look, find};
 ghost use Rattle.kernel_ask.specs.Cursor.{word_at as word_at_of};
 ghost use Rattle.kernel_ask.specs.Inspection.{value_told, procedure_told, both_told, inspection};
 ghost use Rattle.kernel_text.specs.Defined.{in_a_row};
-ghost use Rattle.janus_store.specs.StoreState.{shown_store};
+ghost use Rattle.janus_frames.specs.StoreState.{shown_store};
 
 use crate::cursor::word_at;
-use janus_store::Store;
+use janus_frames::Store;
 use janus_syntax::tree::Procedure;
 use kernel_text::{newest_of, procedure_text, value_text};
 use std::alloc::{AllocError, Global};

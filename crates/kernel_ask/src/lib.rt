@@ -9,10 +9,12 @@
 //!
 //! In reading order: `answer` (questions and answers), `ask` (the answers over a lent kernel), and each of them: `cursor`, `matches` and
 //! `completion`, `inspection`, `judgement`, `inputs`, `tail` and `input_history`, `standing` (the state). Then what is told of a job that ended:
-//! `done`, `shown`, `wish` and `evaluation`, `ending` (what is made as it ends), `lines`. `comms` and `comm_change` are the open comms, `limit` what
-//! several crates test, `laws` the laws.
+//! `done`, `shown`, `wish`, `number` and `evaluation`, `making` (the values of many, with stops between), `ending` (what is made as it ends), `lines`.
+//! `comms` and `comm_change` are the open comms, `limit` what several crates test, `laws` the laws.
 //!
 //! It gives again what the layers above cite of `kernel_text` and of `kernel_core`, so that most of them name this crate alone.
+//!
+//! A cursor is counted in code points. Names are told once each, in the order of their octets. A history is of the present session alone.
 #![tactic(auto)]
 
 mod answer;
@@ -31,7 +33,9 @@ mod judgement;
 pub mod laws;
 mod limit;
 mod lines;
+mod making;
 mod matches;
+mod number;
 mod shown;
 mod standing;
 mod tail;
@@ -47,10 +51,11 @@ pub use crate::inputs::{HistoryAsk, Input};
 pub use crate::judgement::{Completeness, is_complete};
 pub use crate::limit::COMM_LIMIT;
 pub use crate::lines::exp_fault_line;
+pub use crate::making::Making;
 pub use crate::standing::{is_settled, stands_at_end, state};
 pub use crate::wish::Wish;
 pub use kernel_text::{
     Begun, CellText, CheckFault, Entry, Fault, Job, Kernel, Outcome, Phase, PostFault, Refusal,
-    SHOWN_VALUES, STEPS_OF_A_SLICE, Sliced, SyntaxFault, TravelEnd, outcome_line, post_fault_line,
-    procedure_text, value_text,
+    SHOWN_VALUES, STEPS_OF_A_SLICE, Sliced, StackView, SyntaxFault, TravelEnd, ValueView,
+    outcome_line, post_fault_line, procedure_text, value_text,
 };

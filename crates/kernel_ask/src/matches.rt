@@ -9,9 +9,9 @@ ghost use Rattle.kernel_ask.specs.Added.{with_match, with_matches};
 ghost use Rattle.kernel_text.specs.Procedures.{procedure_names};
 ghost use Rattle.kernel_ask.specs.Matches.{names_of, AreMatches};
 ghost use Rattle.kernel_text.specs.Defined.{in_a_row};
-ghost use Rattle.janus_store.specs.StoreState.{shown_store};
+ghost use Rattle.janus_frames.specs.StoreState.{shown_store};
 
-use janus_store::Store;
+use janus_frames::Store;
 use janus_syntax::token::{KEYWORDS, Keyword};
 use janus_syntax::tree::Procedure;
 use std::alloc::{AllocError, Global};

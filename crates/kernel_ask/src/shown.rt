@@ -2,17 +2,17 @@
 ghost use Rattle.std.specs.Prelude.{◌≡◌, [], ◌∷◌, ◌++◌, map, string_bytes, option_map, IfOk, OnOk};
 ghost use Rattle.std.specs.List.{filter, join_with_byte};
 ghost use Rattle.janus_meaning.specs.World.{listed};
-ghost use Rattle.janus_store.specs.Values.{shown};
+ghost use Rattle.kernel_text.specs.Values.{shown};
 ghost use Rattle.janus_syntax.specs.Tree.{cell_view};
 ghost use Rattle.janus_check.specs.Naming.{in_cell};
 ghost use Rattle.kernel_text.specs.ValueTexts.{value_text as value_text_of};
 ghost use Rattle.kernel_ask.specs.Shown.{shown_text};
-ghost use Rattle.janus_store.specs.StoreState.{shown_store};
+ghost use Rattle.janus_frames.specs.StoreState.{shown_store};
 
 use janus_check::cell_names;
-use janus_store::{Store, ValueView};
+use janus_frames::Store;
 use janus_syntax::tree::Cell;
-use kernel_text::value_text;
+use kernel_text::{ValueView, value_text};
 use std::alloc::{AllocError, Global};
 use std::sync::ledger::Ledger;
 

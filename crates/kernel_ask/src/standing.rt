@@ -5,10 +5,10 @@ ghost use Rattle.kernel_text.specs.State.{Idle};
 ghost use Rattle.kernel_text.specs.ValueTexts.{value_text as value_text_of};
 ghost use Rattle.kernel_ask.specs.EndedAt.{StandsAtEnd};
 ghost use Rattle.kernel_ask.specs.State.{is_busy as is_busy_of, IsState};
-ghost use Rattle.janus_store.specs.StoreState.{shown_store};
+ghost use Rattle.janus_frames.specs.StoreState.{shown_store};
 
 use crate::answer::KernelState;
-use janus_store::Store;
+use janus_frames::Store;
 use kernel_text::{Kernel, Outcome, Phase, value_text};
 use std::alloc::{AllocError, Global};
 use std::sync::ledger::Ledger;

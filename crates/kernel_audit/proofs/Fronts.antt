@@ -1,12 +1,12 @@
 -- What was seen of the minutes stands in what is seen later.
-use Rattle.std.proofs.Common.{ℕ, ◌+◌, suc, List, [], ◌∷◌, ◌++◌, map, refl, sym, ap, ◌∙◌, append_assoc}
+use Rattle.std.proofs.Common.{◌≡◌, ◌≤◌, ◌<◌, ℕ, ◌+◌, suc, List, [], ◌∷◌, ◌++◌, length, map, refl, sym, ap, subst, ◌∙◌, append_assoc, length-append, arith}
 use mathlib.Core.List.{IsPrefix, map-append}
 use Rattle.kernel_ask.specs.Request.{Request}
 use Rattle.kernel_ask.specs.Minutes.{Entry, Post, Posted, posts_of, posted_in, IsNumberOf}
 use Rattle.kernel_ask.proofs.Posts.{posts-append}
 use Rattle.kernel_ask.specs.Wishes.{WishOf}
 use Rattle.kernel_audit.specs.Passes.{PassOf, AreLegal, HasSeen, HasPosted}
-use Rattle.kernel_audit.proofs.Noted.{wished_stays}
+use Rattle.kernel_audit.proofs.Noted.{wished_stays, open_before}
 
 pub prefix_map : {A B : Type 0} (f : A → B) (xs ys : List A) → IsPrefix xs ys → IsPrefix (map f xs) (map f ys)
 prefix_map f xs ys p = (map f p.0, sym (map-append f xs p.0) ∙ ap (map f) p.1)
@@ -40,4 +40,29 @@ posted_on old mid new job given number p s legal = record {
   legal = legal;
   wished = wished_stays mid.notes new.notes number given s.noted p.wished;
   posted = number_stays mid.front new.front number (record { lane = old.lane; job = job }) s.onward p.posted;
+  fresh = p.fresh;
 }
+
+-- who has seen more sees no fewer posts
+pub more_posts : (xs ys : List Entry) → IsPrefix xs ys → posted_in xs ≤ posted_in ys
+more_posts xs ys p =
+    let all : posts_of ys ≡ posts_of xs ++ posts_of p.0 = ap posts_of (sym p.1) ∙ posts-append xs p.0 in
+    let count : posted_in ys ≡ length (posts_of xs ++ posts_of p.0) = ap length all in
+    omega (arith, count, length-append (posts_of xs) (posts_of p.0))
+
+-- who saw on and then has posted has posted
+pub posted_behind : (start old new : PassOf) (job : Request) (given : List WishOf) (number : ℕ) → HasSeen start old → HasPosted old job given number new →
+    HasPosted start job given number new
+posted_behind start old new job given number s p =
+    let fewer : posted_in start.front ≤ posted_in old.front = more_posts start.front old.front s.onward in
+    let above : posted_in old.front < number = p.fresh in record {
+      lane = p.lane ∙ s.lane;
+      posts = p.posts ∙ ap (λ (n : ℕ). n + 1) s.posts;
+      onward = prefix_trans start.front old.front new.front s.onward p.onward;
+      noted = prefix_trans start.notes old.notes new.notes s.noted p.noted;
+      serves = open_before start.notes old.notes s.noted p.serves;
+      legal = p.legal;
+      wished = p.wished;
+      posted = subst (λ (lane : ℕ). IsNumberOf new.front number (record { lane = lane; job = job })) s.lane p.posted;
+      fresh = omega (arith, fewer, above);
+    }

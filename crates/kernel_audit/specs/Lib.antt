@@ -16,6 +16,7 @@ pub use Rattle.kernel_ask.specs.Wishes
 pub use Rattle.kernel_ask.specs.EndedAt
 pub use Rattle.kernel_ask.specs.Shown
 pub use Rattle.kernel_ask.specs.Evaluation
+pub use Rattle.kernel_ask.specs.Making
 -- Of kernel_core, given again.
 pub use Rattle.kernel_ask.specs.Runs
 pub use Rattle.kernel_ask.specs.LegalMinutes
@@ -26,3 +27,8 @@ pub use Rattle.kernel_ask.specs.CoreState as State
 pub use Rattle.kernel_ask.specs.Request
 pub use Rattle.kernel_ask.specs.Minutes
 pub use Rattle.kernel_ask.specs.outcome
+pub use Rattle.kernel_ask.specs.Begins
+pub use Rattle.kernel_ask.specs.Slices
+pub use Rattle.kernel_ask.specs.progress
+pub use Rattle.kernel_ask.specs.heading
+pub use Rattle.kernel_ask.specs.travel

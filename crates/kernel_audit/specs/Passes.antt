@@ -1,7 +1,7 @@
 -- What contracts see of a pass, what it sees and posts, and the tickets of its posts.
-use Rattle.std.specs.Prelude.{◌≡◌, ℕ, ◌+◌, ◌-◌, false, List, Some, slice_get}
+use Rattle.std.specs.Prelude.{◌≡◌, ◌<◌, ℕ, ◌+◌, ◌-◌, false, List, Some, slice_get}
 use mathlib.Core.List.{IsPrefix}
-use Rattle.kernel_ask.specs.Minutes.{Entry, IsNumberOf}
+use Rattle.kernel_ask.specs.Minutes.{Entry, IsNumberOf, posted_in}
 use Rattle.kernel_ask.specs.Request.{Request}
 use Rattle.kernel_ask.specs.Runs.{Machine}
 use Rattle.kernel_ask.specs.LegalMinutes.{IsLegalMachine}
@@ -37,7 +37,8 @@ abbrev pub IsWished : List Note → ℕ → List WishOf → Type 0
 IsWished notes number given = slice_get (wished_in notes) (number - 1) ≡ Some given
 
 -- the pass has posted this job, and counted it; it had seen no shutdown. What it has seen now are the minutes of a legal kernel: what it had seen is a
--- beginning of them, and its post stands there, with its lane and this job, at this number, under which its wishes are noted
+-- beginning of them, and its post stands there, with its lane and this job, at this number, under which its wishes are noted. The number is above those of
+-- all posts that it had seen: so it is none of them.
 pub record HasPosted (old : PassOf) (job : Request) (given : List WishOf) (number : ℕ) (new : PassOf) : Type 0 where
   pub lane : new.lane ≡ old.lane
   pub posts : new.posts ≡ old.posts + 1
@@ -47,6 +48,7 @@ pub record HasPosted (old : PassOf) (job : Request) (given : List WishOf) (numbe
   pub legal : AreLegal new.front
   pub wished : IsWished new.notes number given
   pub posted : IsNumberOf new.front number (record { lane = old.lane; job = job })
+  pub fresh : posted_in old.front < number
 
 -- the ticket of a pass's next post: its lane, which of its posts it is, the number and the job
 abbrev pub ticket_of : PassOf → ℕ → Job → Ticket

@@ -7,6 +7,10 @@
 //! them, the wishes of the posts and a shutdown.
 //!
 //! It gives the names of `kernel_ask`, of the kernel below it and of the history again that the hall cites.
+//!
+//! It passes only where the posts of the passes add up to those of the minutes, each ticket's lane and job stand at its number, no two
+//! tickets share a number, the numbers rise along the posts of each pass, and each end is as it was told. 78 is answered exactly where the
+//! posts don't add up, and else 79, only with a number at which one of the rest is false.
 #![tactic(auto)]
 
 mod comparison;
@@ -21,8 +25,8 @@ pub use comparison::audit;
 pub use fault::AuditFault;
 pub use kernel_ask::{
     Answer, Ask, Begun, CellText, CommChange, Comms, Content, Done, Entry, HallFault, Job, Kernel,
-    NamedValue, Outcome, Phase, PostFault, Refusal, STEPS_OF_A_SLICE, Sliced, Wish, ask_on,
-    comm_on, judge, shown_after, values_after,
+    Making, NamedValue, Outcome, Phase, PostFault, Refusal, STEPS_OF_A_SLICE, Sliced, Wish, ask_on,
+    comm_on, judge, shown_after,
 };
 pub use note::Note;
 pub use pass::{Pass, Ticket};

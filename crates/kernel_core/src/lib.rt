@@ -15,6 +15,11 @@
 //! It has the queue, the minutes and the counter; the tree, the store and the open job are `kernel_history`'s. The names of these crates and
 //! of `kernel_machine` and `machine_laws` are passed on, types and laws here and definitions in specs/, so that layers above cite this crate alone:
 //! a path `kernel_core.specs.X` that is not in the folder is found through `specs/Lib.antt`, which gives the definitions of the crates below again.
+//!
+//! The count of the store's writes never falls. A slice adds two at most for each step that it takes or goes back; a post, a begin and a
+//! shutdown add none: so no slice rewrites the store by counted writes that a run from the root makes. Each end stands in the minutes with its
+//! job's number, and with the counter and the position as the job ended. Along the minutes the counters never fall, and no two counted cells
+//! carry the same.
 #![tactic(auto)]
 
 mod events;

@@ -10,6 +10,9 @@
 //! No contract says that a waiting thread wakes.
 //!
 //! It gives again what a place of connections needs beside a desk: the hall with its worker, and the session that is served.
+//!
+//! A question and a change of the comms are refused for want of memory alone; what else a change answers is no clause's. A date that is set
+//! is that of some instant. [`QuietDesk`] refuses each job, question and change, keeps no broadcast, and leaves the date.
 #![tactic(auto)]
 
 mod hall_desk;

@@ -28,8 +28,9 @@ use std::marker::Model;
 use std::sync::ledger::{Blank, Ledger};
 use std::sync::{Condvar, Mutex, Wait};
 
-/// One kernel for many threads. Each lock is held for one event of the kernel. Contracts see which bell it has. The type parameters name
-/// the ledger of the kernel's writes, and that of the posts with the history of the minutes: a program picks each once.
+/// One kernel for many threads. Each lock is held for one event of the kernel, or for one piece of what is made of a job that has ended. Contracts
+/// see which bell it has. The type parameters name the ledger of the kernel's writes, and that of the posts with the history of the minutes: a program
+/// picks each once.
 #[derive(Drop)]
 pub struct Hall<W: Ledger, L: HistoryName> {
     state: Mutex<State<W, L>>,
@@ -156,7 +157,8 @@ impl<W: Ledger, L: HistoryName> Hall<W, L> {
     }
 
     /// One turn of the runner: under the lock one slice of at most `m` steps, with one look at the bell, or one begin. It is `Worn`, and
-    /// does nothing, where the bell's serials are used up.
+    /// does nothing, where the bell's serials are used up. After it all is there that is told of a job that it ended, which takes the lock once more for
+    /// each piece of many user expressions, and gives way before each.
     pub fn turn<R: Wait>(&self, rt: &R, runner: &mut RunnerSeat, m: u64) -> Turn
         requires own { runner.old.bell ≡ self.now }
         ensures worn { (result ≡ Turn.Worn) ↔ (runner.old.knows.serial ≡ 2 ^ 64 - 1) }
@@ -164,17 +166,63 @@ impl<W: Ledger, L: HistoryName> Hall<W, L> {
         ensures turn { (result ≡ Turn.Worn) ⊎ ((k k' : Machine) × IsLegalMachine k × IsTurn k runner.old m result k' runner.new) }
         ensures bell { runner.new.bell ≡ runner.old.bell }
     {
-        if runner.serial() == u64::MAX {
-            return Turn::Worn;
-        }
-        let mut state = self.state.lock(rt);
-        let turn = state.turn(&self.bell, runner, m);
-        if turn.is_end() {
-            let number = state.last_ended();
-            drop(state);
-            self.ended.wake(number);
+        let (turn, is_making) = self.turn_on(rt, runner, m);
+        if is_making {
+            self.make_all(rt);
         }
         turn
+    }
+
+    /// Makes all that is left of a job that has ended, in pieces, between which others have the lock.
+    fn make_all<R: Wait>(&self, rt: &R) {
+        for _ in rt.forever() {
+            self.give_way();
+            if !self.make(rt) {
+                break;
+            }
+        }
+    }
+
+    /// Wakes those who wait for one of the jobs behind the first number, up to the last one.
+    fn wake_all(&self, first: u64, last: u64) {
+        for number in first..last {
+            self.ended.wake(number + 1);
+        }
+    }
+
+    /// `turn`, and whether something is still made for a job that has ended: `make` has to be called then.
+    fn turn_on<R: Wait>(&self, rt: &R, runner: &mut RunnerSeat, m: u64) -> (Turn, bool)
+        requires own { runner.old.bell ≡ self.now }
+        ensures worn { (result.0 ≡ Turn.Worn) ↔ (runner.old.knows.serial ≡ 2 ^ 64 - 1) }
+        ensures same { result.0 ≡ Turn.Worn → runner.new ≡ runner.old }
+        ensures turn { (result.0 ≡ Turn.Worn) ⊎ ((k k' : Machine) × IsLegalMachine k × IsTurn k runner.old m result.0 k' runner.new) }
+        ensures bell { runner.new.bell ≡ runner.old.bell }
+    {
+        if runner.serial() == u64::MAX {
+            return (Turn::Worn, false);
+        }
+        let mut state = self.state.lock(rt);
+        let before = state.settled();
+        let turn = state.turn(&self.bell, runner, m);
+        let is_making = state.is_making();
+        let settled = state.settled();
+        if settled != before {
+            drop(state);
+            self.wake_all(before, settled);
+        }
+        (turn, is_making)
+    }
+
+    /// Makes some more of the values of a job that has ended; whether more may be left. Once all are there who waits for the job is woken.
+    fn make<R: Wait>(&self, rt: &R) -> bool {
+        let mut state = self.state.lock(rt);
+        if state.make() {
+            return true;
+        }
+        let number = state.settled();
+        drop(state);
+        self.ended.wake(number);
+        false
     }
 
     /// Waits until the ticket's job has ended, and answers what came of it. The end stands in the minutes that the pass has seen now. The shown text

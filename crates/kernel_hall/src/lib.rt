@@ -1,4 +1,5 @@
-//! The hall: one kernel for many threads, under one lock that is held for one event of the kernel at a time.
+//! The hall: one kernel for many threads, under one lock that is held for one event of the kernel at a time, or for one piece of the values of user
+//! expressions that are made of a job that has ended.
 //!
 //! What lies under the lock is `hall_state`'s, which says that a post, a turn of the runner, an answer and a change of the comms are those of
 //! the kernel, exact on the parts that are lent. To the layer above the hall promises one history for all: each pass holds what it has seen of the

@@ -8,7 +8,7 @@ use Rattle.cell_tree.specs.Tree.{contents_of}
 use Rattle.cell_tree.specs.declared.node.Node.{Node}
 use Rattle.janus_meaning.specs.Syntax.{Name, Proc}
 use Rattle.janus_slots.specs.Slots.{procedure_in, procedures_in}
-use Rattle.kernel_loader.specs.Bodies.{AreBelow, AreBodiesFrom}
+use Rattle.kernel_loader.specs.Bodies.{AreBelow, IsBodyAt, AreBodiesFrom}
 use Rattle.kernel_loader.specs.Procedures.{kept_in}
 use Rattle.kernel_loader.specs.linked_procedure.LinkedProcedure.{LinkedProcedure}
 use Rattle.kernel_loader.specs.procedures.Procedures.{Procedures}
@@ -193,10 +193,13 @@ get_taken (suc n) [] i b e = e
 get_taken (suc n) (x ∷ xs) zero b e = e
 get_taken (suc n) (x ∷ xs) (suc i) b e = get_taken n xs i b e
 
-bodies_of_more : (xs : List Name) (n : ℕ) (bodies : List LinkedProcedure) (first : ℕ) (ps : List Proc) → AreBodiesFrom xs (take n bodies) first ps →
-    AreBodiesFrom xs bodies first ps
-bodies_of_more xs n bodies first [] h = tt
-bodies_of_more xs n bodies first (p ∷ ps) h = ((h.0.0, get_taken n bodies first h.0.0 h.0.1, h.0.2, h.0.3), bodies_of_more xs n bodies (suc first) ps h.1)
+body_of_more : (n : ℕ) (bodies : List LinkedProcedure) (i : ℕ) (p : Proc) → IsBodyAt (take n bodies) i p → IsBodyAt bodies i p
+body_of_more n bodies i p h = record { body = h.body; there = get_taken n bodies i h.body h.there; name = h.name; is = h.is }
+
+bodies_of_more : (n : ℕ) (bodies : List LinkedProcedure) (first : ℕ) (ps : List Proc) → AreBodiesFrom (take n bodies) first ps →
+    AreBodiesFrom bodies first ps
+bodies_of_more n bodies first [] h = tt
+bodies_of_more n bodies first (p ∷ ps) h = (body_of_more n bodies first p h.0, bodies_of_more n bodies (suc first) ps h.1)
 
 taken_long : (n : ℕ) (xs : List LinkedProcedure) → length (take n xs) ≤ length xs
 taken_long zero xs = omega arith
@@ -210,43 +213,43 @@ taken_short (suc n) (suc m) [] l h = h
 taken_short (suc n) (suc m) (x ∷ xs) l h = let r = taken_short n m xs (omega arith) (omega arith) in omega arith
 
 -- others were added behind them
-pub ready_more : (xs es g : List Name) (old new : Procedures) (program : Program) → take (length (kept_in old)) (kept_in new) ≡ kept_in old →
-    IsReady xs es g old program → IsReady xs es g new program
-ready_more xs es g old new program e h =
+pub ready_more : (es g : List Name) (old new : Procedures) (program : Program) → take (length (kept_in old)) (kept_in new) ≡ kept_in old →
+    IsReady es g old program → IsReady es g new program
+ready_more es g old new program e h =
     let long = taken_long (length (kept_in old)) (kept_in new) in
     let same = ap (λ (bs : List LinkedProcedure). length bs) e in
     let within = h.within in
     record {
       meant = h.meant;
-      numbered = h.numbered;
+      names = h.names;
       within = omega (arith, long, same, within);
       bodies = λ more on.
           (let ps : List Proc = procedures_in more (procedures_of program) in
-          bodies_of_more xs (length (kept_in old)) (kept_in new) program.first ps
-          (subst (λ (bs : List LinkedProcedure). AreBodiesFrom xs bs program.first ps) (sym e) (h.bodies more on)));
+          bodies_of_more (length (kept_in old)) (kept_in new) program.first ps
+          (subst (λ (bs : List LinkedProcedure). AreBodiesFrom bs program.first ps) (sym e) (h.bodies more on)));
     }
 
 -- those behind them were dropped
-pub ready_less : (xs es g : List Name) (old new : Procedures) (from : ℕ) (program : Program) → program.first + length (procedures_of program) ≤ from →
-    kept_in new ≡ take from (kept_in old) → IsReady xs es g old program → IsReady xs es g new program
-ready_less xs es g old new from program low e h = record {
+pub ready_less : (es g : List Name) (old new : Procedures) (from : ℕ) (program : Program) → program.first + length (procedures_of program) ≤ from →
+    kept_in new ≡ take from (kept_in old) → IsReady es g old program → IsReady es g new program
+ready_less es g old new from program low e h = record {
   meant = h.meant;
-  numbered = h.numbered;
+  names = h.names;
   within = subst (λ (bs : List LinkedProcedure). program.first + length (procedures_of program) ≤ length bs) (sym e)
       (taken_short from (program.first + length (procedures_of program)) (kept_in old) low h.within);
   bodies = λ more on.
       (let ps : List Proc = procedures_in more (procedures_of program) in
       let same : length ps ≡ length (procedures_of program) = length-map (procedures_of program) (procedure_in more) in
-      bodies_from_same xs (take from (kept_in old)) (kept_in new) program.first ps e
-      (bodies_from_below xs (kept_in old) from program.first ps (subst (λ (n : ℕ). program.first + n ≤ from) (sym same) low) (h.bodies more on)));
+      bodies_from_same (take from (kept_in old)) (kept_in new) program.first ps e
+      (bodies_from_below (kept_in old) from program.first ps (subst (λ (n : ℕ). program.first + n ≤ from) (sym same) low) (h.bodies more on)));
 }
 
 -- the same are kept
-pub ready_same : (xs es g : List Name) (old new : Procedures) (program : Program) → kept_in new ≡ kept_in old → IsReady xs es g old program →
-    IsReady xs es g new program
-ready_same xs es g old new program e h = record {
+pub ready_same : (es g : List Name) (old new : Procedures) (program : Program) → kept_in new ≡ kept_in old → IsReady es g old program →
+    IsReady es g new program
+ready_same es g old new program e h = record {
   meant = h.meant;
-  numbered = h.numbered;
+  names = h.names;
   within = subst (λ (bs : List LinkedProcedure). program.first + length (procedures_of program) ≤ length bs) (sym e) h.within;
-  bodies = λ more on. bodies_from_same xs (kept_in old) (kept_in new) program.first (procedures_in more (procedures_of program)) e (h.bodies more on);
+  bodies = λ more on. bodies_from_same (kept_in old) (kept_in new) program.first (procedures_in more (procedures_of program)) e (h.bodies more on);
 }

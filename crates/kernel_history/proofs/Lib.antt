@@ -9,5 +9,3 @@ pub mod Rows
 mod Done
 mod TableNames
 pub mod Crosses
--- Of janus_store, given again.
-pub use Rattle.janus_store.proofs.Crosses as StoreCrosses

@@ -75,12 +75,12 @@ started_down s work travel e way = rw e (rw (way, code_of) refl)
 -- ---- where no body is kept
 
 -- there is no procedure
-pub none_kept : (xs es : List Name) (bodies : List kept.LinkedProcedure) (stack : List ℕ) (ps : List Proc) → length bodies ≡ 0 →
-    AreBodies xs bodies stack (procedures_in es ps) → ps ≡ []
-none_kept xs es bodies [] [] e h = refl
-none_kept xs es bodies [] (p ∷ ps) e h = absurd h
-none_kept xs es bodies (i ∷ stack) [] e h = absurd h
-none_kept xs es bodies (i ∷ stack) (p ∷ ps) e h = absurd (let within = slice_get_within bodies i h.0.0 h.0.1 in omega arith)
+pub none_kept : (es : List Name) (bodies : List kept.LinkedProcedure) (stack : List ℕ) (ps : List Proc) → length bodies ≡ 0 →
+    AreBodies bodies stack (procedures_in es ps) → ps ≡ []
+none_kept es bodies [] [] e h = refl
+none_kept es bodies [] (p ∷ ps) e h = absurd h
+none_kept es bodies (i ∷ stack) [] e h = absurd h
+none_kept es bodies (i ∷ stack) (p ∷ ps) e h = absurd (let within = slice_get_within bodies i h.0.body h.0.there in omega arith)
 
 -- ---- procedures that are lent
 

@@ -27,7 +27,7 @@ use Rattle.janus_names.specs.Numbers.{GoOn}
 use Rattle.janus_slots.specs.Slots as slots
 use Rattle.janus_slots.specs.Slots.{names_in}
 use Rattle.janus_slots.specs.Law.{AreListed}
-use Rattle.janus_store.specs.StoreState.{StoreState, IsWhole, AreSlots, shown_store}
+use Rattle.janus_frames.specs.StoreState.{StoreState, IsWhole, shown_store}
 use Rattle.kernel_loader.specs.Bodies.{AreBelow, AreDefined, Define}
 use Rattle.kernel_loader.specs.Procedures.{kept_in}
 use Rattle.kernel_loader.proofs.BodiesInEffect.{forgotten_still_defined}
@@ -53,7 +53,8 @@ use Rattle.kernel_machine.specs.declared.heading.Heading.TheVariants.{GoesOn, Go
 use Rattle.kernel_history.specs.declared.job.Open.{Open}
 use Rattle.kernel_history.specs.declared.job.Open.TheVariants.{Idle, Border, Inside}
 use Rattle.kernel_machine.proofs.LanguageLaws.{part_none_forward, part_none_backward, exec_end, exec_some}
-use Rattle.kernel_loader.proofs.Growing.{same_more, ready_grows, defined_grow}
+use Rattle.kernel_loader.proofs.Growing.{same_more, ready_grows}
+use Rattle.kernel_loader.proofs.Listed.{listed_still}
 use Rattle.kernel_loader.proofs.Unlisted.{taken_back, shown_same, shows_unlisted}
 use Rattle.janus_slots.proofs.Whole.{names_size}
 use Rattle.kernel_loader.proofs.Running.{stands_part}
@@ -61,7 +62,7 @@ use Rattle.kernel_history.specs.TableNames.{AreOfNodes, ListsNoOtherFor}
 use Rattle.kernel_history.proofs.TableNames.{names_nodes, names_same, names_still, names_grown}
 use Rattle.kernel_history.proofs.BodiesAt.{bodies_same, bodies_of_cell, bodies_new, bodies_below, cell_behind, ready_same, ready_less, ready_more}
 use Rattle.kernel_history.proofs.Nodes.{count_of_nodes, cell_there, same_program, contents_more, cell_kept, cell_added}
-use Rattle.kernel_history.proofs.WorldNames.{exec_names, names_below, world_kept, world_added, listed_still, listed_own}
+use Rattle.kernel_history.proofs.WorldNames.{exec_names, names_below, world_kept, world_added, listed_own}
 use Rattle.kernel_history.proofs.Indexed.{kept_in_time}
 use Rattle.kernel_machine.proofs.Trees.{worlds-more, legal_up, legal_down, legal_grown, undone_world, redone_world, run_here, parent_sound, IsNext}
 use Rattle.kernel_machine.proofs.Trees.{formed_below, next_below, up_possible, down_possible, way_up, way_down, new_legal, new_worlds}
@@ -81,32 +82,26 @@ stands_shows runner program at is_turned h =
     record {
       store = refl;
       texts = ap (λ (xs : List Name). length xs) h.texts ∙ length-reverse (names_in start.store) ∙ names_size start.store ∙ sym h.declared;
-      slots = h.slots;
       listed = h.listed;
       defined = h.defined;
     }
 
 -- ---- the nodes stay ready
 
--- a program can run where there are more slots and more names of procedures
-can_run_still : {L : Type 0} (runner at : Runner L) (g : List Name) (program : Program) → GoOn runner.counted.store.names at.counted.store.names →
-    GoOn runner.entries at.entries →
-    (IsReady at.counted.store.names at.entries g runner.procedures program → IsReady at.counted.store.names at.entries g at.procedures program) →
-    CanRun runner g program →
-    CanRun at g program
-can_run_still runner at g program more listed kept can = record {
-  ready = kept (ready_grows runner.counted.store.names at.counted.store.names more runner.entries at.entries listed g runner.procedures program can.ready);
-  named = listed_still runner.entries at.entries (procedures_of program) listed can.named;
+-- a program can run where there are more names of procedures
+can_run_still : {L : Type 0} (runner at : Runner L) (g : List Name) (program : Program) → GoOn runner.entries at.entries →
+    (IsReady at.entries g runner.procedures program → IsReady at.entries g at.procedures program) → CanRun runner g program → CanRun at g program
+can_run_still runner at g program listed kept can = record {
+  ready = kept (ready_grows runner.entries at.entries listed g runner.procedures program can.ready);
+  named = listed_still runner.entries at.entries listed (procedures_of program) can.named;
 }
 
--- the slots and the names of procedures only grow, and the bodies of nodes stay kept
-pub nodes_ready : {L : Type 0} (tree : HistoryTree) (runner at : Runner L) → GoOn runner.counted.store.names at.counted.store.names →
-    GoOn runner.entries at.entries →
+-- the names of procedures only grow, and the bodies of nodes stay kept
+pub nodes_ready : {L : Type 0} (tree : HistoryTree) (runner at : Runner L) → GoOn runner.entries at.entries →
     kept_in at.procedures ≡ kept_in runner.procedures → NodesAreReady tree runner → NodesAreReady tree at
-nodes_ready tree runner at more listed same h = λ n cell is.
+nodes_ready tree runner at listed same h = λ n cell is.
     (let g : List Name = names_in (world_at (past_of tree) n).store in
-    can_run_still runner at g cell.program more listed (ready_same at.counted.store.names at.entries g runner.procedures at.procedures cell.program same)
-    (h n cell is))
+    can_run_still runner at g cell.program listed (ready_same at.entries g runner.procedures at.procedures cell.program same) (h n cell is))
 
 -- as many stay kept
 pub no_other_same : (tree : HistoryTree) (old new : Procedures) → kept_in new ≡ kept_in old → KeepsNoOther tree old → KeepsNoOther tree new
@@ -117,35 +112,35 @@ work_no_other : (tree : HistoryTree) (work : Work) (old new : Procedures) → ke
 work_no_other tree (RunCell program) old new same h = (h.0, ap (λ (bs : List LinkedProcedure). length bs) same ∙ h.1)
 work_no_other tree (Move travel) old new same h = no_other_same tree old new same h
 
-work_older_names : {L : Type 0} (tree : HistoryTree) (work : Work) (runner at : Runner L) → GoOn runner.counted.store.names at.counted.store.names →
-    at.entries ≡ runner.entries → kept_in at.procedures ≡ kept_in runner.procedures → KeepsOlderNamesFor tree runner work → KeepsOlderNamesFor tree at work
-work_older_names tree (RunCell program) runner at more entries same h =
+work_older_names : {L : Type 0} (tree : HistoryTree) (work : Work) (runner at : Runner L) → at.entries ≡ runner.entries →
+    kept_in at.procedures ≡ kept_in runner.procedures → KeepsOlderNamesFor tree runner work → KeepsOlderNamesFor tree at work
+work_older_names tree (RunCell program) runner at entries same h =
     let ps = (here (past_of tree)).procedures in
     let less : take program.first_name at.entries ≡ take program.first_name runner.entries = ap (λ (l : List Name). take program.first_name l) entries in
     record {
-      ready = nodes_ready tree (unlisted program runner) (unlisted program at) more
+      ready = nodes_ready tree (unlisted program runner) (unlisted program at)
           (same_more (take program.first_name runner.entries) (take program.first_name at.entries) less) same h.ready;
       listed = subst (λ (l : List Name). AreListed l ps) (sym less) h.listed;
       same = ap (λ (l : List Name). slots.procedures_in l ps) entries ∙ h.same ∙ ap (λ (l : List Name). slots.procedures_in l ps) (sym less);
     }
-work_older_names tree (Move travel) runner at more entries same h = tt
+work_older_names tree (Move travel) runner at entries same h = tt
 
 pub kept_inside : {L : Type 0} (tree : HistoryTree) (work : Work) (count c : ℕ) (heading to : Heading) (runner at : Runner L) →
-    Kept tree runner (Inside (record { work = work; count = count; heading = heading })) → GoOn runner.counted.store.names at.counted.store.names →
-    at.entries ≡ runner.entries → kept_in at.procedures ≡ kept_in runner.procedures → StandsIn tree work c (is_back to) at →
+    Kept tree runner (Inside (record { work = work; count = count; heading = heading })) → at.entries ≡ runner.entries →
+    kept_in at.procedures ≡ kept_in runner.procedures → StandsIn tree work c (is_back to) at →
     Kept tree at (Inside (record { work = work; count = c; heading = to }))
-kept_inside tree work count c heading to runner at k more entries same p = record {
+kept_inside tree work count c heading to runner at k entries same p = record {
   legal = k.legal;
   possible = k.possible;
   counted = k.counted;
   stands = p;
   room = k.room;
   path = k.path;
-  ready = nodes_ready tree runner at more (same_more runner.entries at.entries entries) same k.ready;
+  ready = nodes_ready tree runner at (same_more runner.entries at.entries entries) same k.ready;
   order = k.order;
   behind = k.behind;
   no_other = work_no_other tree work runner.procedures at.procedures same k.no_other;
-  older_names = work_older_names tree work runner at more entries same k.older_names;
+  older_names = work_older_names tree work runner at entries same k.older_names;
   no_name = names_still tree work runner.entries at.entries entries k.no_name;
 }
 
@@ -174,20 +169,17 @@ shows_still runner at shown h same entries shows =
     record {
       store = h.shown ∙ shows.store;
       texts = h.texts;
-      slots = h.slots;
       listed = subst (λ (es : List Name). AreListed es ps) (sym entries) shows.listed;
-      defined = subst (λ (t : Procedures). Define at.counted.store.names t shown.bodies (slots.procedures_in at.entries ps)) (sym same)
-          (subst (λ (es : List Name). Define at.counted.store.names runner.procedures shown.bodies (slots.procedures_in es ps)) (sym entries)
-          (defined_grow runner.counted.store.names at.counted.store.names h.names runner.procedures shown.bodies
-          (slots.procedures_in runner.entries ps) shows.defined));
+      defined = subst (λ (t : Procedures). Define t shown.bodies (slots.procedures_in at.entries ps)) (sym same)
+          (subst (λ (es : List Name). Define runner.procedures shown.bodies (slots.procedures_in es ps)) (sym entries) shows.defined);
     }
 
 -- no cell could be entered
 pub kept_refused : {L : Type 0} (tree : HistoryTree) (job : Open) (runner at : Runner L) → Kept tree runner job → KeepsNoOther tree runner.procedures →
-    AreOfNodes tree runner.entries → Shows runner (shown_here tree) → Becomes runner.counted.store at.counted.store (shown_store runner.counted.store) → at.procedures ≡ runner.procedures →
-    at.entries ≡ runner.entries → Kept tree at Idle
+    AreOfNodes tree runner.entries → Shows runner (shown_here tree) → Becomes runner.counted.store at.counted.store (shown_store runner.counted.store) →
+    at.procedures ≡ runner.procedures → at.entries ≡ runner.entries → Kept tree at Idle
 kept_refused tree job runner at k no_other no_name shows h same entries =
-    kept_idle tree job runner at k (nodes_ready tree runner at h.names (same_more runner.entries at.entries entries) (ap kept_in same) k.ready)
+    kept_idle tree job runner at k (nodes_ready tree runner at (same_more runner.entries at.entries entries) (ap kept_in same) k.ready)
     (no_other_same tree runner.procedures at.procedures (ap kept_in same) no_other) (names_same tree runner.entries at.entries entries no_name) h.whole
     (shows_still runner at (shown_here tree) h same entries shows)
 
@@ -492,10 +484,9 @@ module _ {L : Type 0} (tree larger : HistoryTree) (program : Program) (n : ℕ) 
 -- ---- begins
 
 pub kept_entered : {L : Type 0} (tree : HistoryTree) (runner at : Runner L) (travel : Travel) → Kept tree runner (Border travel) →
-    GoOn runner.counted.store.names at.counted.store.names → at.entries ≡ runner.entries → kept_in at.procedures ≡ kept_in runner.procedures →
-    StandsIn tree (Move travel) 0 false at →
+    at.entries ≡ runner.entries → kept_in at.procedures ≡ kept_in runner.procedures → StandsIn tree (Move travel) 0 false at →
     IsKept tree at (Inside (record { work = Move travel; count = 0; heading = GoesOn }))
-kept_entered tree runner at travel k more entries same stands =
+kept_entered tree runner at travel k entries same stands =
     kept_in_time tree at (Inside (record { work = Move travel; count = 0; heading = GoesOn }))
     (record {
       legal = k.legal;
@@ -504,7 +495,7 @@ kept_entered tree runner at travel k more entries same stands =
       stands = stands;
       room = tt;
       path = k.path;
-      ready = nodes_ready tree runner at more (same_more runner.entries at.entries entries) same k.ready;
+      ready = nodes_ready tree runner at (same_more runner.entries at.entries entries) same k.ready;
       order = k.order;
       behind = tt;
       no_other = no_other_same tree runner.procedures at.procedures same k.no_other;
@@ -522,26 +513,28 @@ behind_nodes : (tree other : HistoryTree) (program : Program) → other.cells.no
 behind_nodes tree other program e h =
     subst (λ (nodes : List (Node EndedCell)). IsBehindNodes (record other { cells = record other.cells { nodes = nodes } }) (RunCell program)) (sym e) h
 
-pub nodes_more : {L : Type 0} (tree : HistoryTree) (runner at : Runner L) → GoOn runner.counted.store.names at.counted.store.names →
-    GoOn runner.entries at.entries →
+pub nodes_more : {L : Type 0} (tree : HistoryTree) (runner at : Runner L) → GoOn runner.entries at.entries →
     take (length (kept_in runner.procedures)) (kept_in at.procedures) ≡ kept_in runner.procedures → NodesAreReady tree runner → NodesAreReady tree at
-nodes_more tree runner at more listed older h = λ n cell is.
+nodes_more tree runner at listed older h = λ n cell is.
     (let g : List Name = names_in (world_at (past_of tree) n).store in
-    can_run_still runner at g cell.program more listed (ready_more at.counted.store.names at.entries g runner.procedures at.procedures cell.program older)
-    (h n cell is))
+    can_run_still runner at g cell.program listed (ready_more at.entries g runner.procedures at.procedures cell.program older) (h n cell is))
+
+-- the world of the position is sound
+pub here_sound : (tree : HistoryTree) → IsLegal (past_of tree) → IsSound (here (past_of tree))
+here_sound tree legal = legal.sound tree.position legal.position
 
 -- a posted cell is loaded: without its names the table is what it was
-pub older_names_begun : {L : Type 0} (tree : HistoryTree) (old at : Runner L) (program : Program) → NodesAreReady tree old →
-    Is old (Between (shown_here tree)) → GoOn old.counted.store.names at.counted.store.names → GoOn old.entries at.entries →
+pub older_names_begun : {L : Type 0} (tree : HistoryTree) (old at : Runner L) (program : Program) → IsLegal (past_of tree) →
+    NodesAreReady tree old → Is old (Between (shown_here tree)) → GoOn old.entries at.entries →
     take (length (kept_in old.procedures)) (kept_in at.procedures) ≡ kept_in old.procedures → program.first_name ≡ length old.entries →
     KeepsOlderNames tree at program
-older_names_begun tree old at program ready is more onward older first =
+older_names_begun tree old at program legal ready is onward older first =
     let ps = (here (past_of tree)).procedures in
     let less : take program.first_name at.entries ≡ old.entries = taken_back old.entries at.entries program.first_name first onward in
     record {
-      ready = nodes_more tree old (unlisted program at) more (same_more old.entries (take program.first_name at.entries) less) older ready;
+      ready = nodes_more tree old (unlisted program at) (same_more old.entries (take program.first_name at.entries) less) older ready;
       listed = subst (λ (l : List Name). AreListed l ps) (sym less) is.0.listed;
-      same = shown_same old at.entries (shown_here tree) onward is ∙ ap (λ (l : List Name). slots.procedures_in l ps) (sym less);
+      same = shown_same old at.entries (shown_here tree) onward (here_sound tree legal) is ∙ ap (λ (l : List Name). slots.procedures_in l ps) (sym less);
     }
 
 older_names_nodes : {L : Type 0} (tree made : HistoryTree) (at : Runner L) (program : Program) → past_of made ≡ past_of tree →
@@ -555,7 +548,8 @@ older_names_nodes tree made at program same nodes h =
     }
 
 pub kept_begun : {L : Type 0} (tree made : HistoryTree) (runner at : Runner L) (program : Program) → Kept tree runner Idle → NodesAreReady tree at →
-    KeepsOlderNames tree at program → ListsNoOtherFor tree (RunCell program) at.entries → IsBehindNodes tree (RunCell program) → past_of made ≡ past_of tree → made.cells.nodes ≡ tree.cells.nodes → made.position ≡ tree.position → HasRoom made →
+    KeepsOlderNames tree at program → ListsNoOtherFor tree (RunCell program) at.entries → IsBehindNodes tree (RunCell program) →
+    past_of made ≡ past_of tree → made.cells.nodes ≡ tree.cells.nodes → made.position ≡ tree.position → HasRoom made →
     IsFormed (cell_of_program program) (here (past_of tree)) → program.first ≡ length (kept_in runner.procedures) →
     length (kept_in at.procedures) ≡ program.first + length (procedures_of program) →
     Stands at program (entry program (shown_here tree)) false → IsKept made at (Inside (record { work = RunCell program; count = 0; heading = GoesOn }))
@@ -739,11 +733,11 @@ program_down tree work travel cell e way at = rw e (down_is tree travel cell.pro
 
 -- the runner has gone on, or back, in the work's program
 pub kept_at : {L : Type 0} (tree : HistoryTree) (work : Work) (count c : ℕ) (heading to : Heading) (runner at : Runner L) (p : Program) →
-    Kept tree runner (Inside (record { work = work; count = count; heading = heading })) → GoOn runner.counted.store.names at.counted.store.names →
-    at.entries ≡ runner.entries → kept_in at.procedures ≡ kept_in runner.procedures →
-    IsProgramOf tree work p → Stands at p (place_in tree work p c) (is_back to) → Kept tree at (Inside (record { work = work; count = c; heading = to }))
-kept_at tree work count c heading to runner at p k more entries same of stands =
-    kept_inside tree work count c heading to runner at k more entries same (record { program = p; of_work = of; stands = stands })
+    Kept tree runner (Inside (record { work = work; count = count; heading = heading })) → at.entries ≡ runner.entries →
+    kept_in at.procedures ≡ kept_in runner.procedures → IsProgramOf tree work p → Stands at p (place_in tree work p c) (is_back to) →
+    Kept tree at (Inside (record { work = work; count = c; heading = to }))
+kept_at tree work count c heading to runner at p k entries same of stands =
+    kept_inside tree work count c heading to runner at k entries same (record { program = p; of_work = of; stands = stands })
 
 -- in the form in which the calls of the runner ask for it
 pub inside_with : {L : Type 0} (tree : HistoryTree) (work : Work) (count : ℕ) (heading : Heading) (runner : Runner L) (p : Program) →
@@ -768,9 +762,6 @@ settled_down tree moved-to c travel n w told new way to nodes favourites positio
     subst (λ (s : Past). Arrives (cells (stepped travel)) s (stepped travel) told new) e a
 
 -- ---- the next cell of a travel, where the runner stands at a border
-
-pub here_sound : (tree : HistoryTree) → IsLegal (past_of tree) → IsSound (here (past_of tree))
-here_sound tree legal = legal.sound tree.position legal.position
 
 pub next_down : (tree : HistoryTree) (travel : Travel) (cell : EndedCell) (i : ℕ) → next_way travel ≡ Down → IsLegal (past_of tree) →
     IsPossible (nodes_of tree) tree.cells.favourites tree.position travel →
@@ -813,7 +804,7 @@ can_go_down_to tree travel cell runner way legal possible at is ready order = re
   is = is;
   sound = here_sound tree legal;
   formed = formed_next tree travel cell way legal possible at;
-  ready = subst (λ (g : List Name). IsReady runner.counted.store.names runner.entries g runner.procedures cell.program)
+  ready = subst (λ (g : List Name). IsReady runner.entries g runner.procedures cell.program)
       (names_next tree travel cell way legal possible at) (ready _ cell at).ready;
   named = (ready _ cell at).named;
   behind = cell_behind tree legal order tree.position (below (past_of tree) travel) cell (before_below tree travel way legal possible) at;
@@ -1027,13 +1018,13 @@ module _ {L : Type 0} (tree : HistoryTree) (runner : Runner L) (work : Work) (wh
       let own : KeepsNoOther tree runner.procedures = subst (λ (w : Work). KeepsNoOtherFor tree w runner.procedures) e k.no_other in
       no_other_same tree runner.procedures t same own
 
-  pub nodes_forgotten : {M : Type 0} (old new : Runner M) (program : Program) → work ≡ RunCell program → new.counted.store.names ≡ old.counted.store.names →
-      new.entries ≡ old.entries → kept_in new.procedures ≡ take program.first (kept_in old.procedures) → NodesAreReady tree old → NodesAreReady tree new
-  nodes_forgotten old new program e names entries kept ready = λ n cell is.
+  pub nodes_forgotten : {M : Type 0} (old new : Runner M) (program : Program) → work ≡ RunCell program → new.entries ≡ old.entries →
+      kept_in new.procedures ≡ take program.first (kept_in old.procedures) → NodesAreReady tree old → NodesAreReady tree new
+  nodes_forgotten old new program e entries kept ready = λ n cell is.
       let behind : IsBehindNodes tree (RunCell program) = subst (λ (w : Work). IsBehindNodes tree w) e k.behind in
       let g : List Name = names_in (world_at (past_of tree) n).store in
-      can_run_still old new g cell.program (same_more old.counted.store.names new.counted.store.names names) (same_more old.entries new.entries entries)
-      (ready_less new.counted.store.names new.entries g old.procedures new.procedures program.first cell.program (behind n cell is) kept) (ready n cell is)
+      can_run_still old new g cell.program (same_more old.entries new.entries entries)
+      (ready_less new.entries g old.procedures new.procedures program.first cell.program (behind n cell is) kept) (ready n cell is)
 
   -- the names of the posted cell leave the table
   pub no_name_forgotten : (at : List Name) (program : Program) → work ≡ RunCell program → at ≡ take program.first_name runner.entries → AreOfNodes tree at
@@ -1048,10 +1039,10 @@ module _ {L : Type 0} (tree : HistoryTree) (runner : Runner L) (work : Work) (wh
       names_same tree runner.entries at same own
 
   -- when it is left, the table without its names is still enough
-  pub older_names_left : (at : Runner L) (program : Program) → work ≡ RunCell program → GoOn runner.counted.store.names at.counted.store.names →
-      at.entries ≡ runner.entries → kept_in at.procedures ≡ kept_in runner.procedures → KeepsOlderNames tree at program
-  older_names_left at program e more entries same =
-      work_older_names tree (RunCell program) runner at more entries same (subst (λ (w : Work). KeepsOlderNamesFor tree runner w) e k.older_names)
+  pub older_names_left : (at : Runner L) (program : Program) → work ≡ RunCell program → at.entries ≡ runner.entries →
+      kept_in at.procedures ≡ kept_in runner.procedures → KeepsOlderNames tree at program
+  older_names_left at program e entries same =
+      work_older_names tree (RunCell program) runner at entries same (subst (λ (w : Work). KeepsOlderNamesFor tree runner w) e k.older_names)
 
 -- what is shown stays where bodies that are not defined are dropped
 pub shows_forgotten : {L : Type 0} (old new : Runner L) (from : ℕ) (shown : ShownWorld) → new.counted.store ≡ old.counted.store → new.entries ≡ old.entries →
@@ -1062,12 +1053,9 @@ shows_forgotten old new from shown same entries shows low kept defined =
     record {
       store = ap (λ (h : StoreState). shown_store h) same ∙ shows.store;
       texts = subst (λ (h : StoreState). length h.texts ≡ h.declared) (sym same) shows.texts;
-      slots = subst (λ (h : StoreState). AreSlots h.names) (sym same) shows.slots;
       listed = subst (λ (es : List Name). AreListed es ps) (sym entries) shows.listed;
-      defined = subst (λ (h : StoreState). Define h.names new.procedures shown.bodies (slots.procedures_in new.entries ps)) (sym same)
-          (subst (λ (es : List Name). Define old.counted.store.names new.procedures shown.bodies (slots.procedures_in es ps)) (sym entries)
-          (forgotten_still_defined old.counted.store.names old.procedures new.procedures shown.bodies (slots.procedures_in old.entries ps)
-          from shows.defined low kept defined));
+      defined = subst (λ (es : List Name). Define new.procedures shown.bodies (slots.procedures_in es ps)) (sym entries)
+          (forgotten_still_defined old.procedures new.procedures shown.bodies (slots.procedures_in old.entries ps) from shows.defined low kept defined);
     }
 
 -- ---- a posted cell that could not be entered
@@ -1077,7 +1065,6 @@ pub record IsUnentered {L : Type 0} (tree : HistoryTree) (old : Runner L) (made 
   pub past : past_of made ≡ past_of tree
   pub nodes : made.cells.nodes ≡ tree.cells.nodes
   pub position : made.position ≡ tree.position
-  pub names : GoOn old.counted.store.names at.counted.store.names
   pub entries : GoOn old.entries at.entries
   pub whole : IsWhole at.counted.store
   pub shows : Shows at (shown_here tree)
@@ -1092,13 +1079,12 @@ pub kept_dropped : {L : Type 0} (tree made : HistoryTree) (old at new : Runner L
     ((stack : List ℕ) → AreDefined at.procedures stack → AreBelow first stack → AreDefined new.procedures stack) → IsKept made new job
 kept_dropped tree made old at new job first first_name k un is named low store entries kept defined =
     let same : kept_in new.procedures ≡ kept_in old.procedures = kept ∙ ap (λ (n : ℕ). take n (kept_in at.procedures)) is ∙ un.older in
-    let names : GoOn old.counted.store.names new.counted.store.names = subst (λ (h : StoreState). GoOn old.counted.store.names h.names) (sym store) un.names in
     let less : take first_name at.entries ≡ old.entries = taken_back old.entries at.entries first_name named un.entries in
     let listed : GoOn old.entries new.entries = same_more old.entries new.entries (entries ∙ less) in
     let whole : IsWhole new.counted.store = subst (λ (h : StoreState). IsWhole h) (sym store) un.whole in
     let shows = shows_forgotten (record at { entries = take first_name at.entries }) new first (shown_here tree) store entries
-    (shows_unlisted old at (take first_name at.entries) (shown_here tree) un.entries less k.stands un.shows) low kept
+    (shows_unlisted old at (take first_name at.entries) (shown_here tree) un.entries less (here_sound tree k.legal) k.stands un.shows) low kept
     (defined (bodies_at tree tree.position) un.shows.defined.defined low) in
-    let idle = kept_idle tree Idle old new k (nodes_ready tree old new names listed same k.ready)
+    let idle = kept_idle tree Idle old new k (nodes_ready tree old new listed same k.ready)
     (no_other_same tree old.procedures new.procedures same k.no_other) (names_same tree old.entries new.entries (entries ∙ less) k.no_name) whole shows in
     subst (λ (j : Open). IsKept made new j) (sym un.idle) (idle_in_time made new (kept_with_room tree made new idle un.past un.nodes un.position))

@@ -6,11 +6,9 @@ use Rattle.janus_meaning.specs.Syntax.{Name, Proc}
 use Rattle.janus_meaning.specs.Store.{Store, cleared}
 use Rattle.janus_meaning.specs.World.{World, empty_world, entered, define}
 use Rattle.janus_meaning.proofs.Shapes.{keeps_shape}
-use Rattle.janus_names.specs.Numbers.{GoOn}
 use Rattle.janus_slots.specs.Slots.{names_in}
 use Rattle.janus_slots.specs.Law.{AreListed}
 use Rattle.janus_slots.proofs.Whole.{names_cleared}
-use Rattle.kernel_loader.proofs.GoesOn.{number_goes_on}
 use Rattle.kernel_machine.specs.Language.{Code, Forward, CodeExec, start_of, end_of}
 use Rattle.kernel_machine.specs.State as state
 use Rattle.kernel_machine.specs.State.{Past, node_at, world_at, here, worlds_from}
@@ -57,10 +55,6 @@ module _ (tree larger : HistoryTree) (node : Node EndedCell) (nodes : larger.cel
       ∙ get_or_at (past_of tree).worlds last_world [] empty_world (length (nodes_of tree)) legal.worlds
 
 -- ---- procedures that are named in the table
-
-pub listed_still : (es fs : List Name) (ps : List Proc) → GoOn es fs → AreListed es ps → AreListed fs ps
-listed_still es fs [] on h = tt
-listed_still es fs (p ∷ ps) on h = ((h.0.0, number_goes_on es fs on h.0.0 p.name h.0.1), listed_still es fs ps on h.1)
 
 listed_both : (es : List Name) (more ps : List Proc) → AreListed es (define more ps) → AreListed es more × AreListed es ps
 listed_both es [] ps h = (tt, h)

@@ -80,7 +80,7 @@ procedures_in tree work = (start_of (code_of (past_of tree) (work_of work)) (her
 -- The program can run where the names of g are in sight as its block begins: its code and its bodies, which are kept, are its cell's with slots in
 -- place of names, and each of its procedures is named in the table.
 pub record CanRun {L : Type 0} (runner : Runner L) (g : List Name) (program : Program) : Type 0 where
-  pub ready : IsReady runner.counted.store.names runner.entries g runner.procedures program
+  pub ready : IsReady runner.entries g runner.procedures program
   pub named : AreListed runner.entries (procedures_of program)
 
 -- each node's program can, where the names of its world are in sight: its cell's block begins with just these, and leaves them as they are

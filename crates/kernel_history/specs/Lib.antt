@@ -9,7 +9,7 @@ pub mod TableNames
 pub mod Standing
 pub mod Kept
 pub mod Came
--- Of janus_store, given again.
-pub use Rattle.janus_store.specs.StoreState
+-- Of janus_frames, given again.
+pub use Rattle.janus_frames.specs.StoreState
 -- Of kernel_loader, given again.
 pub use Rattle.kernel_loader.specs.Defined

@@ -11,7 +11,7 @@ ghost use Rattle.janus_meaning.specs.World.{entered};
 ghost use Rattle.janus_names.specs.Numbers.{GoOn};
 ghost use Rattle.janus_slots.specs.Slots.{names_in};
 ghost use Rattle.janus_slots.specs.Law.{AreListed};
-ghost use Rattle.janus_store.specs.StoreState.{IsWhole, KeepsSight, shown_store};
+ghost use Rattle.janus_frames.specs.StoreState.{IsWhole, shown_store};
 ghost use Rattle.kernel_loader.specs.Procedures.{kept_in};
 ghost use Rattle.kernel_machine.specs.Text.{Accepts, Refuses};
 ghost use Rattle.kernel_loader.specs.Program.{cell_of_program, procedures_of, IsReady};
@@ -85,7 +85,6 @@ fn enter_next<L: Ledger>(
     ensures err { OnErr result (Becomes runner.old.counted.store runner.new.counted.store (shown_store runner.old.counted.store)) }
     ensures same { OnErr result (runner.new.procedures ≡ runner.old.procedures) }
     ensures bodies { kept_in runner.new.procedures ≡ kept_in runner.old.procedures }
-    ensures names { GoOn runner.old.counted.store.names runner.new.counted.store.names }
     ensures entries { runner.new.entries ≡ runner.old.entries }
     ensures declares { OnErr result (Declares (past_of tree.now) travel) }
     ensures counts { RunnerKeepsCounts runner.old runner.new }
@@ -147,7 +146,7 @@ fn prepare<L: Ledger>(
     requires is { (bodies : List ℕ) × Is runner.old (Between (over bodies (here (past_of tree.now)))) }
     ensures accepts { IfOk result (λ program. Accepts (here (past_of tree.now)) text.now (cell_of_program program)) }
     ensures refuses { IfErr result (Refuses (here (past_of tree.now)) text.now) }
-    ensures ready { IfOk result (λ program. IsReady runner.new.counted.store.names runner.new.entries
+    ensures ready { IfOk result (λ program. IsReady runner.new.entries
         (names_in (entered (cell_of_program program) (here (past_of tree.now))).store) runner.new.procedures program) }
     ensures named { IfOk result (λ program. AreListed runner.new.entries (procedures_of program)) }
     // Its bodies are behind those that were kept, with none behind them, and what is refused leaves those alone.
@@ -155,11 +154,10 @@ fn prepare<L: Ledger>(
     ensures first_name { IfOk result (λ program. program.first_name ≡ length runner.old.entries) }
     ensures own_names { IfOk result (λ program. AreItsOwn program runner.new.entries) }
     ensures no_names { OnErr result (runner.new.entries ≡ runner.old.entries) }
-    ensures no_slots { OnErr result (runner.new.counted.store.names ≡ runner.old.counted.store.names) }
     ensures last { IfOk result (λ program. length (kept_in runner.new.procedures) ≡ program.first + length (procedures_of program)) }
     ensures older { KeepsOlder runner.old.procedures runner.new.procedures }
     ensures none { OnErr result (kept_in runner.new.procedures ≡ kept_in runner.old.procedures) }
-    ensures kept { KeepsSight runner.old.counted.store runner.new.counted.store }
+    ensures kept { runner.new.counted.store ≡ runner.old.counted.store }
     ensures entries { GoOn runner.old.entries runner.new.entries }
     ensures shown { KeepsShown runner.old runner.new }
     ensures counts { RunnerKeepsCounts runner.old runner.new }

@@ -24,6 +24,10 @@
 //!   ends a cell came there by steps.
 //!
 //! It gives again what `kernel_core` cites of the layers below: the store, the procedures that are lent, and the names in sight.
+//!
+//! The type keeps what the index of bodies tells: for each name the body that the open cell defines, where it was posted or a move goes
+//! down to it, else that of the nearest node up to the root which defines the name, else none. It keeps as many bodies as the nodes and an
+//! open posted cell have: so a cell that is refused or taken back leaves none. A slice makes two writes of the store at most for each step.
 #![tactic(auto)]
 
 mod defined;

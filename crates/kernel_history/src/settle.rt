@@ -9,8 +9,7 @@ ghost use Rattle.kernel_machine.specs.Legal.{IsLegal, IsPossibleWork};
 ghost use Rattle.kernel_machine.specs.Slices.{finished as the_finished, turned as the_turned, Backs, cells, Arrives, Goes, IsSlice};
 ghost use Rattle.janus_meaning.specs.Writes.{IsWritten};
 ghost use Rattle.kernel_machine.specs.StepsOfSlices.{steps_back, WritesOn, WritesOnSlice, StepsOn, StepsOnSlice};
-ghost use Rattle.janus_names.specs.Numbers.{GoOn};
-ghost use Rattle.janus_store.specs.StoreState.{IsWhole};
+ghost use Rattle.janus_frames.specs.StoreState.{IsWhole};
 ghost use Rattle.kernel_loader.specs.Runner.{Is, Between, KeepsCounts, writes_of, steps_of};
 ghost use Rattle.kernel_history.specs.Bodies.{IsProgramOf, NodesAreReady, KeepsNoOther};
 ghost use Rattle.kernel_history.specs.TableNames.{AreOfNodes};
@@ -74,7 +73,6 @@ fn settle_back<L: Ledger>(tree: &HistoryTree, runner: &mut Runner<L>, work: &Wor
     ensures ready { NodesAreReady tree.now runner.new }
     ensures no_other { KeepsNoOther tree.now runner.new.procedures }
     ensures no_name { AreOfNodes tree.now runner.new.entries }
-    ensures names { GoOn runner.old.counted.store.names runner.new.counted.store.names }
     ensures entries { runner.new.entries ≡ entries_left work.now runner.old.entries }
     ensures counts { KeepsCounts runner.old runner.new }
     ensures cursor { runner.new.cursor ≡ runner.old.cursor }

@@ -25,6 +25,9 @@
 //!
 //! No contract says that a round comes, that one who waits wakes, or that a subscriber is heard. The sources are RFC 23 for messages, RFC 29 for a
 //! publisher's subscriptions, and RFC 37 for pings.
+//!
+//! `serve_subscriber`, which runs the halves on two threads, has no clause. That a subscriber which lost a ping for want of memory is
+//! marked so is no clause's.
 #![tactic(auto)]
 
 mod bulletin;

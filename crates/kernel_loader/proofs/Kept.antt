@@ -1,7 +1,6 @@
 -- The body that is kept of a procedure stands for it, with slots in place of names.
-use Rattle.std.proofs.Common.{◌≡◌, ◌+◌, ◌<◌, ◌≤◌, ℕ, zero, suc, max, add-one, List, [], ◌∷◌, ◌++◌, length, get_or, map, take, refl, sym, ap, ◌∙◌, subst, arith}
-use Rattle.std.specs.Prelude.{slice_get, Some, Contains}
-use Rattle.std.specs.Ordering.{nat_cmp, ord_max}
+use Rattle.std.proofs.Common.{◌≡◌, ◌+◌, ◌<◌, ◌≤◌, ℕ, zero, suc, List, [], ◌∷◌, ◌++◌, length, get_or, map, take, refl, sym, ap, ◌∙◌, subst, arith}
+use Rattle.std.specs.Prelude.{slice_get, Some, Contains, Result, Ok, Err, IfOk}
 use Rattle.std.proofs.lemmas.List.{length-map, map-append}
 use Rattle.kernel_runner.proofs.BodiesInEffect.{bodies_from_before, bodies_from_more}
 use Rattle.janus_meaning.specs.Limit.{parameter_limit}
@@ -9,52 +8,55 @@ use Rattle.janus_meaning.specs.Syntax.{Name, Proc, names_of}
 use Rattle.janus_syntax.specs.Tree.{procedure_view, procedures_view}
 use Rattle.janus_syntax.specs.View.{plain_procedure}
 use Rattle.janus_syntax.specs.declared.tree.Procedure as Defined
-use Rattle.janus_names.specs.Numbers.{IsNumbered}
-use Rattle.janus_names.proofs.NameAt.{is_numbered}
-use Rattle.janus_slots.specs.Slots.{stacked, procedure_in, procedures_in}
+use Rattle.janus_names.proofs.NameAt.{name_is}
+use Rattle.janus_slots.specs.Slots.{slot, stacked, procedure_in, procedures_in}
 use Rattle.janus_code.specs.CodeBlock.{code_block}
-use Rattle.janus_code.specs.Numbered.{HaveNumbers}
-use Rattle.janus_code.specs.Procedures.{param_of, params_of, proc_of, ParametersHaveNumbers, ProcedureHasNumbers}
-use Rattle.janus_code.specs.declared.code.FlatParameter.{FlatParameter}
+use Rattle.janus_code.specs.Expressions.{symbol_name}
+use Rattle.janus_code.specs.Numbered.{HasItsNumber}
+use Rattle.janus_code.specs.Procedures.{param_of, proc_of, ProcedureHasNumbers}
+use Rattle.janus_code.specs.Slotted.{all_slots}
+use Rattle.janus_code.specs.declared.code.Symbol.{Symbol}
 use Rattle.janus_code.specs.declared.code.FlatProcedure as flat
-use Rattle.janus_store.specs.Calls.{AreNamed}
-use Rattle.kernel_runner.specs.Bodies.{numbers_of, IsBody, AreBodiesFrom}
-use Rattle.kernel_runner.specs.Places.{block_in, BookHasNumbers}
-use Rattle.kernel_runner.specs.linked_code.Direction.TheVariants.{Forward}
+use Rattle.janus_code.proofs.Slotting.{are_all}
+use Rattle.janus_frames.specs.Cells.{parameters}
+use Rattle.kernel_runner.specs.Bodies.{IsBody, IsBodyAt, AreBodiesFrom}
+use Rattle.kernel_runner.specs.Places.{block_in, names_under}
+use Rattle.kernel_runner.specs.direction.Direction.TheVariants.{Forward}
 use Rattle.kernel_runner.specs.linked_procedure.LinkedProcedure.{LinkedProcedure}
-use Rattle.janus_code.specs.Width.{width_of_procedure}
-use Rattle.kernel_loader.specs.Keeping.{width_of_procedures}
 
-parameters_named : (xs : List Name) (ps : List FlatParameter) → ParametersHaveNumbers xs ps → AreNamed xs (numbers_of ps) (names_of (params_of xs ps))
-parameters_named xs [] h = tt
-parameters_named xs (p ∷ ps) h = (is_numbered xs p.name.number h.0, parameters_named xs ps h.1)
-
-pub body_of_flat : (xs : List Name) (f : flat.FlatProcedure) (b : LinkedProcedure) (p : Proc) → proc_of xs f ≡ p → ProcedureHasNumbers xs f →
-    length p.params ≤ parameter_limit → b.name ≡ f.name.number → b.parameters.items ≡ numbers_of f.parameters.items →
-    ((xs : List Name) → block_in xs b.book Forward ≡ code_block xs f.body) →
-    ((xs : List Name) → HaveNumbers xs f.body.statements.items → BookHasNumbers xs b.book) → IsNumbered xs b.name p.name × IsBody xs b p
-body_of_flat xs f b p is numbered few name parameters body books = (
-  subst (λ (p : Proc). IsNumbered xs b.name p.name) is
-      (subst (λ k. IsNumbered xs k (proc_of xs f).name) (sym name) (is_numbered xs f.name.number numbered.name)),
-  record {
-    few = subst (λ ks. length ks ≤ parameter_limit) (sym parameters)
-        (subst (λ n. n ≤ parameter_limit)
-        (ap (λ (p : Proc). length p.params) (sym is) ∙ length-map f.parameters.items (param_of xs)
-        ∙ sym (length-map f.parameters.items (λ (p : FlatParameter). p.name.number))) few);
-    parameters = subst (λ ks. AreNamed xs ks (names_of p.params)) (sym parameters)
-        (subst (λ (p : Proc). AreNamed xs (numbers_of f.parameters.items) (names_of p.params)) is (parameters_named xs f.parameters.items numbered.parameters));
-    body = body xs ∙ ap (λ (p : Proc). p.body) is;
-    numbered = books xs numbered.body;
-  },
-)
+slot_is : (x : Symbol) → HasItsNumber all_slots x → symbol_name all_slots x ≡ slot x.number
+slot_is x h = name_is all_slots x.number (slot x.number) (are_all x.number h)
 
 stacked_count : {A : Type 0} (l : List (Name × A)) → length (stacked l) ≡ length l
 stacked_count [] = refl
 stacked_count (e ∷ l) = ap suc (stacked_count l)
 
--- a procedure has as many parameters with slots
-pub few_slots : (es : List Name) (p : Proc) → length p.params ≤ parameter_limit → length (procedure_in es p).params ≤ parameter_limit
-few_slots es p few = subst (λ n. n ≤ parameter_limit) (sym (stacked_count p.params)) few
+-- parameters with slots in place of names are those of a call
+names_stacked : {A : Type 0} (l : List (Name × A)) → names_of (stacked l) ≡ parameters (length l)
+names_stacked [] = refl
+names_stacked (e ∷ l) = ap (λ xs. slot (length l) ∷ xs) (names_stacked l)
+
+module _ (es : List Name) (p : Proc) (f : flat.FlatProcedure) (is : proc_of all_slots f ≡ procedure_in es p) (numbered : ProcedureHasNumbers all_slots f)
+    (b : LinkedProcedure) (name : b.name ≡ f.name.number) where
+  pub name_of_flat : (procedure_in es p).name ≡ slot b.name
+  name_of_flat = ap (λ (q : Proc). q.name) (sym is) ∙ slot_is f.name numbered.name ∙ ap slot (sym name)
+
+  pub body_of_flat : names_under b.book ≡ length f.parameters.items → names_under b.book ≤ parameter_limit →
+      block_in b.book Forward ≡ code_block all_slots f.body → IsBody b (procedure_in es p)
+  body_of_flat count few body =
+      let many : length p.params ≡ length f.parameters.items = sym (stacked_count p.params) ∙ ap (λ (q : Proc). length q.params) (sym is)
+      ∙ length-map f.parameters.items (param_of all_slots) in
+      record {
+        few = few;
+        names = names_stacked p.params ∙ ap parameters (many ∙ sym count);
+        body = body ∙ ap (λ (q : Proc). q.body) is;
+      }
+
+-- ---- results
+
+pub if_ok_map : {A E : Type 0} {P Q : A → Type 0} (r : Result A E) → ((x : A) → P x → Q x) → IfOk r P → IfOk r Q
+if_ok_map (Ok x) f h = f x h
+if_ok_map (Err e) f h = tt
 
 -- ---- several
 
@@ -98,39 +100,24 @@ kept_more old all new i b count older made =
     )
 
 -- .. which is that of a procedure with slots
-pub bodies_more : (xs es : List Name) (old all new : List LinkedProcedure) (ys : List Defined.Procedure) (i : ℕ) (y : Defined.Procedure) (b : LinkedProcedure) →
+pub bodies_more : (es : List Name) (old all new : List LinkedProcedure) (ys : List Defined.Procedure) (i : ℕ) (y : Defined.Procedure) (b : LinkedProcedure) →
     i < length ys → get_or ys i y ≡ y →
-    AreBodiesFrom xs all (length old) (procedures_in es (map plain_procedure (procedures_view (take i ys)))) → length all ≡ length old + i →
+    AreBodiesFrom all (length old) (procedures_in es (map plain_procedure (procedures_view (take i ys)))) → length all ≡ length old + i →
     new ≡ all ++ b ∷ [] →
-    IsNumbered xs b.name (procedure_in es (plain_procedure (procedure_view y))).name → IsBody xs b (procedure_in es (plain_procedure (procedure_view y))) →
-    AreBodiesFrom xs new (length old) (procedures_in es (map plain_procedure (procedures_view (take (i + 1) ys))))
-bodies_more xs es old all new ys i y b l e bodies count made named body =
+    (procedure_in es (plain_procedure (procedure_view y))).name ≡ slot b.name → IsBody b (procedure_in es (plain_procedure (procedure_view y))) →
+    AreBodiesFrom new (length old) (procedures_in es (map plain_procedure (procedures_view (take (i + 1) ys))))
+bodies_more es old all new ys i y b l e bodies count made named body =
     let ps : List Proc = procedures_in es (map plain_procedure (procedures_view (take i ys))) in
     let p : Proc = procedure_in es (plain_procedure (procedure_view y)) in
     let one : suc i ≡ i + 1 = omega arith in
     let many : length ps ≡ i = length-map (map plain_procedure (procedures_view (take i ys))) (procedure_in es)
     ∙ procedures_count ys i (let r : i ≤ length ys = omega arith in r) in
     let place : length all ≡ length old + length ps = count ∙ ap (λ n. length old + n) (sym many) in
-    let at : slice_get (all ++ b ∷ []) (length old + length ps) ≡ Some b = ap (slice_get (all ++ b ∷ [])) (sym place) ∙ last_one all b in
+    let at : IsBodyAt (all ++ b ∷ []) (length old + length ps) p =
+    record { body = b; there = ap (slice_get (all ++ b ∷ [])) (sym place) ∙ last_one all b; name = named; is = body } in
     let more : procedures_in es (map plain_procedure (procedures_view (take (i + 1) ys))) ≡ ps ++ p ∷ [] =
     ap (λ n. procedures_in es (map plain_procedure (procedures_view (take n ys)))) (sym one) ∙ ap (procedures_in es) (procedures_more ys i y l e)
     ∙ map-append (procedure_in es) (map plain_procedure (procedures_view (take i ys))) (plain_procedure (procedure_view y) ∷ []) in
-    subst (λ bs. AreBodiesFrom xs bs (length old) (procedures_in es (map plain_procedure (procedures_view (take (i + 1) ys))))) (sym made)
-    (subst (λ qs. AreBodiesFrom xs (all ++ b ∷ []) (length old) qs) (sym more)
-    (bodies_from_more xs (all ++ b ∷ []) (length old) ps p (bodies_from_before xs all b (length old) ps bodies) (b, at, named, body)))
-
--- ---- how many slots they need
-
-pub larger_is : (a b n : ℕ) → n ≡ ord_max nat_cmp a b → n ≡ max a b
-larger_is a b n e = let most : ord_max nat_cmp a b ≡ max a b = grind arith in e ∙ most
-
-width_of_last : (es : List Name) (ps : List Proc) (p : Proc) → width_of_procedures es (ps ++ p ∷ []) ≡ max (width_of_procedures es ps) (width_of_procedure es p)
-width_of_last es [] p = omega arith
-width_of_last es (q ∷ ps) p = omega (arith, width_of_last es ps p)
-
-pub width_more : (es : List Name) (ys : List Defined.Procedure) (i : ℕ) (y : Defined.Procedure) → i < length ys → get_or ys i y ≡ y →
-    width_of_procedures es (map plain_procedure (procedures_view (take (i + 1) ys)))
-    ≡ max (width_of_procedures es (map plain_procedure (procedures_view (take i ys)))) (width_of_procedure es (plain_procedure (procedure_view y)))
-width_more es ys i y l e =
-    ap (λ n. width_of_procedures es (map plain_procedure (procedures_view (take n ys)))) (add-one i) ∙ ap (width_of_procedures es) (procedures_more ys i y l e)
-    ∙ width_of_last es (map plain_procedure (procedures_view (take i ys))) (plain_procedure (procedure_view y))
+    subst (λ bs. AreBodiesFrom bs (length old) (procedures_in es (map plain_procedure (procedures_view (take (i + 1) ys))))) (sym made)
+    (subst (λ qs. AreBodiesFrom (all ++ b ∷ []) (length old) qs) (sym more)
+    (bodies_from_more (all ++ b ∷ []) (length old) ps p (bodies_from_before all b (length old) ps bodies) at))

@@ -2,7 +2,6 @@ pub mod Kept
 pub mod OlderHeads
 pub mod Made
 pub mod Listed
-pub mod CodeCalls
 pub mod Sighted
 pub mod Named
 pub mod Unlisted
@@ -10,7 +9,6 @@ pub mod Entries
 -- Of janus_machine, given again.
 pub use Rattle.kernel_runner.proofs.Bodies
 pub use Rattle.kernel_runner.proofs.BodiesInEffect
-pub use Rattle.kernel_runner.proofs.GoesOn
 -- Of kernel_runner, given again.
 pub use Rattle.kernel_runner.proofs.Counting
 pub use Rattle.kernel_runner.proofs.Crosses as RunnerCrosses

@@ -64,40 +64,6 @@ module _ (hs : Heads) (es : List Name) (q : HasEntries hs es) where
   bodies_call [] h = tt
   bodies_call (p ∷ ps) h = (block_calls p.params p.body h.0.body, bodies_call ps h.1)
 
--- ---- a number is a slot only of what is listed
-
-abbrev pub IsSlot : Name → Type 0
-IsSlot x = (k : ℕ) × (x ≡ slot k)
-
-number_by : (n : ℕ) (h : Name) (es : List Name) (f : Name) (b : Bool) → same_name f h ≡ b → (IsSlot (number_from (suc n) es f) → IsMet es f) →
-    IsSlot (cond b (slot n) (number_from (suc n) es f)) → IsMet (h ∷ es) f
-number_by n h es f true s later p = (0, ap Some (sym (same_name_true f h s)))
-number_by n h es f false s later p = let m = later p in (suc m.0, m.1)
-
-number_met : (n : ℕ) (es : List Name) (f : Name) → IsSlot (number_from n es f) → IsMet es f
-number_met n [] f p = let bad : [] ≡ slot p.0 = p.1 in cc
-number_met n (h ∷ es) f p = number_by n h es f (same_name f h) refl (number_met (suc n) es f) p
-
-module _ (es : List Name) where
-  mutual
-    stm_met : (g : List Name) (c : Stm) → CallsIn IsSlot (stm_in es g c) → CallsIn (IsMet es) c
-    stm_met g Skip h = tt
-    stm_met g (Set x o e) h = tt
-    stm_met g (SetAt a i o e) h = tt
-    stm_met g (Push x y) h = tt
-    stm_met g (Pop x y) h = tt
-    stm_met g (Swap x y) h = tt
-    stm_met g (If a s t b) h = (block_met g s h.0, block_met g t h.1)
-    stm_met g (From a s t b) h = (block_met g s h.0, block_met g t h.1)
-    stm_met g (LocalInt x a s b) h = block_met (x ∷ g) s h
-    stm_met g (LocalStack x s) h = block_met (x ∷ g) s h
-    stm_met g (Call f xs) h = number_met 0 es f h
-    stm_met g (Uncall f xs) h = number_met 0 es f h
-
-    pub block_met : (g : List Name) (b : Blk) → CallsOf IsSlot (block_in es g b) → CallsOf (IsMet es) b
-    block_met g Nil h = tt
-    block_met g (Cons c b) h = (stm_met g c h.0, block_met g b h.1)
-
 -- ---- what is listed keeps its number
 
 met_later : (h : Name) (es : List Name) (f : Name) → same_name f h ≡ false → IsMet (h ∷ es) f → IsMet es f

@@ -3,7 +3,7 @@ use Rattle.std.proofs.Common.{◌≡◌, ℕ, zero, suc, ◌<◌, Bool, true, fa
 use Rattle.janus_meaning.specs.Syntax.{Name, Proc, names_of}
 use Rattle.janus_meaning.specs.Store.{Store, same_name}
 use Rattle.janus_meaning.specs.Shape.{Shape, Heads, head_at, head_of, heads_of, kinds_in, pick_newest}
-use Rattle.janus_meaning.specs.World.{Declaration, DeclareInt, DeclareArray, DeclareStack, declare, declare_one, declared_name}
+use Rattle.janus_meaning.specs.World.{World, Declaration, DeclareInt, DeclareArray, DeclareStack, declare, declare_one, declared_name}
 use Rattle.janus_meaning.specs.FormedWorld.{with_declared, with_heads, declared_kind}
 use Rattle.janus_meaning.proofs.Stores.{same_name_true}
 use Rattle.janus_names.specs.Numbers.{IsMet, GoOn, Adds}
@@ -17,12 +17,13 @@ use Rattle.janus_check.specs.Names.{shape_in, heads_in}
 use Rattle.janus_check.specs.Checked.{cell_in, known_in, names_seen, heads_called}
 use Rattle.janus_check.specs.declared.checked.Checked.{Checked}
 use Rattle.janus_code.specs.Slotted.{HasEntries}
-use Rattle.janus_store.specs.StoreState.{shown_store}
+use Rattle.janus_frames.specs.StoreState.{shown_store}
+use Rattle.kernel_machine.specs.Language.{IsSound}
 use Rattle.kernel_runner.specs.Runner.{ShownWorld}
 use Rattle.kernel_runner.specs.declared.runner.Runner.{Runner}
 use Rattle.kernel_runner.proofs.Growing.{no_more}
 use Rattle.kernel_loader.specs.Loading.{ShowsKnown}
-use Rattle.kernel_loader.proofs.Listed.{listed_still, met_still}
+use Rattle.kernel_loader.proofs.Listed.{BodiesCall, bodies_call, listed_still, met_still}
 
 -- ---- names
 
@@ -60,6 +61,10 @@ entries_with es hs (p ∷ ps) q h = entries_with es (head_of p ∷ hs) ps (entry
 entries_of : (es : List Name) (ps : List Proc) → AreListed es ps → HasEntries (heads_of ps) es
 entries_of es [] h = λ f cs e. cc
 entries_of es (p ∷ ps) h = entry_more es (heads_of ps) p (entries_of es ps h.1) h.0
+
+-- so all is listed that the procedures of a sound world call
+pub sound_call : (es : List Name) (w : World) → IsSound w → AreListed es w.procedures → BodiesCall (IsMet es) w.procedures
+sound_call es w sound listed = bodies_call (heads_of w.procedures) es (entries_of es w.procedures listed) w.procedures sound.formed.procedures
 
 pub entries_here : {L : Type 0} (runner : Runner L) (checked : Checked) (shown : ShownWorld) (es : List Name) → ShowsKnown runner (known_in checked) shown →
     GoOn runner.entries es → AreListed es (plain_cell (cell_in checked)).procedures → HasEntries (heads_called checked) es

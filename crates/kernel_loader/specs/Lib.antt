@@ -6,6 +6,7 @@ pub mod Known
 pub mod Keeping
 pub mod Loading
 -- Of kernel_runner, given again.
+pub use Rattle.kernel_runner.specs.Values
 pub use Rattle.kernel_runner.specs.Runner
 pub use Rattle.kernel_runner.specs.Program
 pub use Rattle.kernel_runner.specs.declared.program

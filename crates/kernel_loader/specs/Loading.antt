@@ -7,6 +7,7 @@ use Rattle.janus_names.specs.Numbers.{IsNumbered}
 use Rattle.janus_syntax.specs.Tree.{Cell}
 use Rattle.janus_check.specs.Names.{Known}
 use Rattle.kernel_runner.specs.linked_code.LinkedCode.{LinkedCode}
+use Rattle.kernel_machine.specs.Language.{IsSound}
 use Rattle.kernel_runner.specs.Program.{tree_of}
 use Rattle.kernel_runner.specs.declared.program.Program.{Program}
 use Rattle.kernel_runner.specs.Runner.{ShownWorld, Is, Between}
@@ -19,9 +20,9 @@ pub record ShowsKnown {L : Type 0} (runner : Runner L) (env : Known) (shown : Sh
   pub known : IsKnownOf env shown.world
   pub values : HaveValues shown.world.store
 
--- the runner shows what it showed: there may be more slots, more names of procedures, and more bodies that are kept
+-- the runner shows the well-formed world that it showed: there may be more names of procedures, and more bodies that are kept
 abbrev pub KeepsShown : {L : Type 0} → Runner L → Runner L → Type 0
-KeepsShown old new = (shown : ShownWorld) → Is old (Between shown) → Is new (Between shown)
+KeepsShown old new = (shown : ShownWorld) → IsSound shown.world → Is old (Between shown) → Is new (Between shown)
 
 -- behind the old names stand names of these procedures, and no others
 abbrev pub AddNamesOf : List Name → List Name → List Proc → Type 0

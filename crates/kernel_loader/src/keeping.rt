@@ -1,13 +1,12 @@
 //! The bodies of a cell's procedures, made flat and linked, and kept behind those of earlier cells.
-ghost use Rattle.std.specs.Prelude.{◌≡◌, ◌+◌, ◌≤◌, IfOk, OnOk, OnErr, length, map, Contains};
+ghost use Rattle.std.specs.Prelude.{◌≡◌, ◌+◌, ◌≤◌, OnOk, OnErr, length, map, Contains};
 ghost use Rattle.janus_slots.specs.Slots.{procedure_in, procedures_in};
 ghost use Rattle.janus_syntax.specs.Tree.{procedure_view, procedures_view};
 ghost use Rattle.janus_syntax.specs.View.{plain_procedure, plain_cell};
 ghost use Rattle.janus_check.specs.Checked.{cell_in, heads_called};
-ghost use Rattle.janus_code.specs.Slotted.{HasEntries};
-ghost use Rattle.janus_code.specs.Width.{width_of_procedure};
+ghost use Rattle.janus_code.specs.Slotted.{HasEntries, all_slots};
 ghost use Rattle.kernel_runner.specs.Procedures.{kept_in};
-ghost use Rattle.kernel_loader.specs.Keeping.{IsKeptBehind, AreBodiesBehind, KeepsOlder, KeepsDefined, width_of_procedures};
+ghost use Rattle.kernel_loader.specs.Keeping.{IsKeptBehind, AreBodiesBehind, KeepsOlder, KeepsDefined};
 
 use janus_check::Checked;
 use janus_code::flatten_procedure;
@@ -16,54 +15,52 @@ use janus_syntax::tree::Procedure;
 use kernel_runner::{LinkedProcedure, Procedures};
 use std::alloc::{AllocError, Global};
 
-/// Keeps the bodies of the procedures of a checked cell, one behind another, and gives how many slots they need; an error for want of memory, or for a body of more
-/// statements or places than 32 bits count, after which some of them may be kept.
+/// Keeps the bodies of the procedures of a checked cell, one behind another; an error for want of memory, or for a body of more statements or places than
+/// 32 bits count, after which some of them may be kept.
 pub fn keep_all(
     alloc: Global,
     checked: &Checked,
     procedures: &[Procedure],
     entries: &Names,
     kept: &mut Procedures,
-) -> Result<usize, AllocError>
+) -> Result<(), AllocError>
     requires defined { map plain_procedure (procedures_view procedures.now) ≡ (plain_cell (cell_in checked.now)).procedures }
     requires entries { HasEntries (heads_called checked.now) entries.now }
-    ensures bodies { IfOk result (λ width.
-        AreBodiesBehind kept.old kept.new width (procedures_in entries.now (map plain_procedure (procedures_view procedures.now)))) }
-    ensures width { IfOk result (λ width. width ≡ width_of_procedures entries.now (map plain_procedure (procedures_view procedures.now))) }
+    ensures bodies { OnOk result (AreBodiesBehind kept.old kept.new (procedures_in entries.now (map plain_procedure (procedures_view procedures.now)))) }
     ensures count { OnOk result (length (kept_in kept.new) ≡ length (kept_in kept.old) + length procedures.now) }
     ensures older { KeepsOlder kept.old kept.new }
     ensures defined { KeepsDefined kept.old kept.new }
 {
-    let mut width = 0;
     for i in 0..procedures.len() {
-        let more = keep(alloc, checked, &procedures[i], entries, kept)?;
-        width = width.max(more);
+        keep(alloc, checked, &procedures[i], entries, kept)?;
     }
-    Ok(width)
+    Ok(())
 }
 
-/// Keeps the body of a procedure, and gives how many slots it needs; an error for want of memory, or for a body of more statements or places than 32
-/// bits count, after which what was kept is.
+/// Keeps the body of a procedure; an error for want of memory, or for a body of more statements or places than 32 bits count, after which what was kept is.
 fn keep(
     alloc: Global,
     checked: &Checked,
     procedure: &Procedure,
     entries: &Names,
     kept: &mut Procedures,
-) -> Result<usize, AllocError>
+) -> Result<(), AllocError>
     requires of_cell { Contains (plain_cell (cell_in checked.now)).procedures (plain_procedure (procedure_view procedure.now)) }
     requires entries { HasEntries (heads_called checked.now) entries.now }
-    ensures ok { IfOk result (λ width. IsKeptBehind kept.old kept.new width (procedure_in entries.now (plain_procedure (procedure_view procedure.now)))) }
-    ensures width { IfOk result (λ width. width ≡ width_of_procedure entries.now (plain_procedure (procedure_view procedure.now))) }
+    ensures ok { OnOk result (IsKeptBehind kept.old kept.new (procedure_in entries.now (plain_procedure (procedure_view procedure.now)))) }
     ensures err { OnErr result (kept_in kept.new ≡ kept_in kept.old) }
     ensures defined { KeepsDefined kept.old kept.new }
 {
-    checked.formed_law();
     let Ok(flat) = flatten_procedure(alloc, checked, procedure, entries) else {
         return Err(AllocError);
     };
-    let width = flat.width;
+    slots_law(flat.width);
     let body = LinkedProcedure::new(alloc, flat.procedure)?;
     let _index = kept.add(body)?;
-    Ok(width)
+    Ok(())
 }
+
+/// Law: a `usize` counts no more than there are slots.
+pub fn slots_law(width: usize)
+    ensures { width ≤ length all_slots }
+{}

@@ -4,21 +4,22 @@
 //! - `load` prepares a cell's text over the names that the runner's store declares and the procedures that it is lent: it is parsed, checked,
 //!   made flat and linked, with slots in place of names, the names of its procedures and no others come into the runner's table behind the old ones, and the
 //!   bodies of its procedures are kept behind those of earlier cells. What is refused is refused for the text's fault or for want of memory
-//!   (`Text` of `kernel_machine`). The runner shows what it showed.
+//!   (`Text` of `kernel_machine`). A well-formed world that the runner showed it goes on to show.
 //! - `names_in_sight` gives the names that a store declares, as the check of a cell sees them.
 //!
 //! The code, in reading order: `sight` and `known` (what a cell is checked over), `checking` (a text, parsed and checked), `listing` (the names
-//! of its procedures), `frame` (the names over which it runs), `keeping` (the bodies of its procedures), `loader` (all of these for one text).
+//! of its procedures), `keeping` (the bodies of its procedures), `loader` (all of these for one text).
 //!
 //! The definitions are in specs/: `Kinds`, `Defined`, `Known` (what a cell is checked over), `Keeping` (its code, and the bodies that are kept) and
 //! `Loading` (what stays while a cell is loaded, and which names of procedures are new).
 //!
 //! It gives names of `kernel_runner` and of `janus_machine` again for the history, which works with a runner and loaded cells; `Cursor`, `Procedures` and
 //! `slice` for a wrong body of the history that runs the machine itself.
+//!
+//! The store stays as it is. What is refused leaves names and bodies as they were.
 #![tactic(auto)]
 
 mod checking;
-mod frame;
 mod keeping;
 mod known;
 mod listing;

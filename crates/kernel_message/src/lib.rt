@@ -7,6 +7,8 @@
 //! What goes out is a function of what was asked, the stamp and the drafts (specs/: `Stamp`, `Message`, `Sent`). JSON is written by
 //! `serde_json`. The header is that of the Jupyter messaging page (version 5.4, "General Message Format"), and a broadcast's topic
 //! is its type. No message is cut or left out for its length: that a message is longer than a reader takes is told by who writes it.
+//!
+//! That the numbers stay below 2^64 is a condition of `send`.
 #![tactic(auto)]
 
 mod draft;

@@ -1,6 +1,7 @@
 //! What happens once, and for which threads wait.
 use std::sync::atomic::{AtomicBool, Ordering};
 use std::sync::{Condvar, Mutex, Wait};
+use std::time::{Clock, Duration};
 
 /// A latch: it is set once, and any thread can wait until it is.
 #[derive(Drop)]
@@ -32,6 +33,13 @@ impl Latch {
         *set = true;
         drop(set);
         self.setting.notify_all();
+    }
+
+    /// Waits until it is set, or for so long. Whether it is set.
+    pub fn wait_for<R: Wait + Clock>(&self, rt: &R, most: Duration) -> bool {
+        let set = self.set.lock(rt);
+        drop(self.setting.wait_timeout_while(rt, set, most, |set| !*set));
+        self.is_set()
     }
 
     /// Waits until it is set.

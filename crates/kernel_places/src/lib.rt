@@ -18,7 +18,8 @@
 //!
 //! [`Service`] is what all places share: the hall, the board, the connections that are served, and the latches that all threads look at.
 //! [`serve_all`] starts the threads, and no connection is accepted before all of them stand; it tells when it is ready, waits for a
-//! shutdown and joins every thread. A place of shell or control has a pass of the hall and a ringer's seat for as long as it lives.
+//! shutdown and joins every thread. While it waits it looks every ten seconds at how many nodes and minutes there are, and tells once of each, by a line
+//! to the errors, that nine tenths of them are used. A place of shell or control has a pass of the hall and a ringer's seat for as long as it lives.
 //!
 //! As a shutdown is answered no more connections are accepted, and those on which requests come are shut for reading. The worker comes to
 //! its end first: the cell that ran was rung for, and goes back in as many steps as it took. Each connection has a grace then in which it
@@ -32,9 +33,14 @@
 //! The files, in the order in which a connection passes them: `usher` accepts it and has others make room, `door` is where it waits for a place,
 //! `places` has the places and the listeners, `requests` serves it on shell, control, stdin and heartbeat, `publishing` on iopub; `arrivals`
 //! is what comes on it, `departures` what goes out, `sockets` and `time` have the rules of each socket and its times. `task` is what a thread
-//! does, `worker` runs the cells, `latch` is what all threads look at, `service` has all that they share, and `start` starts and ends them.
+//! does, `worker` runs the cells, `latch` is what all threads look at, `service` has all that they share, `start` starts and ends them,
+//! and `warning` tells which limits are near.
 //!
 //! It gives again what a program needs to start it: the kernel, the hall and the comms that it makes.
+//!
+//! In functions that are not public it is proved that of who showed the key no octets are counted, that a stranger's octets come further
+//! only where they are counted, and that for an answer that goes out 25 octets at most are let go of, none where it is no pong. That none
+//! come further before this is asked, and that they are let go of once, is no clause's. `serve_all` has a condition alone.
 #![tactic(auto)]
 
 mod arrivals;
@@ -50,6 +56,7 @@ mod start;
 mod task;
 mod time;
 mod usher;
+mod warning;
 mod worker;
 
 pub use kernel_desk::{Comms, Entry, Hall, HistoryName, Kernel, NewHistory, Note, PARTS_OF_POSTS};

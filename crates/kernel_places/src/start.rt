@@ -4,9 +4,10 @@ ghost use Rattle.std.specs.Prelude.{◌≡◌, All};
 use crate::places::{Listeners, PLACES, Place};
 use crate::service::Service;
 use crate::task::Task;
+use crate::warning::tell_until_end;
 use crate::worker::Worker;
 use kernel_bell::{RingerSeat, RunnerSeat};
-use kernel_desk::{HallDesk, HistoryName, Socket};
+use kernel_desk::{HallDesk, HistoryName, Pass, Socket};
 use kernel_sockets::Connections;
 use std::alloc::AllocError;
 use std::io::Write;
@@ -249,27 +250,31 @@ fn end_subscribers<W: Ledger, L: HistoryName, S: Ledger, R: Wait + Clock>(
     see_out(rt, &service.subscribers);
 }
 
-/// Serves requests until a shutdown was answered, and brings all that serve them to an end. False where a thread could not be made.
+/// Serves requests until a shutdown was answered, and brings all that serve them to an end. With the pass of a watcher it tells meanwhile which limits
+/// are near. False where a thread could not be made.
 fn serve_callers<
     W: Ledger + Send + Sync,
     L: HistoryName + Send + Sync,
     S: Ledger + Send + Sync,
     R: Threads + Wait + Clock + Sync,
     O: Write,
+    E: Write,
 >(
     rt: &R,
     service: &Service<W, L, S>,
     listeners: &Listeners,
     worker: Worker<'_, W, L>,
     desks: Vec<HallDesk<'_, W, L, R>>,
+    watcher: Pass<L>,
     out: &mut O,
+    err: &mut E,
 ) -> bool {
     thread::scope(thread::scope_env(), rt, |scope| {
         let is_started = start_all(scope, rt, service, listeners, worker, desks);
         if is_started {
             service.started.set(rt);
             tell_ready(out);
-            service.ending.wait(rt);
+            tell_until_end(rt, service, watcher, err);
         }
         end_all(rt, service, listeners);
         service.rested.wait(rt);
@@ -279,7 +284,8 @@ fn serve_callers<
 }
 
 /// Serves all connections of these sockets until a shutdown was answered, brings all threads to an end and joins them. Once all are
-/// started it writes the line `ready`. False where a thread could not be made, after all those that were have ended.
+/// started it writes the line `ready`, and to the errors a line for each limit of which nine tenths are used. False where a thread could not be made, after
+/// all those that were have ended.
 ///
 /// # Errors
 ///
@@ -290,12 +296,14 @@ pub fn serve_all<
     S: Ledger + Send + Sync,
     R: Threads + Wait + Clock + Sync,
     O: Write,
+    E: Write,
 >(
     rt: &R,
     service: &Service<W, L, S>,
     listeners: &Listeners,
     seats: Seats,
     out: &mut O,
+    err: &mut E,
 ) -> Result<bool, AllocError>
     requires runner { seats.runner.bell ≡ service.now.hall }
     requires ringers { All (λ seat. seat.bell ≡ service.now.hall) seats.ringers.items }
@@ -303,9 +311,12 @@ pub fn serve_all<
     let Seats { runner, ringers } = seats;
     let desks = desks_of(rt, service, ringers)?;
     let worker = Worker::new(&service.hall, runner);
+    let Ok(watcher) = service.hall.pass(rt) else {
+        return Err(AllocError);
+    };
     let is_started = thread::scope(thread::scope_env(), rt, |scope| {
         let is_started = if start_without_desks(scope, rt, service, listeners, Socket::Iopub) {
-            serve_callers(rt, service, listeners, worker, desks, out)
+            serve_callers(rt, service, listeners, worker, desks, watcher, out, err)
         } else {
             end_all(rt, service, listeners);
             false

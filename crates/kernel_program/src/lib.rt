@@ -4,6 +4,9 @@
 //! status. To the layer above this crate promises safety, and that each reason for which the program does not run has its status, as have words
 //! that run nothing (specs/Status.antt). Which words name a FILE is clap's, and what sockets and files do no contract can say: both are tested. The
 //! connection file is that of Jupyter's page on kernels ("Connection files").
+//!
+//! The seats that are made with a hall are those of its bell. That there is one for each place of shell and control is proved of the
+//! constants alone. That `kernel_main` answers these statuses is tested, but for that of want of memory.
 #![tactic(auto)]
 
 mod fault;

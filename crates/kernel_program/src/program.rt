@@ -108,6 +108,7 @@ fn serve_new_kernel<
     S: Ledger + Send + Sync,
     R,
     O: Write,
+    E: Write,
 >(
     rt: &R,
     alloc: Global,
@@ -120,6 +121,7 @@ fn serve_new_kernel<
     listeners: &Listeners,
     key: Key,
     out: &mut O,
+    err: &mut E,
 ) -> Result<(), ProgramFault>
 where
     R: RandomSource + Threads + Wait + Clock + Sync,
@@ -132,7 +134,7 @@ where
     let (service, seats) = new_service::<W, L, S, R>(
         rt, alloc, writes, posts, history, notes, strangers, times, key,
     )?;
-    let served = serve_all(rt, &service, listeners, seats, out);
+    let served = serve_all(rt, &service, listeners, seats, out, err);
     service.discard();
     match served {
         Ok(true) => Ok(()),
@@ -175,7 +177,7 @@ where
     let listeners = listeners_of(rt, &file)?;
     tell_reach(&listeners, &file.ip, err);
     let key = Key::new(file.key.into_bytes());
-    serve_new_kernel::<Brand, Brand, Brand, R, O>(
+    serve_new_kernel::<Brand, Brand, Brand, R, O, E>(
         rt,
         alloc,
         Blank::new(2),
@@ -187,6 +189,7 @@ where
         &listeners,
         key,
         out,
+        err,
     )
 }
 
@@ -221,9 +224,9 @@ pub fn refuse_unread_words<E: Write>(kind: ErrorKind, err: &mut E) -> u8
 }
 
 /// The program `janus-kernel`, over how long connections have, the words of its command line, of which the first is its name, and its two output
-/// streams: it serves the sockets of the connection file until a shutdown, and answers its status. 0 after a shutdown, for help and for the version; 2 for wrong words or a
-/// wrong connection file, 3 where a socket can't be bound, 1 where there is no memory at the start, each with a line to the errors. A
-/// line there also tells that the sockets are not of the loopback, and one that other users can read the connection file. A fault of the two streams is
+/// streams: it serves the sockets of the connection file until a shutdown, and answers its status. 0 after a shutdown, for help and for the version;
+/// 2 for wrong words or a wrong connection file, 3 where a socket can't be bound, 1 where there is no memory at the start, each with a line to the
+/// errors. A line there also tells that the sockets are not of the loopback, and one that other users can read the connection file. A fault of the two streams is
 /// passed over.
 pub fn kernel_main<R, S: AsStr, O: Write, E: Write>(
     rt: &R,

@@ -10,6 +10,8 @@
 //! Lines are those of `kernel_text`, answers those of `kernel_ask`.
 //!
 //! It gives the names of `kernel_ask` and of the kernel again that a session cites: what is asked and what is answered.
+//!
+//! That a request begins with a number of 2^64 - 16 at most is a condition of the calls.
 #![tactic(auto)]
 
 mod answering;

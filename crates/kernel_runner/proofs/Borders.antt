@@ -9,7 +9,7 @@ use Rattle.janus_meaning.proofs.Safe.{well_formed_is_safe}
 use Rattle.janus_slots.specs.Slots.{names_in, procedure_in, procedures_in}
 use Rattle.janus_slots.specs.Law.{AreListed}
 use Rattle.janus_slots.proofs.Laws.{runs_are_the_same, slots_stay}
-use Rattle.janus_slots.proofs.Whole.{size_same, stacks_same}
+use Rattle.janus_slots.proofs.Whole.{names_size, size_same, stacks_same}
 use Rattle.janus_meaning.specs.Store.{Store}
 use Rattle.janus_meaning.specs.Shape.{Shape, Heads, shape_of, heads_of}
 use Rattle.janus_meaning.specs.Formed.{IsBlk}
@@ -18,8 +18,8 @@ use Rattle.janus_meaning.specs.Stepping.{Frame, Place, BeforeBlock, AfterBlock, 
 use Rattle.janus_meaning.specs.World.{World, Cell, entered, declare, define, stacks_in, size_of}
 use Rattle.janus_meaning.proofs.Worlds.{worlds_reverse, entered_is_good}
 use Rattle.janus_meaning.proofs.FormedWorlds.{shape_declared, entered_formed}
-use Rattle.janus_names.specs.Numbers.{GoOn}
-use Rattle.janus_store.specs.StoreState.{StoreState, Caller, IsWhole, AreSlots, shown_store, live_stacks, stacks_lent, own_names}
+use Rattle.janus_frames.specs.Calls.{Caller, stacks_lent, own_names}
+use Rattle.janus_frames.specs.StoreState.{StoreState, IsWhole, shown_store, live_stacks}
 use Rattle.janus_machine.specs.LinearOpen.{locals_in}
 use Rattle.janus_machine.specs.Within.{within}
 use Rattle.janus_machine.specs.Bodies.{AreDefined, AreBodiesFrom, Define, onto}
@@ -29,10 +29,10 @@ use Rattle.janus_machine.specs.Cursor.{calls_of}
 use Rattle.janus_machine.specs.Law.{NeverBroken}
 use Rattle.janus_machine.specs.Nested.{AreOpenCalls}
 use Rattle.janus_machine.specs.Open.{HaveLocals, Agrees}
-use Rattle.janus_machine.specs.Places.{block_in}
+use Rattle.janus_machine.specs.Places.{block_in, names_under}
 use Rattle.janus_machine.specs.declared.linked_code.LinkedCode.{LinkedCode}
-use Rattle.janus_machine.specs.declared.linked_code.Direction.{Direction}
-use Rattle.janus_machine.specs.declared.linked_code.Direction.TheVariants.{Forward, Inverse}
+use Rattle.janus_machine.specs.declared.direction.Direction.{Direction}
+use Rattle.janus_machine.specs.declared.direction.Direction.TheVariants.{Forward, Inverse}
 use Rattle.janus_machine.specs.declared.cursor.Call.{Call}
 use Rattle.janus_machine.specs.declared.cursor.Cursor.{Cursor}
 use Rattle.janus_machine.specs.declared.procedures.Procedures.{Procedures}
@@ -43,17 +43,16 @@ use Rattle.kernel_runner.specs.Program.{cell_of_program, procedures_of, IsReady,
 use Rattle.kernel_runner.specs.Runner.{ShownWorld, Becomes, block_of, slots_of, Stands, entry, inverse_entry, Is, Between, CanEnter, CanReturn, CanLeave}
 use Rattle.kernel_runner.specs.declared.program.Program.{Program}
 use Rattle.kernel_runner.specs.declared.runner.Runner.{Runner}
-use Rattle.kernel_runner.proofs.Growing.{no_more, same_more, defined_grow, ready_grows}
+use Rattle.kernel_runner.proofs.Growing.{no_more, same_more, ready_grows}
 use Rattle.kernel_runner.proofs.Slotted.{IsStoreOf, whole_is}
 use Rattle.kernel_machine.proofs.LanguageLaws.{sound_good}
 
 -- ---- before the first step nothing is open
 
-no_calls : (xs : List Name) (t : Procedures) (b : LinkedCode) (d : Direction) (cs : List Call) (hs : List Caller) → hs ≡ [] → AreOpenCalls xs t b d cs hs →
-    cs ≡ []
-no_calls xs t b d [] hs e h = refl
-no_calls xs t b d (c ∷ cs) [] e h = absurd h
-no_calls xs t b d (c ∷ cs) (x ∷ hs) e h = cc
+no_calls : (t : Procedures) (b : LinkedCode) (d : Direction) (cs : List Call) (hs : List Caller) → hs ≡ [] → AreOpenCalls t b d cs hs → cs ≡ []
+no_calls t b d [] hs e h = refl
+no_calls t b d (c ∷ cs) [] e h = absurd h
+no_calls t b d (c ∷ cs) (x ∷ hs) e h = cc
 
 frames_within : (us : List Frame) (p : Place) → frames_of (within us p) ≡ frames_of p ++ us
 frames_within us (BeforeBlock b fs) = refl
@@ -66,24 +65,28 @@ none_in_front [] us e = refl
 none_in_front (f ∷ fs) us e = cc
 
 pub agrees_before : (k : ℕ) (t : Procedures) (b : LinkedCode) (c : Cursor) (h : StoreState) (blk : Blk) → IsWhole h → stacks_in h.slots ≡ k →
-    IsStanding t b c h →
-    place_of h.names t b c h.callers ≡ BeforeBlock blk [] → Agrees k t b c h
-agrees_before k t b c h blk whole stacks standing place =
-    let frames : frames_of (place_in h.names t b c) ++ outside_of h.names t b c h.callers ≡ [] =
-    sym (frames_within (outside_of h.names t b c h.callers) (place_in h.names t b c)) ∙ ap frames_of place in
-    let none : frames_of (place_in h.names t b c) ≡ [] = none_in_front (frames_of (place_in h.names t b c)) (outside_of h.names t b c h.callers) frames in
+    names_under b ≡ h.declared → IsStanding t b c h → place_of t b c h.callers ≡ BeforeBlock blk [] → Agrees k t b c h
+agrees_before k t b c h blk whole stacks names standing place =
+    let frames : frames_of (place_in t b c) ++ outside_of t b c h.callers ≡ [] =
+    sym (frames_within (outside_of t b c h.callers) (place_in t b c)) ∙ ap frames_of place in
+    let none : frames_of (place_in t b c) ≡ [] = none_in_front (frames_of (place_in t b c)) (outside_of t b c h.callers) frames in
     let lent : stacks_lent h.callers ≡ 0 = ap stacks_lent whole.callers in
     let own : own_names h.declared h.callers ≡ h.declared = ap (own_names h.declared) whole.callers in
-    let locals : locals_in (frames_of (place_in h.names t b c)) ≡ 0 = ap locals_in none in
+    let locals : locals_in (frames_of (place_in t b c)) ≡ 0 = ap locals_in none in
     let declared = whole.declared in
     record {
       stacks = (let e : live_stacks h ≡ k = omega arith in e) ∙ sym (ap (live k) (ap frames_of place));
       size = omega arith;
-      callers = subst (λ (cs : List Call). HaveLocals h.names t b h.declared c.direction cs h.callers)
-          (sym (no_calls h.names t b c.direction (calls_of c) h.callers whole.callers standing.calls)) tt;
+      names = names;
+      callers = subst (λ (cs : List Call). HaveLocals t b h.declared c.direction cs h.callers)
+          (sym (no_calls t b c.direction (calls_of c) h.callers whole.callers standing.calls)) tt;
     }
 
 -- ---- entering a cell
+
+-- code that runs over as many names as a store has runs over those that are declared there
+as_many_names : (s : Store) (n d : ℕ) → n ≡ length (names_in s) → d ≡ size_of s → n ≡ d
+as_many_names s n d names declared = names ∙ names_size s ∙ sym declared
 
 heads_defined : (more ps : List Proc) → heads_of (define more ps) ≡ with_heads (heads_of ps) more
 heads_defined [] ps = refl
@@ -116,25 +119,22 @@ defined_in_slots es [] ps = refl
 defined_in_slots es (p ∷ more) ps = defined_in_slots es more (p ∷ ps)
 
 -- the bodies of a program stay where they are, and its code as it is, where as many bodies are kept
-ready_still : {L : Type 0} (old new : Runner L) (sight : List Name) (program : Program) → GoOn old.counted.store.names new.counted.store.names →
-    new.entries ≡ old.entries →
-    kept_in new.procedures ≡ kept_in old.procedures →
-    IsReady old.counted.store.names old.entries sight old.procedures program → IsReady new.counted.store.names new.entries sight new.procedures program
-ready_still old new sight program names entries kept h =
-    let more = ready_grows old.counted.store.names new.counted.store.names names old.entries new.entries (same_more old.entries new.entries entries)
-    sight old.procedures program h in
+ready_still : {L : Type 0} (old new : Runner L) (sight : List Name) (program : Program) → new.entries ≡ old.entries →
+    kept_in new.procedures ≡ kept_in old.procedures → IsReady old.entries sight old.procedures program → IsReady new.entries sight new.procedures program
+ready_still old new sight program entries kept h =
+    let more = ready_grows old.entries new.entries (same_more old.entries new.entries entries) sight old.procedures program h in
     record {
       meant = more.meant;
-      numbered = more.numbered;
+      names = more.names;
       within = subst (λ bodies. program.first + length (procedures_of program) ≤ length bodies) (sym kept) more.within;
-      bodies = λ es onward. bodies_from_same new.counted.store.names (kept_in old.procedures) (kept_in new.procedures) program.first
+      bodies = λ es onward. bodies_from_same (kept_in old.procedures) (kept_in new.procedures) program.first
           (procedures_in es (procedures_of program)) kept (more.bodies es onward);
     }
 
--- what a cursor promises before a block, over these names
-pub record IsBefore (xs : List Name) (cursor : Cursor) (book : LinkedCode) (blk : Blk) : Type 0 where
+-- what a cursor promises before a block
+pub record IsBefore (cursor : Cursor) (book : LinkedCode) (blk : Blk) : Type 0 where
   pub stands : (t : Procedures) (h : StoreState) → h.callers ≡ [] → IsStanding t book cursor h
-  pub place : (t : Procedures) (hs : List Caller) → place_of xs t book cursor hs ≡ BeforeBlock blk []
+  pub place : (t : Procedures) (hs : List Caller) → place_of t book cursor hs ≡ BeforeBlock blk []
   pub counts : (cursor.count ≡ 0) × (cursor.turned ≡ false)
 
 pub entered_here : {L : Type 0} (old new : Runner L) (program : Program) (from : ShownWorld) → CanEnter old program from →
@@ -142,7 +142,7 @@ pub entered_here : {L : Type 0} (old new : Runner L) (program : Program) (from :
     kept_in new.procedures ≡ kept_in old.procedures →
     new.entries ≡ old.entries →
     AreDefined new.procedures (with_bodies program from.bodies) →
-    IsBefore new.counted.store.names new.cursor program.book (block_in new.counted.store.names program.book Forward) →
+    IsBefore new.cursor program.book (block_in program.book Forward) →
     Stands new program (entry program from) false
 entered_here old new program from can becomes kept entries defined before =
     let cell = cell_of_program program in
@@ -151,23 +151,19 @@ entered_here old new program from can becomes kept entries defined before =
     let shows : shown_store new.counted.store ≡ start.store = becomes.shown ∙ ap (declare cell.declarations) can.is.0.store in
     let is : IsStoreOf new.counted.store start.store = whole_is new.counted.store start.store becomes.whole becomes.texts shows in
     let standing = before.stands new.procedures new.counted.store becomes.whole.callers in
-    let ready : IsReady new.counted.store.names es (names_in start.store) new.procedures program =
-    ready_still old new (names_in start.store) program becomes.names entries kept can.ready in
-    let meant : block_in new.counted.store.names program.book Forward ≡ block_of es cell.block start = ready.meant es (no_more es) in
-    let place : place_of new.counted.store.names new.procedures program.book new.cursor new.counted.store.callers ≡ BeforeBlock
-    (block_of es cell.block start) [] =
+    let ready : IsReady es (names_in start.store) new.procedures program = ready_still old new (names_in start.store) program entries kept can.ready in
+    let meant : block_in program.book Forward ≡ block_of es cell.block start = ready.meant es (no_more es) in
+    let place : place_of new.procedures program.book new.cursor new.counted.store.callers ≡ BeforeBlock (block_of es cell.block start) [] =
     before.place new.procedures new.counted.store.callers ∙ ap (λ (b : Blk). BeforeBlock b []) meant in
     let stacks : stacks_in new.counted.store.slots ≡ stacks_in start.store = ap stacks_in is.slots ∙ stacks_same start.store in
+    let declared : new.counted.store.declared ≡ size_of start.store = becomes.whole.declared ∙ ap size_of is.slots ∙ size_same start.store in
     let listed : AreListed es start.procedures =
     subst (λ (es : List Name). AreListed es start.procedures) (sym entries)
     (listed_more old.entries cell.procedures from.world.procedures can.named can.is.0.listed) in
-    let grown : Define new.counted.store.names old.procedures from.bodies (procedures_in es from.world.procedures) =
-    subst (λ (es : List Name). Define new.counted.store.names old.procedures from.bodies (procedures_in es from.world.procedures)) (sym entries)
-    (defined_grow old.counted.store.names new.counted.store.names becomes.names old.procedures from.bodies (procedures_in old.entries from.world.procedures)
-    can.is.0.defined) in
-    let bodies : AreBodiesFrom new.counted.store.names (kept_in old.procedures) program.first (procedures_in es (procedures_of program)) =
-    (ready_grows old.counted.store.names new.counted.store.names becomes.names old.entries es (same_more old.entries es entries) (names_in start.store)
-    old.procedures program can.ready).bodies es (no_more es) in
+    let older : Define old.procedures from.bodies (procedures_in es from.world.procedures) =
+    subst (λ (es : List Name). Define old.procedures from.bodies (procedures_in es from.world.procedures)) (sym entries) can.is.0.defined in
+    let bodies : AreBodiesFrom (kept_in old.procedures) program.first (procedures_in es (procedures_of program)) =
+    can.ready.bodies es (same_more old.entries es entries) in
     let as_many : length (procedures_in es (procedures_of program)) ≡ length (procedures_of program) = length-map (procedures_of program) (procedure_in es) in
     record {
       cell = refl;
@@ -176,19 +172,17 @@ entered_here old new program from can becomes kept entries defined before =
       counted = before.counts.0;
       turned = before.counts.1;
       standing = standing;
-      declared = becomes.whole.declared ∙ ap size_of is.slots ∙ size_same start.store;
+      declared = declared;
       texts = is.texts;
       agrees = agrees_before (stacks_in start.store) new.procedures program.book new.cursor new.counted.store (block_of es cell.block start)
-          becomes.whole stacks standing place;
+          becomes.whole stacks (as_many_names start.store _ _ ready.names declared) standing place;
       ready = ready;
-      slots = becomes.slots;
       listed = listed;
-      defined = subst (λ (n : ℕ). Define new.counted.store.names new.procedures (onto program.first n from.bodies) (procedures_in es start.procedures)) as_many
-          (subst (λ (ps : List Proc). Define new.counted.store.names new.procedures
-          (onto program.first (length (procedures_in es (procedures_of program))) from.bodies)
-          ps) (sym (defined_in_slots es cell.procedures from.world.procedures))
-          (all_defined new.counted.store.names old.procedures new.procedures program.first (procedures_in es (procedures_of program)) from.bodies
-          (procedures_in es from.world.procedures) kept grown bodies
+      defined = subst (λ (n : ℕ). Define new.procedures (onto program.first n from.bodies) (procedures_in es start.procedures)) as_many
+          (subst (λ (ps : List Proc). Define new.procedures (onto program.first (length (procedures_in es (procedures_of program))) from.bodies) ps)
+          (sym (defined_in_slots es cell.procedures from.world.procedures))
+          (all_defined old.procedures new.procedures program.first (procedures_in es (procedures_of program)) from.bodies
+          (procedures_in es from.world.procedures) kept older bodies
           (subst (λ (n : ℕ). AreDefined new.procedures (onto program.first n from.bodies)) (sym as_many) defined)));
       faces = (
         ap (λ (r : Store). To (BeforeBlock (block_of es cell.block start) []) r) (sym is.slots) ∙ ap (λ (p : Place). To p new.counted.store.slots) (sym place),
@@ -201,7 +195,7 @@ entered_here old new program from can becomes kept entries defined before =
 pub entered_inverse_here : {L : Type 0} (old new : Runner L) (program : Program) (from : ShownWorld) → CanReturn old program from →
     new.counted.store ≡ old.counted.store →
     new.procedures ≡ old.procedures → new.entries ≡ old.entries →
-    IsBefore new.counted.store.names new.cursor program.book (block_in new.counted.store.names program.book Inverse) →
+    IsBefore new.cursor program.book (block_in program.book Inverse) →
     Stands new program (inverse_entry program from) false
 unfolding CodeExec
 entered_inverse_here old new program from can store procedures entries before =
@@ -219,16 +213,14 @@ entered_inverse_here old new program from can store procedures entries before =
     let is : IsStoreOf new.counted.store start.store =
     subst (λ (h : StoreState). IsStoreOf h start.store) (sym store) (whole_is old.counted.store start.store can.is.1 can.is.0.texts can.is.0.store) in
     let standing = before.stands new.procedures new.counted.store now.callers in
-    let ready : IsReady new.counted.store.names es (names_in start.store) new.procedures program =
-    ready_still old new (names_in start.store) program
-    (same_more old.counted.store.names new.counted.store.names (ap (λ (h : StoreState). h.names) store)) entries
-    (ap kept_in procedures) can.ready in
-    let turned : block_in new.counted.store.names program.book Inverse ≡ block_of es inverse start =
-    books_turn new.counted.store.names program.book ∙ ap inverse_block (ready.meant es (no_more es))
-    ∙ slots_stay.inverse es (names_in start.store) cell.block in
-    let place : place_of new.counted.store.names new.procedures program.book new.cursor new.counted.store.callers ≡ BeforeBlock (block_of es inverse start) [] =
+    let ready : IsReady es (names_in start.store) new.procedures program =
+    ready_still old new (names_in start.store) program entries (ap kept_in procedures) can.ready in
+    let turned : block_in program.book Inverse ≡ block_of es inverse start =
+    books_turn program.book ∙ ap inverse_block (ready.meant es (no_more es)) ∙ slots_stay.inverse es (names_in start.store) cell.block in
+    let place : place_of new.procedures program.book new.cursor new.counted.store.callers ≡ BeforeBlock (block_of es inverse start) [] =
     before.place new.procedures new.counted.store.callers ∙ ap (λ (b : Blk). BeforeBlock b []) turned in
     let stacks : stacks_in new.counted.store.slots ≡ stacks_in start.store = ap stacks_in is.slots ∙ stacks_same start.store in
+    let declared : new.counted.store.declared ≡ size_of start.store = now.declared ∙ ap size_of is.slots ∙ size_same start.store in
     record {
       cell = refl;
       good = back.good;
@@ -236,17 +228,14 @@ entered_inverse_here old new program from can store procedures entries before =
       counted = before.counts.0;
       turned = before.counts.1;
       standing = standing;
-      declared = now.declared ∙ ap size_of is.slots ∙ size_same start.store;
+      declared = declared;
       texts = is.texts;
       agrees = agrees_before (stacks_in start.store) new.procedures program.book new.cursor new.counted.store
-          (block_of es inverse start) now stacks standing place;
+          (block_of es inverse start) now stacks (as_many_names start.store _ _ ready.names declared) standing place;
       ready = ready;
-      slots = subst (λ (h : StoreState). AreSlots h.names) (sym store) can.is.0.slots;
       listed = listed;
-      defined = subst (λ (h : StoreState). Define h.names new.procedures from.bodies (procedures_in es start.procedures)) (sym store)
-          (subst (λ (t : Procedures). Define old.counted.store.names t from.bodies (procedures_in es start.procedures)) (sym procedures)
-          (subst (λ (es : List Name). Define old.counted.store.names old.procedures from.bodies (procedures_in es start.procedures))
-          (sym entries) can.is.0.defined));
+      defined = subst (λ (t : Procedures). Define t from.bodies (procedures_in es start.procedures)) (sym procedures)
+          (subst (λ (es : List Name). Define old.procedures from.bodies (procedures_in es start.procedures)) (sym entries) can.is.0.defined);
       faces = (
         ap (λ (r : Store). To (BeforeBlock (block_of es inverse start) []) r) (sym is.slots) ∙ ap (λ (p : Place). To p new.counted.store.slots) (sym place),
         never,
@@ -262,22 +251,19 @@ left_here old new program to can becomes kept entries defined =
     let cell = cell_of_program program in
     let es : List Name = old.entries in
     let as_many : length (procedures_in es (procedures_of program)) ≡ length (procedures_of program) = length-map (procedures_of program) (procedure_in es) in
-    let before : Define new.counted.store.names old.procedures (onto program.first (length (procedures_in es (procedures_of program))) to.bodies)
+    let before : Define old.procedures (onto program.first (length (procedures_in es (procedures_of program))) to.bodies)
     (define (procedures_in es cell.procedures) (procedures_in es to.world.procedures)) =
-    subst (λ (n : ℕ). Define new.counted.store.names old.procedures (onto program.first n to.bodies)
+    subst (λ (n : ℕ). Define old.procedures (onto program.first n to.bodies)
     (define (procedures_in es cell.procedures) (procedures_in es to.world.procedures))) (sym as_many)
-    (subst (λ (ps : List Proc). Define new.counted.store.names old.procedures (with_bodies program to.bodies) ps)
-    (defined_in_slots es cell.procedures to.world.procedures)
-    (defined_grow old.counted.store.names new.counted.store.names becomes.names old.procedures (with_bodies program to.bodies)
-    (procedures_in es (entered cell to.world).procedures) can.is.0.defined)) in (
+    (subst (λ (ps : List Proc). Define old.procedures (with_bodies program to.bodies) ps) (defined_in_slots es cell.procedures to.world.procedures)
+    can.is.0.defined) in (
       record {
         store = becomes.shown;
         texts = becomes.texts;
-        slots = becomes.slots;
         listed = subst (λ (es : List Name). AreListed es to.world.procedures) (sym entries)
             (listed_less es cell.procedures to.world.procedures can.is.0.listed);
-        defined = subst (λ (es : List Name). Define new.counted.store.names new.procedures to.bodies (procedures_in es to.world.procedures)) (sym entries)
-            (all_retired new.counted.store.names old.procedures new.procedures program.first (procedures_in es (procedures_of program)) to.bodies
+        defined = subst (λ (es : List Name). Define new.procedures to.bodies (procedures_in es to.world.procedures)) (sym entries)
+            (all_retired old.procedures new.procedures program.first (procedures_in es (procedures_of program)) to.bodies
             (procedures_in es to.world.procedures) kept before defined);
       },
       becomes.whole,

@@ -18,12 +18,11 @@ use Rattle.janus_syntax.specs.declared.tree.Declaration as Tree
 use Rattle.janus_names.specs.Numbers.{IsUnmet}
 use Rattle.janus_slots.specs.Slots.{slot, names_in, in_slots, under_names}
 use Rattle.janus_slots.proofs.Whole.{names_size, stacks_same}
-use Rattle.janus_store.specs.StoreState.{StoreState, state_of, IsWhole, AreSlots, Declares, KeepsSight, declared_store, shown_store}
-use Rattle.janus_store.specs.Stores.{IsFirstOnTop, rest_of}
-use Rattle.janus_store.proofs.States.{whole_in_sight}
+use Rattle.janus_frames.specs.StoreState.{StoreState, state_of, IsWhole, Declares, shown_store}
+use Rattle.janus_frames.specs.Stores.{IsFirstOnTop, rest_of}
 use Rattle.kernel_runner.specs.Declarable.{HasStackRoom}
 use Rattle.kernel_runner.specs.Runner.{Becomes}
-use Rattle.kernel_runner.proofs.Growing.{no_more, more_yet}
+use Rattle.kernel_runner.proofs.Slotted.{whole_in_sight}
 use Rattle.std.specs.Prelude.{reverse, ◌++◌}
 use Rattle.std.proofs.lemmas.List.{reverse-append, reverse-reverse, length-append, length-take-le, take_at}
 
@@ -231,24 +230,16 @@ unmet_at (e ∷ ds) s (suc i) d h new l =
 -- ---- what a store becomes
 
 -- nothing yet
-pub becomes_itself : (h : StoreState) → IsWhole h → length h.texts ≡ h.declared → AreSlots h.names → Becomes h h (shown_store h)
-becomes_itself h whole many slots = record { shown = refl; texts = many; whole = whole; names = no_more h.names; slots = slots; unwritten = refl }
+pub becomes_itself : (h : StoreState) → IsWhole h → length h.texts ≡ h.declared → Becomes h h (shown_store h)
+becomes_itself h whole many = record { shown = refl; texts = many; whole = whole; unwritten = refl }
 
 pub becomes_then : (a b c : StoreState) (s t : Store) → Becomes a b s → Becomes b c t → Becomes a c t
-becomes_then a b c s t h k =
-    record {
-      shown = k.shown;
-      texts = k.texts;
-      whole = k.whole;
-      names = more_yet a.names b.names c.names h.names k.names;
-      slots = k.slots;
-      unwritten = k.unwritten ∙ h.unwritten;
-    }
+becomes_then a b c s t h k = record { shown = k.shown; texts = k.texts; whole = k.whole; unwritten = k.unwritten ∙ h.unwritten }
 
 -- one name more is declared
-pub becomes_declared : (old new : StoreState) (x : Name) (v : Val) → IsWhole old → length old.texts ≡ old.declared → AreSlots new.names → Declares old new x v →
+pub becomes_declared : (old new : StoreState) (x : Name) (v : Val) → IsWhole old → length old.texts ≡ old.declared → Declares old new x v →
     Becomes old new (Slot x v (shown_store old))
-becomes_declared old new x v whole many slots h =
+becomes_declared old new x v whole many h =
     let depth : length (names_in old.slots) ≡ old.declared = names_size old.slots ∙ sym whole.declared in
     let now : IsWhole new = record {
       declared = h.declared ∙ ap suc whole.declared ∙ sym (ap size_of h.slots);
@@ -262,29 +253,12 @@ becomes_declared old new x v whole many slots h =
       texts = ap length h.texts ∙ length-append old.texts (x ∷ []) ∙ (let e : length old.texts + 1 ≡ suc (length old.texts) = omega arith in e) ∙ ap suc many
           ∙ sym h.declared;
       whole = now;
-      names = h.names;
-      slots = slots;
       unwritten = h.unwritten;
     }
 
 -- what is declared stays
-pub becomes_kept : (old new : StoreState) → IsWhole old → length old.texts ≡ old.declared → AreSlots new.names → KeepsSight old new →
-    Becomes old new (shown_store old)
-becomes_kept old new whole many slots h =
-    let now : IsWhole new = record {
-      declared = h.declared ∙ whole.declared ∙ sym (ap size_of h.slots);
-      callers = h.callers ∙ whole.callers;
-      slots = ap in_slots h.slots ∙ whole.slots ∙ sym h.slots;
-    } in
-    record {
-      shown = ap (under_names (reverse new.texts)) (whole_in_sight new now ∙ h.slots ∙ sym (whole_in_sight old whole))
-          ∙ ap (λ (g : List Name). under_names (reverse g) (declared_store old)) h.texts;
-      texts = ap length h.texts ∙ many ∙ sym h.declared;
-      whole = now;
-      names = h.names;
-      slots = slots;
-      unwritten = h.unwritten;
-    }
+pub becomes_kept : (old new : StoreState) → IsWhole old → length old.texts ≡ old.declared → new ≡ old → Becomes old new (shown_store old)
+becomes_kept old new whole many e = subst (λ (h : StoreState). Becomes old h (shown_store old)) (sym e) (becomes_itself old whole many)
 
 rest_size : (s : Store) → size_of (rest_of s) ≡ size_of s - 1
 rest_size Bare = refl
@@ -317,11 +291,11 @@ last_taken (y ∷ ys) =
     ∙ ap reverse (take_at (reverse ys) (y ∷ []) (length (reverse ys)) refl) ∙ reverse-reverse ys
 
 -- the newest name is taken away
-pub becomes_rest : (old new : StoreState) → IsWhole old → length old.texts ≡ old.declared → AreSlots old.names →
-    new ≡ state_of (rest_of old.slots) (old.declared - 1) (take (old.declared - 1) old.texts) old.names [] old.writes →
+pub becomes_rest : (old new : StoreState) → IsWhole old → length old.texts ≡ old.declared →
+    new ≡ state_of (rest_of old.slots) (old.declared - 1) (take (old.declared - 1) old.texts) [] old.writes →
     Becomes old new (rest_of (shown_store old))
-becomes_rest old new whole many slots e =
-    let rest : StoreState = state_of (rest_of old.slots) (old.declared - 1) (take (old.declared - 1) old.texts) old.names [] old.writes in
+becomes_rest old new whole many e =
+    let rest : StoreState = state_of (rest_of old.slots) (old.declared - 1) (take (old.declared - 1) old.texts) [] old.writes in
     let now : IsWhole rest =
     record {
       declared = ap (λ (n : ℕ). n - 1) whole.declared ∙ sym (rest_size old.slots);
@@ -338,8 +312,6 @@ becomes_rest old new whole many slots e =
           ∙ ap (λ (s : Store). rest_of (under_names (reverse old.texts) s)) (sym (whole_in_sight old whole));
       texts = length-take-le (old.declared - 1) old.texts (omega (arith, many));
       whole = now;
-      names = no_more old.names;
-      slots = slots;
       unwritten = refl;
     })
 

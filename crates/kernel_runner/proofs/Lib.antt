@@ -9,4 +9,3 @@ pub mod Crosses
 -- Of janus_machine, given again.
 pub use Rattle.janus_machine.proofs.Bodies
 pub use Rattle.janus_machine.proofs.BodiesInEffect
-pub use Rattle.janus_machine.proofs.GoesOn

@@ -13,7 +13,8 @@ use Rattle.janus_meaning.specs.Limit.{step_limit}
 use Rattle.janus_meaning.proofs.Worlds.{worlds_start_and_end}
 use Rattle.janus_slots.specs.Slots.{names_in, in_slots, under_names, outside_in, procedures_in}
 use Rattle.janus_slots.proofs.Whole.{names_size, size_same, twice_same, under_named}
-use Rattle.janus_store.specs.StoreState.{Caller, IsWhole, declared_store, shown_store, given_back}
+use Rattle.janus_frames.specs.Calls.{Caller, given_back}
+use Rattle.janus_frames.specs.StoreState.{IsWhole, declared_store, shown_store}
 use Rattle.janus_machine.specs.Open.{Agrees}
 use Rattle.janus_machine.specs.Nested.{AreOpenCalls}
 use Rattle.janus_machine.specs.Cursors.{place_of, has_ended, IsStanding}
@@ -23,7 +24,7 @@ use Rattle.janus_machine.specs.Law.{seen_at}
 use Rattle.janus_meaning.specs.Faults.{fault_of}
 use Rattle.janus_meaning.specs.declared.fault.Fault as machine
 use Rattle.janus_machine.specs.declared.linked_code.LinkedCode.{LinkedCode}
-use Rattle.janus_machine.specs.declared.linked_code.Direction.{Direction}
+use Rattle.janus_machine.specs.declared.direction.Direction.{Direction}
 use Rattle.janus_machine.specs.declared.cursor.Call.{Call}
 use Rattle.janus_machine.specs.declared.cursor.Cursor.{Cursor}
 use Rattle.janus_machine.specs.declared.procedures.Procedures.{Procedures}
@@ -47,17 +48,16 @@ second : (a b : Bool) → (a && b) ≡ true → b ≡ true
 second true b e = e
 second false b e = cc
 
-no_callers : (xs : List Name) (t : Procedures) (b : LinkedCode) (d : Direction) (cs : List Call) (hs : List Caller) → cs ≡ [] → AreOpenCalls xs t b d cs hs →
-    hs ≡ []
-no_callers xs t b d [] [] e h = refl
-no_callers xs t b d [] (x ∷ hs) e h = absurd h
-no_callers xs t b d (c ∷ cs) hs e h = cc
+no_callers : (t : Procedures) (b : LinkedCode) (d : Direction) (cs : List Call) (hs : List Caller) → cs ≡ [] → AreOpenCalls t b d cs hs → hs ≡ []
+no_callers t b d [] [] e h = refl
+no_callers t b d [] (x ∷ hs) e h = absurd h
+no_callers t b d (c ∷ cs) hs e h = cc
 
 module _ {L : Type 0} (runner : Runner L) (program : Program) (at : Place) where
   ended_callers : IsStanding runner.procedures program.book runner.cursor runner.counted.store → has_ended runner.cursor ≡ true →
       runner.counted.store.callers ≡ []
   ended_callers standing ended =
-      no_callers runner.counted.store.names runner.procedures program.book runner.cursor.direction (calls_of runner.cursor) runner.counted.store.callers
+      no_callers runner.procedures program.book runner.cursor.direction (calls_of runner.cursor) runner.counted.store.callers
       (none_called runner.cursor.calls.items (second _ (are_no_calls runner.cursor.calls.items) ended)) standing.calls
 
   abbrev seen : Store
@@ -181,8 +181,8 @@ module _ {L : Type 0} (runner : Runner L) (program : Program) (at : Place) where
   -- ---- turned round
 
   pub turned_round : (cursor : Cursor) → Stands runner program at false → IsStanding runner.procedures program.book cursor runner.counted.store →
-      place_of runner.counted.store.names runner.procedures program.book cursor runner.counted.store.callers ≡ mirror
-      (place_of runner.counted.store.names runner.procedures program.book runner.cursor runner.counted.store.callers) →
+      place_of runner.procedures program.book cursor runner.counted.store.callers ≡ mirror
+      (place_of runner.procedures program.book runner.cursor runner.counted.store.callers) →
       ((k : ℕ) → Agrees k runner.procedures program.book runner.cursor runner.counted.store →
       Agrees k runner.procedures program.book cursor runner.counted.store) →
       (cursor.count ≡ runner.cursor.count) × (cursor.turned ≡ not runner.cursor.turned) →
@@ -198,7 +198,6 @@ module _ {L : Type 0} (runner : Runner L) (program : Program) (at : Place) where
     texts = h.texts;
     agrees = agrees _ h.agrees;
     ready = h.ready;
-    slots = h.slots;
     listed = h.listed;
     defined = h.defined;
     faces = (run_means runner program at h).turned cursor place;

@@ -1,20 +1,18 @@
 -- A good store is good in slots; and what a store with slots shows.
 use Rattle.std.proofs.Common.{◌≡◌, ℕ, ◌+◌, List, length, sym, ap, ◌∙◌, subst}
-use Rattle.std.specs.Prelude.{reverse, Some}
+use Rattle.std.specs.Prelude.{reverse}
 use Rattle.std.proofs.lemmas.List.{length-reverse, reverse-reverse}
-use Rattle.std.proofs.lemmas.Option.{slice_get_within, same_Some}
 use Rattle.janus_meaning.specs.Syntax.{Name}
 use Rattle.janus_meaning.specs.Store.{Store, FitsVal, IsShort}
-use Rattle.janus_meaning.specs.World.{World, size_of}
+use Rattle.janus_meaning.specs.World.{World, size_of, oldest}
 use Rattle.janus_meaning.specs.Outside.{IsGood}
 use Rattle.janus_meaning.specs.Cells.{around, IsGoodWorld}
 use Rattle.janus_meaning.specs.Limit.{IsWithin}
-use Rattle.janus_names.specs.Numbers.{HaveOneNumber}
-use Rattle.janus_slots.specs.Slots.{slot, names_in, in_slots, under_names, outside_in}
-use Rattle.janus_slots.proofs.Names.{slot_number}
+use Rattle.janus_meaning.proofs.Worlds.{oldest_whole}
+use Rattle.janus_slots.specs.Slots.{names_in, in_slots, under_names, outside_in}
 use Rattle.janus_slots.proofs.Whole.{each_same, held_same, under_same, under_named, under_slots}
-use Rattle.janus_store.specs.StoreState.{StoreState, IsWhole, AreSlots, shown_store}
-use Rattle.janus_store.proofs.States.{whole_in_sight}
+use Rattle.janus_frames.specs.Calls.{Caller, given_back}
+use Rattle.janus_frames.specs.StoreState.{StoreState, IsWhole, declared_store, shown_store}
 
 pub good_slots : (entries : List Name) (w : World) → IsGoodWorld w → IsGood (outside_in entries (around w)) (in_slots w.store)
 good_slots entries w h = (
@@ -24,6 +22,11 @@ good_slots entries w h = (
 )
 
 -- ---- what a store shows
+
+-- where no local and no call is open, the declared names are all in sight
+pub whole_in_sight : (h : StoreState) → IsWhole h → declared_store h ≡ h.slots
+whole_in_sight h whole =
+    ap (λ (cs : List Caller). oldest h.declared (given_back h.slots cs)) whole.callers ∙ oldest_whole h.declared h.slots (sym whole.declared)
 
 -- of such a store what it shows tells what it has
 pub record IsStoreOf (h : StoreState) (s : Store) : Type 0 where
@@ -44,12 +47,3 @@ pub shown_whole : (h : StoreState) (s : Store) → IsWhole h → IsStoreOf h s �
 shown_whole h s whole is =
     ap (under_names (reverse h.texts)) (whole_in_sight h whole ∙ is.slots)
     ∙ ap (λ (g : List Name). under_names g (in_slots s)) (ap reverse is.texts ∙ reverse-reverse (names_in s)) ∙ under_same s
-
--- ---- numbers of slots
-
--- a slot has one number
-pub slots_once : (xs : List Name) → AreSlots xs → HaveOneNumber xs
-slots_once xs h j k x at_j at_k =
-    let one : Some (slot j) ≡ Some x = sym (h j (slice_get_within xs j x at_j)) ∙ at_j in
-    let other : Some (slot k) ≡ Some x = sym (h k (slice_get_within xs k x at_k)) ∙ at_k in
-    slot_number j k (same_Some (slot j) (slot k) (one ∙ sym other))

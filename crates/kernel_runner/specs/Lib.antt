@@ -3,6 +3,8 @@
 pub mod Program
 pub mod Declarable
 pub mod Runner
+-- Of janus_memory, given again.
+pub use Rattle.janus_memory.specs.Values
 -- Of janus_machine, given again.
 pub use Rattle.janus_machine.specs.Procedures
 pub use Rattle.janus_machine.specs.Bodies
@@ -11,3 +13,4 @@ pub use Rattle.janus_machine.specs.declared.procedures
 pub use Rattle.janus_machine.specs.LinkedProcedure
 pub use Rattle.janus_machine.specs.Places
 pub use Rattle.janus_machine.specs.declared.linked_code
+pub use Rattle.janus_machine.specs.declared.direction

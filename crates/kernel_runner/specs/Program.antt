@@ -7,10 +7,10 @@ use Rattle.janus_syntax.specs.Tree.{cell_view}
 use Rattle.janus_syntax.specs.View.{plain_cell}
 use Rattle.janus_names.specs.Numbers.{GoOn}
 use Rattle.janus_slots.specs.Slots.{block_in as block_in_slots, procedures_in}
-use Rattle.janus_machine.specs.Places.{block_in, BookHasNumbers}
+use Rattle.janus_machine.specs.Places.{block_in, names_under}
 use Rattle.janus_machine.specs.Bodies.{AreBodiesFrom, onto}
 use Rattle.janus_machine.specs.Procedures.{kept_in}
-use Rattle.janus_machine.specs.declared.linked_code.Direction.TheVariants.{Forward}
+use Rattle.janus_machine.specs.declared.direction.Direction.TheVariants.{Forward}
 use Rattle.janus_machine.specs.declared.procedures.Procedures.{Procedures}
 use Rattle.kernel_runner.specs.declared.program.Program.{Program}
 
@@ -31,21 +31,21 @@ abbrev pub procedures_of : Program → List Proc
 procedures_of program = (cell_of_program program).procedures
 
 -- its code is the cell's block with slots in place of names, where the names of g are in sight, and those of procedures stand in this table
-abbrev pub IsCodeOf : (slots entries g : List Name) → Program → Type 0
-IsCodeOf slots entries g program = block_in slots program.book Forward ≡ block_in_slots entries g (cell_of_program program).block
+abbrev pub IsCodeOf : (entries g : List Name) → Program → Type 0
+IsCodeOf entries g program = block_in program.book Forward ≡ block_in_slots entries g (cell_of_program program).block
 
 -- the bodies that are kept from the program's first on are its procedures, with slots in place of names
-abbrev pub AreBodiesOf : (slots entries : List Name) → Procedures → Program → Type 0
-AreBodiesOf slots entries t program = AreBodiesFrom slots (kept_in t) program.first (procedures_in entries (procedures_of program))
+abbrev pub AreBodiesOf : (entries : List Name) → Procedures → Program → Type 0
+AreBodiesOf entries t program = AreBodiesFrom (kept_in t) program.first (procedures_in entries (procedures_of program))
 
 -- What runs of it is that cell, where the names of g are in sight as its block begins: its code and the bodies of its procedures, which are kept one
--- behind another, are the cell's with slots in place of names, whatever procedures are named beside those of this table; and each of its numbers
--- is that of a slot.
-pub record IsReady (slots entries g : List Name) (t : Procedures) (program : Program) : Type 0 where
-  pub meant : (more : List Name) → GoOn entries more → IsCodeOf slots more g program
-  pub numbered : BookHasNumbers slots program.book
+-- behind another, are the cell's with slots in place of names, whatever procedures are named beside those of this table.
+pub record IsReady (entries g : List Name) (t : Procedures) (program : Program) : Type 0 where
+  pub meant : (more : List Name) → GoOn entries more → IsCodeOf more g program
+  -- it runs over as many names
+  pub names : names_under program.book ≡ length g
   pub within : program.first + length (procedures_of program) ≤ length (kept_in t)
-  pub bodies : (more : List Name) → GoOn entries more → AreBodiesOf slots more t program
+  pub bodies : (more : List Name) → GoOn entries more → AreBodiesOf more t program
 
 -- its bodies defined one after another over older ones
 abbrev pub with_bodies : Program → List ℕ → List ℕ

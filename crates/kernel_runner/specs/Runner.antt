@@ -6,10 +6,9 @@ use Rattle.janus_meaning.specs.Store.{Store}
 use Rattle.janus_meaning.specs.World.{World, Declaration, declare, entered, stacks_in, size_of}
 use Rattle.janus_meaning.specs.Cells.{IsGoodWorld}
 use Rattle.janus_meaning.specs.Limit.{step_limit}
-use Rattle.janus_names.specs.Numbers.{GoOn}
 use Rattle.janus_slots.specs.Slots.{names_in, in_slots, block_in, procedures_in}
 use Rattle.janus_slots.specs.Law.{AreListed}
-use Rattle.janus_store.specs.StoreState.{StoreState, IsWhole, AreSlots, shown_store}
+use Rattle.janus_frames.specs.StoreState.{StoreState, IsWhole, shown_store}
 use Rattle.janus_machine.specs.Open.{Agrees}
 use Rattle.janus_machine.specs.Bodies.{AreBelow, Define}
 use Rattle.janus_machine.specs.Cursor as cursors
@@ -46,17 +45,14 @@ world_of ps runner = record { store = shown_store runner.counted.store; procedur
 pub record Shows {L : Type 0} (runner : Runner L) (shown : ShownWorld) : Type 0 where
   pub store : shown_store runner.counted.store ≡ shown.world.store
   pub texts : length runner.counted.store.texts ≡ runner.counted.store.declared
-  pub slots : AreSlots runner.counted.store.names
   pub listed : AreListed runner.entries shown.world.procedures
-  pub defined : Define runner.counted.store.names runner.procedures shown.bodies (procedures_in runner.entries shown.world.procedures)
+  pub defined : Define runner.procedures shown.bodies (procedures_in runner.entries shown.world.procedures)
 
--- The store has become one that shows this: no local is open, its slots are as many as before, or more, and nothing was written.
+-- The store has become one that shows this: no local is open, and nothing was written.
 pub record Becomes (old new : StoreState) (s : Store) : Type 0 where
   pub shown : shown_store new ≡ s
   pub texts : length new.texts ≡ new.declared
   pub whole : IsWhole new
-  pub names : GoOn old.names new.names
-  pub slots : AreSlots new.names
   pub unwritten : new.writes ≡ old.writes
 
 -- `count` names, with the values that they were declared with, stand above this store
@@ -134,10 +130,9 @@ pub record Stands {L : Type 0} (runner : Runner L) (program : Program) (at : Pla
   pub texts : runner.counted.store.texts ≡ reverse (names_in (start_at at).store)
   pub agrees : Agrees (stacks_in (start_at at).store) runner.procedures program.book runner.cursor runner.counted.store
   -- what runs is the program's cell
-  pub ready : IsReady runner.counted.store.names runner.entries (names_in (start_at at).store) runner.procedures program
-  pub slots : AreSlots runner.counted.store.names
+  pub ready : IsReady runner.entries (names_in (start_at at).store) runner.procedures program
   pub listed : AreListed runner.entries (start_at at).procedures
-  pub defined : Define runner.counted.store.names runner.procedures at.bodies (procedures_in runner.entries (start_at at).procedures)
+  pub defined : Define runner.procedures at.bodies (procedures_in runner.entries (start_at at).procedures)
   pub faces : Faces is_turned runner program (run_block at.code) (start_at at) at.count
 
 -- ---- the model
@@ -190,7 +185,7 @@ pub record CanEnter {L : Type 0} (runner : Runner L) (program : Program) (from :
   pub is : Is runner (Between from)
   pub sound : IsSound from.world
   pub formed : IsFormed (cell_of_program program) from.world
-  pub ready : IsReady runner.counted.store.names runner.entries (names_in (entered (cell_of_program program) from.world).store) runner.procedures program
+  pub ready : IsReady runner.entries (names_in (entered (cell_of_program program) from.world).store) runner.procedures program
   pub named : AreListed runner.entries (procedures_of program)
   pub behind : AreBelow program.first from.bodies
 
@@ -202,7 +197,7 @@ pub record CanReturn {L : Type 0} (runner : Runner L) (program : Program) (from 
   pub ran : CodeExec (Forward (cell_of_program program)) before steps from.world
   pub sound : IsSound before
   pub formed : IsFormed (cell_of_program program) before
-  pub ready : IsReady runner.counted.store.names runner.entries (names_in from.world.store) runner.procedures program
+  pub ready : IsReady runner.entries (names_in from.world.store) runner.procedures program
 
 -- the world in which the program's statements begin, where it was entered in this one
 abbrev pub begun_in : Program → ShownWorld → ShownWorld

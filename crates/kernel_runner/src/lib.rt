@@ -11,8 +11,10 @@
 //! The definitions are in specs/: `Program` (the cell that a program is), `Declarable` (what a store has room for) and `Runner` (the model of a
 //! runner, and what each call does to it).
 //!
-//! It gives the names of `janus_machine` again that the loader and the history cite: its books, cursors, procedures and stores, its
-//! slices, and the names of frames.
+//! It gives the names of `janus_machine` again that the loader and the history cite: its books, cursors, procedures and stores, and its
+//! slices.
+//!
+//! A step makes two writes of the store at most. `enter` has no answer for want of memory where the cell declares nothing.
 #![tactic(auto)]
 
 mod program;
@@ -21,5 +23,5 @@ mod runner;
 pub use crate::program::Program;
 pub use crate::runner::Runner;
 pub use janus_machine::{
-    Book, CountedStore, Cursor, FrameNames, LinkedCode, LinkedProcedure, Procedures, Store, slice,
+    Book, CountedStore, Cursor, LinkedCode, LinkedProcedure, Procedures, Store, slice,
 };

@@ -10,8 +10,8 @@ ghost use Rattle.kernel_runner.specs.Declarable.{HasStackRoom};
 ghost use Rattle.janus_syntax.specs.Tree.{declaration_view, declarations_view};
 ghost use Rattle.janus_syntax.specs.View.{plain_declaration};
 ghost use Rattle.kernel_runner.specs.Program.{cell_of_program};
-ghost use Rattle.janus_names.specs.Numbers.{GoOn, IsUnmet};
-ghost use Rattle.janus_store.specs.StoreState.{IsWhole, shown_store};
+ghost use Rattle.janus_names.specs.Numbers.{IsUnmet};
+ghost use Rattle.janus_frames.specs.StoreState.{IsWhole, shown_store};
 ghost use Rattle.janus_machine.specs.Procedures.{kept_in};
 ghost use Rattle.janus_machine.specs.Bodies.{AreDefined, AreBelow};
 ghost use Rattle.janus_meaning.specs.Writes.{IsWritten};
@@ -68,7 +68,6 @@ impl<L: Ledger> Runner<L> {
         ensures err { OnErr result (Becomes self.old.counted.store self.new.counted.store (shown_store self.old.counted.store)) }
         ensures same { OnErr result (self.new.procedures ≡ self.old.procedures) }
         ensures kept { kept_in self.new.procedures ≡ kept_in self.old.procedures }
-        ensures names { GoOn self.old.counted.store.names self.new.counted.store.names }
         ensures entries { self.new.entries ≡ self.old.entries }
         ensures counts { KeepsCounts self.old self.new }
         // Without names it takes no memory.
@@ -111,7 +110,6 @@ impl<L: Ledger> Runner<L> {
     pub fn run(&mut self, program: &Program, m: u64) -> Progress
         requires { IsInside self.old program.now false }
         ensures runs { Runs program.now m result self.old self.new }
-        ensures names { self.new.counted.store.names ≡ self.old.counted.store.names }
         ensures procedures { self.new.procedures ≡ self.old.procedures }
         ensures entries { self.new.entries ≡ self.old.entries }
         ensures written { IsWritten (steps_on (count_of self.old) m result) (writes_of self.old) (writes_of self.new) }
@@ -150,7 +148,6 @@ impl<L: Ledger> Runner<L> {
     pub fn back(&mut self, program: &Program, m: u64)
         requires { IsInside self.old program.now true }
         ensures goes { GoesBack program.now m self.old self.new }
-        ensures names { self.new.counted.store.names ≡ self.old.counted.store.names }
         ensures procedures { self.new.procedures ≡ self.old.procedures }
         ensures entries { self.new.entries ≡ self.old.entries }
         ensures written { IsWritten (steps_back (count_of self.old) m) (writes_of self.old) (writes_of self.new) }
@@ -170,7 +167,6 @@ impl<L: Ledger> Runner<L> {
         ensures leaves { Leaves program.now self.old self.new }
         ensures cursor { self.new.cursor ≡ self.old.cursor }
         ensures kept { kept_in self.new.procedures ≡ kept_in self.old.procedures }
-        ensures names { GoOn self.old.counted.store.names self.new.counted.store.names }
         ensures entries { self.new.entries ≡ self.old.entries }
         ensures counts { KeepsCounts self.old self.new }
     {
@@ -201,7 +197,6 @@ fn retire<L: Ledger>(store: &mut Store<L>, count: usize)
     requires texts { length store.old.texts ≡ store.old.declared }
     requires whole { IsWhole store.old }
     ensures becomes { (before : TheStore) → IsDeclaredOver store.old count before → Becomes store.old store.new before }
-    ensures names { store.new.names ≡ store.old.names }
 {
     store.slots_law();
     for _i in 0..count {

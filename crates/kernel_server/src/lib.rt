@@ -12,6 +12,9 @@
 //! it), `lone` (the desk), `session` (a connection to it), `laws`.
 //!
 //! It gives again what a caller hands in and is answered: names of `kernel_session`, `kernel_ask` and the kernel.
+//!
+//! The room for the values of user expressions is made before the post, so want of it refuses the post and changes nothing. A ring finds no
+//! open job.
 #![tactic(auto)]
 
 mod finish;

@@ -194,7 +194,8 @@ fn send_opening<W: Write>(writer: &mut W, peer: &Peer) -> Result<(), ServeFault>
 /// # Errors
 ///
 /// `Read` where the reader failed, after 2^64 - 1 reads, and at a request behind the last number; `Write` where the writer failed, or
-/// where a message is longer than any reader takes, though a reply's content may have been left out of it; `Peer` where the peer broke the protocol of the wire, and nothing is written for it;
+/// where a message is longer than any reader takes, though a reply's content may have been left out of it; `Peer` where the peer broke the protocol of
+/// the wire, and nothing is written for it;
 /// `Memory` where there is none, here or at the desk. With `Write` a beginning of the session was done, with `Memory` a beginning of that of some
 /// beginning of what was read.
 pub fn serve<R: Read, W: Write, D: Desk>(

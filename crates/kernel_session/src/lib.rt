@@ -20,6 +20,10 @@
 //!
 //! No contract says when `serve` reads: that it answers each request before it reads the next is tested, not proved. No contract can say that
 //! a stream failed: that `Read` and `Write` come only where one did is tested, not proved. The tests stand in `tests_sessions`.
+//!
+//! Control serves no execution and no message on comms, the heartbeat sends each message back, and stdin and iopub pass it over. Where no
+//! number is left for a request, past 2^64 - 16, it is not served and the connection ends. `Ok` comes at the end of the input without a
+//! fault of the peer, and once a shutdown is answered.
 #![tactic(auto)]
 
 mod connection;

@@ -10,3 +10,5 @@ pub use Rattle.kernel_core.proofs.Counting
 pub use Rattle.kernel_core.proofs.Noted
 -- Of kernel_machine, given again.
 pub use Rattle.kernel_core.proofs.MachineCrosses
+-- Of janus_memory, given again.
+pub use Rattle.janus_memory.proofs.Elements

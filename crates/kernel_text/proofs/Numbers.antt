@@ -15,8 +15,8 @@ use Rattle.std.specs.Iterator.Adapters.{take_source, take_count, take_steps}
 use Rattle.std.specs.declared.iter.Take.{Take}
 use Rattle.std.proofs.lemmas.Iterator.{YieldsList, YieldsList-from_take}
 use Rattle.std.proofs.lemmas.Iterator.Consumers.{YieldsList-from_first}
-use Rattle.janus_store.specs.Stacks.{held}
-use Rattle.janus_store.specs.declared.stack_view.StackView.{StackView}
+use Rattle.janus_memory.specs.Stacks.{held}
+use Rattle.janus_memory.specs.declared.stack_view.StackView.{StackView}
 
 Some_inj : {A : Type 0} {x y : A} → Some x ≡ Some y → x ≡ y
 Some_inj {x = x} h = ap (λ o. unwrap_or o x) h

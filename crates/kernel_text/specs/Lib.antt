@@ -15,6 +15,11 @@ pub use Rattle.kernel_core.specs.MachineCode
 pub use Rattle.kernel_core.specs.State
 pub use Rattle.kernel_core.specs.Minutes
 pub use Rattle.kernel_core.specs.outcome
+pub use Rattle.kernel_core.specs.Begins
+pub use Rattle.kernel_core.specs.Slices
+pub use Rattle.kernel_core.specs.progress
+pub use Rattle.kernel_core.specs.heading
+pub use Rattle.kernel_core.specs.travel
 pub use Rattle.kernel_core.specs.declared.minutes
 pub use Rattle.kernel_core.specs.Refusal
 pub use Rattle.kernel_core.specs.PostFault
@@ -23,3 +28,6 @@ pub use Rattle.kernel_core.specs.Counters
 pub use Rattle.kernel_core.specs.NodeTrees
 pub use Rattle.kernel_core.specs.Text
 pub use Rattle.kernel_core.specs.Extent
+-- Of janus_memory, given again.
+pub use Rattle.janus_memory.specs.Stacks
+pub use Rattle.janus_memory.specs.Values

@@ -3,8 +3,8 @@ ghost use Rattle.std.specs.Prelude.{◌≡◌, ◌++◌, codes, length, take, st
 ghost use Rattle.std.specs.Fmt.{signed_decimal};
 ghost use Rattle.std.specs.Io.KnownBytes.{Appends};
 ghost use Rattle.janus_meaning.specs.Store.{Stk};
-ghost use Rattle.janus_store.specs.Stacks.{held};
-ghost use Rattle.janus_store.specs.Values.{shown};
+ghost use Rattle.janus_memory.specs.Stacks.{held};
+ghost use Rattle.janus_memory.specs.Values.{shown};
 ghost use Rattle.exact_write.specs.Sent.{SentSome};
 ghost use Rattle.kernel_text.specs.ValueTexts.{equated_text, length_text, height_text, spaced_text, numbers_text, told_text, value_text as value_text_of};
 
@@ -12,7 +12,7 @@ use crate::text::as_text;
 use crate::writing::send_counted;
 use exact_write::{WriteFailed, send};
 use itoa::Buffer;
-use janus_store::{StackView, ValueView};
+use janus_memory::{StackView, ValueView};
 use std::alloc::{AllocError, Global};
 use std::io::Write;
 

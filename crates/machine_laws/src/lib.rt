@@ -9,6 +9,9 @@
 //!
 //! The kernel's code runs this machine, so the layers above it may rely on these laws. That a run can be taken back, in as many steps, is the
 //! theorem of `janus_meaning` on the language (Yokoyama and Glück 2007; Yokoyama, Axelsen and Glück 2008).
+//!
+//! A goto is refused, where no shutdown came before, exactly where there is no such node. On its way down each node that it comes to
+//! becomes the favourite of the one above it, and no other favourite changes. A shutdown interrupts nothing.
 #![tactic(auto)]
 
 pub mod laws;

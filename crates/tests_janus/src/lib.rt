@@ -10,7 +10,6 @@
 mod cell_trees;
 mod checks;
 mod comms;
-mod laid;
 mod limits;
 mod lines;
 mod octets;
@@ -18,6 +17,7 @@ mod outlines;
 mod questions;
 mod rows;
 mod schedules;
+mod statements;
 mod stores;
 mod streams;
 mod subject;
@@ -25,7 +25,6 @@ mod sweeps;
 mod texts;
 mod transcripts;
 mod values;
-mod whole;
 
 use crate::subject::{Plain, tell_rows};
 use tests_rows::{Sheet, cut_block};

@@ -1,12 +1,12 @@
 //! Rows of limits. Definitions cite these constants, so no contract has their numbers: the rows have.
 use cell_tree::NODE_LIMIT;
 use cells_program::INPUT_LIMIT;
-use janus_laying::RESULT_LIMIT;
+use janus_frames::CALL_LIMIT;
 use janus_meaning::limit::{
     ARRAY_LIMIT, FRAME_LIMIT, LIVE_STACK_LIMIT, NAME_LIMIT, PARAMETER_LIMIT, PROCEDURE_LIMIT,
     STEP_LIMIT, VALUE_LIMIT,
 };
-use janus_store::CALL_LIMIT;
+use janus_row::limit::RESULT_LIMIT;
 use kernel_ask::{COMM_LIMIT, SHOWN_VALUES};
 use kernel_core::{MINUTES_LIMIT, QUEUE_LIMIT, STEPS_OF_A_SLICE};
 use tests_rows::Sheet;

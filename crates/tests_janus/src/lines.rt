@@ -2,8 +2,7 @@
 //! below, and its line; `closing`, `met` and `memory` give the lines of faults, `negative` that of a number, and `ones` that of an array of a number of
 //! them.
 use crate::subject::write_made;
-use janus_store::ValueView;
-use kernel_ask::{ExpFault, exp_fault_line, outcome_line, post_fault_line, value_text};
+use kernel_ask::{ExpFault, ValueView, exp_fault_line, outcome_line, post_fault_line, value_text};
 use kernel_core::{CheckFault, Fault, Outcome, PostFault, Refusal, Span, TravelEnd};
 use tests_rows::{Sheet, cut, number};
 

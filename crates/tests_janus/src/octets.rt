@@ -1,7 +1,6 @@
 //! Worlds as octets, which are compared sooner than texts.
-use janus_store::{StackView, ValueView};
 use janus_syntax::tree::Procedure;
-use kernel_ask::procedure_text;
+use kernel_ask::{StackView, ValueView, procedure_text};
 use kernel_core::{Extent, Kernel};
 use std::sync::ledger::Ledger;
 use tests_rows::Sheet;

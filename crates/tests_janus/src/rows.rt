@@ -1,10 +1,12 @@
 //! Rows of whole statements, laid over the cells of a frame, in which the names `x`, `y`, `a` and `s` are in sight, and inside of a local `z` too.
 //!
-//! A call is how many of the names are in sight, and behind `|` such statements as rows of `whole` have, or none. It is told how many instructions they are,
-//! how many cells a frame needs, and how many frames may be opened.
-use crate::whole::code_of_text;
+//! A call is how many of the names are in sight, and behind `|` statements, or none: three without blocks, or one alone, as `statements` says. It is told how
+//! many instructions they are, how many of these are taken elsewhere, which are calls and the end, how many cells a frame needs, and how many frames may
+//! be opened.
+use crate::statements::code_of_text;
 use janus_code::{Block, Code};
 use janus_linear::{Order, link};
+use janus_row::code::{Instruction, Op};
 use janus_row_laying::row::{LaidRow, lay};
 use std::alloc::{AllocError, Global};
 use tests_rows::{Sheet, cut_cell, number};
@@ -42,7 +44,14 @@ fn no_code(alloc: Global) -> Code {
 fn tell_laid(laid: &LaidRow, sheet: &mut Sheet) {
     sheet.show(&laid.row.instructions.len());
     sheet.write(" instructions, ");
+    sheet.show(&elsewhere(&laid.row.instructions));
+    sheet.write(" elsewhere, ");
     sheet.show(&laid.row.width);
     sheet.write(" cells, room ");
     sheet.show(&laid.room);
+}
+
+/// How many instructions are not taken in their row.
+fn elsewhere(row: &[Instruction]) -> usize {
+    row.iter().filter(|i| matches!(i.op, Op::Elsewhere)).count()
 }

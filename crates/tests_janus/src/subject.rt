@@ -1,5 +1,5 @@
 //! What the rows of a block are about.
-use crate::{laid, limits, lines, rows, stores, texts, transcripts, whole};
+use crate::{limits, lines, rows, stores, texts, transcripts};
 use std::alloc::AllocError;
 use std::fmt::Debug;
 use tests_rows::Sheet;
@@ -23,8 +23,6 @@ impl Subject for Plain<'_> {
             "stores" => stores::answer(call, sheet),
             "lines" => lines::answer(call, sheet),
             "limits" => limits::answer(call, sheet),
-            "laid" => laid::answer(call, sheet),
-            "whole" => whole::answer(call, sheet),
             "rows" => rows::answer(call, sheet),
             _ => transcripts::answer(call, sheet),
         }

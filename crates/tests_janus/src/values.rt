@@ -1,5 +1,5 @@
 //! Values of names as texts.
-use janus_store::{StackView, ValueView};
+use kernel_ask::{StackView, ValueView};
 use tests_rows::Sheet;
 
 /// Writes the number of a number, the numbers of an array, or those of a stack from the bottom.

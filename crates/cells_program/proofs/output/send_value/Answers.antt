@@ -1,5 +1,5 @@
 use Rattle.std.proofs.Common.{codes, refl}
-use Rattle.janus_store.specs.Values.{shown}
+use Rattle.kernel_text.specs.Values.{shown}
 use Rattle.cells_program.specs.Lines.{ended_line}
 use Rattle.kernel_text.specs.ValueTexts.{value_text}
 use Rattle.exact_write.proofs.SendLemmas.{some_first, some_then}

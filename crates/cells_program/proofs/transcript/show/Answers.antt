@@ -1,7 +1,7 @@
 use Rattle.std.proofs.Common.{◌≡◌, ◌≤◌, ap, subst, ◌∙◌, arith, Some, refl, slice_get}
 use Rattle.std.specs.Io.KnownBytes.{Appends}
 use Rattle.janus_meaning.specs.World.{size_of, listed}
-use Rattle.janus_store.specs.Values.{shown}
+use Rattle.kernel_text.specs.Values.{shown}
 use Rattle.kernel_core.specs.State.{here}
 use Rattle.cells_program.specs.Lines.{ended_line}
 use Rattle.cells_program.specs.Shown.{position_line, value_lines, world_text}

@@ -2,29 +2,23 @@ use Rattle.std.proofs.Common.{◌≡◌, ◌≤◌, ◌-◌, suc, [], ◌∷◌,
 use Rattle.std.specs.Prelude.{reverse}
 use Rattle.std.proofs.lemmas.List.{reverse-append}
 use Rattle.janus_code.specs.CodeBlock.{code_block}
-use Rattle.janus_linear.specs.declared.code.Linear.{Linear}
+use Rattle.janus_code.specs.Slotted.{all_slots}
 use Rattle.janus_linear.specs.Layout.{block_size}
 use Rattle.janus_machine.specs.declared.linked_code.LinkedCode.{LinkedCode}
-use Rattle.janus_machine.specs.Places.{linear_in, block_in}
-use Rattle.janus_machine.specs.Nested.{book_in, caller_way, call_at, AreOpenCalls}
+use Rattle.janus_machine.specs.LaidCode.{LaidCode}
+use Rattle.janus_machine.specs.Places.{laid_in, block_in}
+use Rattle.janus_machine.specs.Nested.{book_in, caller_way, call_at}
 use Rattle.janus_machine.specs.Cursor.{calls_of}
-use Rattle.janus_machine.proofs.Leaving.{some_caller, parameters_alone, known_body, is_left, stands_left, leads_left, agrees_left}
+use Rattle.janus_machine.proofs.Leaving.{left_alone, leaves_stands, leaves_leads, leaves_agrees}
 use Rattle.janus_machine.proofs.call.leave_call.Goals as goal
 
 pub unbind-requires : goal.unbind-requires
 unbind-requires g c =
-    let t = c.args.procedures.now in
-    let b = c.args.book.now in
     let u = c.args.cursor.now in
-    let h = c.args.store.now in
-    let stands = c.requires.standing in
-    let safe = c.requires.safe in
     let call = c.in-Some.call in
     let cs = reverse c.pop.new.self.items in
     let calls_are : calls_of u ≡ call ∷ cs = ap reverse c.in-Some.ensures.items ∙ reverse-append c.pop.new.self.items (call ∷ []) in
-    let lender = some_caller h.names t b u.direction call cs h.callers
-    (subst (λ cs. AreOpenCalls h.names t b u.direction cs h.callers) calls_are stands.calls) in
-    parameters_alone t b u h stands call cs calls_are lender.0 lender.1 lender.2 c.requires.ended safe.1 safe.3
+    left_alone c.args.procedures.now c.args.book.now u c.args.store.now c.requires.standing call cs calls_are c.requires.ended c.requires.safe
 
 pub returns-clause-stands : goal.returns-clause-stands
 returns-clause-stands g c =
@@ -32,29 +26,23 @@ returns-clause-stands g c =
     let b = c.args.book.now in
     let u = c.args.cursor.now in
     let h = c.args.store.now in
-    let stands = c.requires.standing in
-    let safe = c.requires.safe in
     let call = c.in-Some.call in
     let cs = reverse c.pop.new.self.items in
     let calls_are : calls_of u ≡ call ∷ cs = ap reverse c.in-Some.ensures.items ∙ reverse-append c.pop.new.self.items (call ∷ []) in
-    let lender = some_caller h.names t b u.direction call cs h.callers
-    (subst (λ cs. AreOpenCalls h.names t b u.direction cs h.callers) calls_are stands.calls) in
-    let x = is_left t b u h stands call cs calls_are lender.0 lender.1 lender.2 c.requires.ended safe.0 safe.1 safe.2 safe.4 in
-    let q = known_body t b u h stands call cs calls_are lender.0 lender.1 lender.2 c.requires.ended safe.0 safe.2 in
     let way = c.caller_direction-direction.result in
     let turned : way ≡ caller_way call.uncalled u.direction = c.caller_direction-direction.ensures in
     let caller = book_in t b cs in
-    let end : c.last-end.result ≡ block_size (block_in h.names caller way) - 1 =
-    c.last-end.ensures h.names
-    ∙ ap (λ (l : Linear). block_size (code_block h.names l.code) - 1)
-    (c.linear.ensures ∙ ap (λ (k : LinkedCode). linear_in k way) (c.running-caller.ensures ∙ ap (λ is. book_in t b (reverse is)) c.deref.ensures.value)) in
-    let placed = c.turned_place-at.ensures h.names caller end in
-    let to_go : c.saturating_sub-cursor.result ≡ block_size (block_in h.names caller (caller_way call.uncalled u.direction)) - 1 - suc
-    (call_at h.names caller (caller_way call.uncalled u.direction) call.place) =
-    subst (λ w. c.saturating_sub-cursor.result ≡ block_size (block_in h.names caller w) - 1 - suc (call_at h.names caller w call.place)) turned
+    let end : c.last-end.result ≡ block_size (block_in caller way) - 1 =
+    c.last-end.ensures
+    ∙ ap (λ (k : LaidCode). block_size (code_block all_slots k.linear.code) - 1)
+    (c.laid.ensures ∙ ap (λ (k : LinkedCode). laid_in k way) (c.running-caller.ensures ∙ ap (λ is. book_in t b (reverse is)) c.deref.ensures.value)) in
+    let placed = c.turned_place-at.ensures caller end in
+    let to_go : c.saturating_sub-cursor.result ≡ block_size (block_in caller (caller_way call.uncalled u.direction)) - 1 - suc
+    (call_at caller (caller_way call.uncalled u.direction) call.place) =
+    subst (λ w. c.saturating_sub-cursor.result ≡ block_size (block_in caller w) - 1 - suc (call_at caller w call.place)) turned
     (omega (arith, c.saturating_sub-cursor.ensures, c.saturating_sub.ensures, end, placed)) in
-    stands_left t b u h stands call cs calls_are lender.0 lender.1 lender.2 c.requires.ended q.0 q.2 x.values x.unbound x.filled x.returned _ c.unbind.new.self
-    refl turned to_go refl refl c.unbind.ensures
+    leaves_stands t b u h c.requires.standing call cs calls_are c.requires.ended c.requires.safe _ c.unbind.new.self refl turned to_go refl refl
+    c.unbind.ensures
 
 pub returns-clause-steps : goal.returns-clause-steps
 returns-clause-steps g c = λ ps k known a.
@@ -62,28 +50,22 @@ returns-clause-steps g c = λ ps k known a.
     let b = c.args.book.now in
     let u = c.args.cursor.now in
     let h = c.args.store.now in
-    let stands = c.requires.standing in
-    let safe = c.requires.safe in
     let call = c.in-Some.call in
     let cs = reverse c.pop.new.self.items in
     let calls_are : calls_of u ≡ call ∷ cs = ap reverse c.in-Some.ensures.items ∙ reverse-append c.pop.new.self.items (call ∷ []) in
-    let lender = some_caller h.names t b u.direction call cs h.callers
-    (subst (λ cs. AreOpenCalls h.names t b u.direction cs h.callers) calls_are stands.calls) in
-    let x = is_left t b u h stands call cs calls_are lender.0 lender.1 lender.2 c.requires.ended safe.0 safe.1 safe.2 safe.4 in
-    let q = known_body t b u h stands call cs calls_are lender.0 lender.1 lender.2 c.requires.ended safe.0 safe.2 in
     let way = c.caller_direction-direction.result in
     let turned : way ≡ caller_way call.uncalled u.direction = c.caller_direction-direction.ensures in
     let caller = book_in t b cs in
-    let end : c.last-end.result ≡ block_size (block_in h.names caller way) - 1 =
-    c.last-end.ensures h.names
-    ∙ ap (λ (l : Linear). block_size (code_block h.names l.code) - 1)
-    (c.linear.ensures ∙ ap (λ (k : LinkedCode). linear_in k way) (c.running-caller.ensures ∙ ap (λ is. book_in t b (reverse is)) c.deref.ensures.value)) in
-    let placed = c.turned_place-at.ensures h.names caller end in
-    let to_go : c.saturating_sub-cursor.result ≡ block_size (block_in h.names caller (caller_way call.uncalled u.direction)) - 1 - suc
-    (call_at h.names caller (caller_way call.uncalled u.direction) call.place) =
-    subst (λ w. c.saturating_sub-cursor.result ≡ block_size (block_in h.names caller w) - 1 - suc (call_at h.names caller w call.place)) turned
+    let end : c.last-end.result ≡ block_size (block_in caller way) - 1 =
+    c.last-end.ensures
+    ∙ ap (λ (k : LaidCode). block_size (code_block all_slots k.linear.code) - 1)
+    (c.laid.ensures ∙ ap (λ (k : LinkedCode). laid_in k way) (c.running-caller.ensures ∙ ap (λ is. book_in t b (reverse is)) c.deref.ensures.value)) in
+    let placed = c.turned_place-at.ensures caller end in
+    let to_go : c.saturating_sub-cursor.result ≡ block_size (block_in caller (caller_way call.uncalled u.direction)) - 1 - suc
+    (call_at caller (caller_way call.uncalled u.direction) call.place) =
+    subst (λ w. c.saturating_sub-cursor.result ≡ block_size (block_in caller w) - 1 - suc (call_at caller w call.place)) turned
     (omega (arith, c.saturating_sub-cursor.ensures, c.saturating_sub.ensures, end, placed)) in
-    leads_left t b u h stands call cs calls_are lender.0 lender.1 lender.2 c.requires.ended q.0 q.2 x.values x.unbound x.filled x.returned
+    leaves_leads t b u h c.requires.standing call cs calls_are c.requires.ended c.requires.safe
     (record {
       direction = way;
       to_go = c.saturating_sub-cursor.result;
@@ -91,40 +73,30 @@ returns-clause-steps g c = λ ps k known a.
       used = call.used;
       count = u.count;
       turned = u.turned;
-      room =
-          subst (λ m. 8192 ≤ m) (sym c.in-Some.ensures.capacity) u.room;
-    }) c.unbind.new.self refl turned to_go refl refl c.unbind.ensures ps k known
+      room = subst (λ m. 8192 ≤ m) (sym c.in-Some.ensures.capacity) u.room;
+    })
+    c.unbind.new.self refl turned to_go refl refl c.unbind.ensures ps k known
 
 pub returns-clause-agrees : goal.returns-clause-agrees
-returns-clause-agrees g c =
+returns-clause-agrees g c = λ k a.
     let t = c.args.procedures.now in
     let b = c.args.book.now in
     let u = c.args.cursor.now in
     let h = c.args.store.now in
-    let stands = c.requires.standing in
-    let safe = c.requires.safe in
     let call = c.in-Some.call in
     let cs = reverse c.pop.new.self.items in
     let calls_are : calls_of u ≡ call ∷ cs = ap reverse c.in-Some.ensures.items ∙ reverse-append c.pop.new.self.items (call ∷ []) in
-    let lender = some_caller h.names t b u.direction call cs h.callers
-    (subst (λ cs. AreOpenCalls h.names t b u.direction cs h.callers) calls_are stands.calls) in
-    let x = is_left t b u h stands call cs calls_are lender.0 lender.1 lender.2 c.requires.ended safe.0 safe.1 safe.2 safe.4 in
-    let q = known_body t b u h stands call cs calls_are lender.0 lender.1 lender.2 c.requires.ended safe.0 safe.2 in
     let way = c.caller_direction-direction.result in
     let turned : way ≡ caller_way call.uncalled u.direction = c.caller_direction-direction.ensures in
     let caller = book_in t b cs in
-    let end : c.last-end.result ≡ block_size (block_in h.names caller way) - 1 =
-    c.last-end.ensures h.names
-    ∙ ap (λ (l : Linear). block_size (code_block h.names l.code) - 1)
-    (c.linear.ensures ∙ ap (λ (k : LinkedCode). linear_in k way) (c.running-caller.ensures ∙ ap (λ is. book_in t b (reverse is)) c.deref.ensures.value)) in
-    let placed = c.turned_place-at.ensures h.names caller end in
-    let to_go : c.saturating_sub-cursor.result ≡ block_size (block_in h.names caller (caller_way call.uncalled u.direction)) - 1 - suc
-    (call_at h.names caller (caller_way call.uncalled u.direction) call.place) =
-    subst (λ w. c.saturating_sub-cursor.result ≡ block_size (block_in h.names caller w) - 1 - suc (call_at h.names caller w call.place)) turned
+    let end : c.last-end.result ≡ block_size (block_in caller way) - 1 =
+    c.last-end.ensures
+    ∙ ap (λ (k : LaidCode). block_size (code_block all_slots k.linear.code) - 1)
+    (c.laid.ensures ∙ ap (λ (k : LinkedCode). laid_in k way) (c.running-caller.ensures ∙ ap (λ is. book_in t b (reverse is)) c.deref.ensures.value)) in
+    let placed = c.turned_place-at.ensures caller end in
+    let to_go : c.saturating_sub-cursor.result ≡ block_size (block_in caller (caller_way call.uncalled u.direction)) - 1 - suc
+    (call_at caller (caller_way call.uncalled u.direction) call.place) =
+    subst (λ w. c.saturating_sub-cursor.result ≡ block_size (block_in caller w) - 1 - suc (call_at caller w call.place)) turned
     (omega (arith, c.saturating_sub-cursor.ensures, c.saturating_sub.ensures, end, placed)) in
-    agrees_left t b u h stands call cs calls_are lender.0 lender.1 lender.2 c.requires.ended q.0 q.2 x.values x.unbound x.filled x.returned _ c.unbind.new.self
-    refl turned to_go refl refl c.unbind.ensures
-
-pub returns-clause-there : goal.returns-clause-there
-returns-clause-there g c =
-    c.running-caller.ensures ∙ ap (λ is. book_in c.args.procedures.now c.args.book.now (reverse is)) c.deref.ensures.value
+    leaves_agrees t b u h c.requires.standing call cs calls_are c.requires.ended c.requires.safe _ c.unbind.new.self refl turned to_go refl refl
+    c.unbind.ensures k a

@@ -6,7 +6,6 @@ use Rattle.janus_syntax.specs.declared.tree.Exp as code
 use Rattle.janus_syntax.specs.declared.fault.SyntaxFault.{SyntaxFault}
 use Rattle.janus_syntax.specs.declared.fault.SyntaxFault.TheVariants as fault
 use Rattle.janus_meaning.specs.Shape.{shape_of}
-use Rattle.janus_meaning.specs.FormedWorld.{HaveValues}
 use Rattle.janus_check.specs.Names.{Known, shape_in}
 use Rattle.kernel_text.specs.Text.{refused_by_syntax}
 use Rattle.kernel_text.specs.outcome.Refusal.{Refusal}
@@ -24,13 +23,10 @@ told s text (fault.TooNested at) r refused is = rw is refused
 told s text (fault.DelocalName at) r refused is = rw is refused
 told s text fault.Memory r refused is = rw is tt
 
-pub value_of-requires-clause-values : goal.value_of-requires-clause-values
-value_of-requires-clause-values g c = subst (λ (s : Store). HaveValues s) c.slots_law.ensures.sight c.requires.values
-
-pub value_of-requires-clause-names : goal.value_of-requires-clause-names
-value_of-requires-clause-names g c =
-    subst (λ (s : Store). shape_in c.in-Some.env.names ≡ shape_of s) c.slots_law.ensures.sight
-    (subst (λ (o : Option Known). IfSome o (λ (env : Known). shape_in env.names ≡ shape_of c.args.store.now.sight)) c.in-Some.is c.requires.names)
+pub value_of-requires : goal.value_of-requires
+value_of-requires g c =
+    let given = subst (λ (o : Option Known). IfSome o (λ (env : Known). shape_in env.names ≡ shape_of c.args.store.now.sight)) c.in-Some.is c.requires.names in
+    record { names = subst (λ (s : Store). shape_in c.in-Some.env.names ≡ shape_of s) c.slots_law.ensures.sight given }
 
 pub returns-in-Some : goal.returns-in-Some
 returns-in-Some g c = λ text read.

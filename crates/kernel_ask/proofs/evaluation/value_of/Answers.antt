@@ -13,7 +13,7 @@ use Rattle.janus_check.specs.Check.{exp_faults}
 use Rattle.janus_check.specs.Fault.{IsFirst}
 use Rattle.janus_check.specs.declared.fault.CheckFault.{CheckFault}
 use Rattle.janus_check.specs.declared.fault.CheckFault.TheVariants as fault
-use Rattle.janus_store.specs.StoreState.{shown_store}
+use Rattle.janus_frames.specs.StoreState.{shown_store}
 use Rattle.kernel_text.specs.Text.{refused_by_check}
 use Rattle.kernel_text.specs.outcome.Refusal.{Refusal}
 use Rattle.kernel_ask.specs.declared.done.ExpFault.TheVariants.{Refused}
@@ -21,12 +21,12 @@ use Rattle.kernel_ask.specs.Evaluation.{HasValue, IsEvaluated}
 use Rattle.kernel_ask.proofs.Sound.{not_broken}
 use Rattle.kernel_ask.proofs.evaluation.value_of.Goals as goal
 
-pub value-requires-clause-safe : goal.value-requires-clause-safe
-value-requires-clause-safe g c = λ broken.
+pub number-requires : goal.number-requires
+number-requires g c =
     let s : Store = shown_store c.args.store.now in
     let e : Exp = exp_of c.args.exp.now in
     let formed : IsExp (shape_of s) e = subst (λ (g : Shape). IsExp g e) c.requires.names c.in-Ok.ensures.well_formed in
-    not_broken e s formed (sym c.in-Ok-slotted.ensures.same ∙ broken)
+    record { safe = λ broken. not_broken e s formed broken }
 
 -- a fault of the check is told as it is, and want of memory as such
 told : (s : Store) (text : List ℕ) (tree : tree.Exp) (fault : CheckFault) (r : Refusal) → HasExp text tree → IsFirst fault (exp_faults (shape_of s) tree) →
@@ -51,22 +51,22 @@ returns-in-Err g c = λ text has.
     let first = subst (λ (g : Shape). IsFirst c.in-Err.fault (exp_faults g e)) c.requires.names c.in-Err.ensures.first in
     told s text e c.in-Err.fault c.of_check.result has first c.of_check.ensures
 
-pub returns-in-Ok-value : goal.returns-in-Ok-value
-returns-in-Ok-value g c = λ text has.
+pub returns-in-Ok-number : goal.returns-in-Ok-number
+returns-in-Ok-number g c = λ text has.
     let s : Store = shown_store c.args.store.now in
     let e : Exp = exp_of c.args.exp.now in
     let formed : IsExp (shape_of s) e = subst (λ (g : Shape). IsExp g e) c.requires.names c.in-Ok.ensures.well_formed in
-    let has_value : HasValue s text (Fine c.in-Ok-value.number) = record {
+    let has_value : HasValue s text (Fine c.in-Ok-number.number) = record {
       tree = exp_view c.args.exp.now;
       is_tree = has;
       formed = formed;
-      evaluated = sym (c.in-Ok-value.ensures ∙ c.in-Ok-slotted.ensures.same);
+      evaluated = sym (c.in-Ok-number.ensures);
     } in
-    let same : to_z w32 (of_z w32 c.in-Ok-value.number) ≡ c.in-Ok-value.number = grind (arith, to_z-of_z) in
+    let same : to_z w32 (of_z w32 c.in-Ok-number.number) ≡ c.in-Ok-number.number = grind (arith, to_z-of_z) in
     subst (λ (z : ℤ). HasValue s text (Fine z)) (sym same) has_value
 
-pub returns : goal.returns
-returns g c = λ text has.
+pub returns-in-Err-number : goal.returns-in-Err-number
+returns-in-Err-number g c = λ text has.
     let s : Store = shown_store c.args.store.now in
     let e : Exp = exp_of c.args.exp.now in
     let formed : IsExp (shape_of s) e = subst (λ (g : Shape). IsExp g e) c.requires.names c.in-Ok.ensures.well_formed in
@@ -74,5 +74,5 @@ returns g c = λ text has.
       tree = exp_view c.args.exp.now;
       is_tree = has;
       formed = formed;
-      evaluated = sym (ap (λ f. Bad f) c.from.ensures ∙ c.in-Err-value.ensures ∙ c.in-Ok-slotted.ensures.same);
+      evaluated = sym (ap (λ f. Bad f) c.from.ensures ∙ c.in-Err-number.ensures);
     }

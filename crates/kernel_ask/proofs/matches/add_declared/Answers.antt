@@ -1,7 +1,7 @@
 use Rattle.std.proofs.Common.{◌≤◌, length, take, map, sym, ap, ◌∙◌, arith, string_bytes}
 use Rattle.std.proofs.lemmas.List.{take_all}
-use Rattle.janus_store.specs.Values.{shown}
-use Rattle.janus_store.specs.StoreState.{shown_store}
+use Rattle.kernel_text.specs.Values.{shown}
+use Rattle.janus_frames.specs.StoreState.{shown_store}
 use Rattle.kernel_ask.specs.Added.{with_match, with_matches}
 use Rattle.kernel_ask.specs.Matches.{names_of}
 use Rattle.kernel_ask.proofs.Added.{with_matches_more}

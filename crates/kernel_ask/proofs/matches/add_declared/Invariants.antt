@@ -1,5 +1,5 @@
 use Rattle.std.proofs.Common.{◌≡◌, map, take, string_bytes}
-use Rattle.janus_store.specs.StoreState.{shown_store}
+use Rattle.janus_frames.specs.StoreState.{shown_store}
 use Rattle.kernel_ask.specs.Added.{with_matches}
 use Rattle.kernel_ask.specs.Matches.{names_of}
 use Rattle.kernel_ask.proofs.matches.add_declared.Given as goal

@@ -7,7 +7,7 @@ use Rattle.std.specs.List.Sorted.{IsStrictlySortedBy}
 use Rattle.std.specs.String.{string_cmp}
 use Rattle.janus_syntax.specs.Spelling.{keyword_text}
 use Rattle.janus_syntax.specs.declared.token.TheConstants.{KEYWORDS}
-use Rattle.janus_store.specs.StoreState.{shown_store}
+use Rattle.janus_frames.specs.StoreState.{shown_store}
 use Rattle.kernel_ask.specs.Added.{with_matches}
 use Rattle.kernel_text.specs.Procedures.{procedure_names}
 use Rattle.kernel_ask.specs.Matches.{names_of, AreMatches}

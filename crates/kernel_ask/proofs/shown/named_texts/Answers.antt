@@ -5,9 +5,9 @@ use Rattle.std.proofs.lemmas.List.Elements.{filter-append}
 use Rattle.janus_meaning.specs.Syntax.{Name}
 use Rattle.janus_meaning.specs.Store.{Val}
 use Rattle.janus_meaning.specs.World.{listed}
-use Rattle.janus_store.specs.Values.{shown}
+use Rattle.kernel_text.specs.Values.{shown}
 use Rattle.janus_syntax.specs.Tree.{cell_view}
-use Rattle.janus_store.specs.StoreState.{shown_store}
+use Rattle.janus_frames.specs.StoreState.{shown_store}
 use Rattle.janus_check.specs.Naming.{in_cell}
 use Rattle.kernel_text.specs.ValueTexts.{value_text}
 use Rattle.kernel_ask.proofs.Names.{length_listed, taken_next}

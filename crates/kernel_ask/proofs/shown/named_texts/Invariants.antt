@@ -2,7 +2,7 @@ use Rattle.std.proofs.Common.{◌≡◌, map, take, string_bytes}
 use Rattle.std.specs.List.{filter}
 use Rattle.janus_meaning.specs.World.{listed}
 use Rattle.janus_syntax.specs.Tree.{cell_view}
-use Rattle.janus_store.specs.StoreState.{shown_store}
+use Rattle.janus_frames.specs.StoreState.{shown_store}
 use Rattle.janus_check.specs.Naming.{in_cell}
 use Rattle.kernel_text.specs.ValueTexts.{value_text}
 use Rattle.kernel_ask.proofs.shown.named_texts.Given as goal

@@ -3,9 +3,9 @@ use Rattle.std.proofs.lemmas.List.{map-append, take_all}
 use Rattle.janus_meaning.specs.Syntax.{Name}
 use Rattle.janus_meaning.specs.Store.{Val}
 use Rattle.janus_meaning.specs.World.{listed}
-use Rattle.janus_store.specs.Values.{shown}
+use Rattle.kernel_text.specs.Values.{shown}
 use Rattle.kernel_text.specs.ValueTexts.{value_text}
-use Rattle.janus_store.specs.StoreState.{shown_store}
+use Rattle.janus_frames.specs.StoreState.{shown_store}
 use Rattle.kernel_ask.proofs.Names.{length_listed, taken_next}
 use Rattle.kernel_ask.proofs.standing.value_texts.Goals as goal
 

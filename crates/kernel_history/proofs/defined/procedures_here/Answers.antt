@@ -11,7 +11,7 @@ returns-then-len-eq0 g c =
     let r = c.args.runner.now in
     let count : length (kept_in r.procedures) ≡ 0 = sym c.len.ensures ∙ c.if-len-eq0.true in
     let none : (here (past_of c.args.tree.now)).procedures ≡ [] =
-    none_kept r.counted.store.names r.entries (kept_in r.procedures) c.requires.is.0
+    none_kept r.entries (kept_in r.procedures) c.requires.is.0
     (here (past_of c.args.tree.now)).procedures count c.requires.is.1.0.defined.bodies in
     let empty : c.new.result.items ≡ [] = search rules in
     ap in_a_row empty ∙ sym none

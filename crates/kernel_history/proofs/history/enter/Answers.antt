@@ -4,7 +4,7 @@ use Rattle.kernel_history.proofs.history.enter.Goals as goal
 
 pub returns-clause-kept : goal.returns-clause-kept
 returns-clause-kept g c =
-    kept_entered c.args.tree.now c.args.runner.now c.enter_next.new.runner c.args.travel c.requires c.enter_next.ensures.names c.enter_next.ensures.entries
+    kept_entered c.args.tree.now c.args.runner.now c.enter_next.new.runner c.args.travel c.requires c.enter_next.ensures.entries
     c.enter_next.ensures.bodies
     (ok_fact _ c.enter_next.result (sym c.is_err.ensures.value ∙ c.if-is_err.false) c.enter_next.ensures.ok)
 

@@ -1,10 +1,8 @@
 use Rattle.std.proofs.Common.{sym, ◌∙◌, ap}
 use Rattle.kernel_history.specs.Standing.{shown_here}
-use Rattle.janus_store.specs.StoreState.{StoreState}
 use Rattle.kernel_loader.specs.Procedures.{kept_in}
 use Rattle.kernel_loader.specs.procedures.Procedures.{Procedures}
-use Rattle.kernel_loader.proofs.Counting.{same_store, same_counts}
-use Rattle.kernel_loader.proofs.Growing.{same_more}
+use Rattle.kernel_loader.proofs.Counting.{same_counts}
 use Rattle.kernel_history.proofs.Standing.{below_there, next_down, can_go_down_to, stands_next_down, next_up, can_go_up_from, stands_next_up, declares_next}
 use Rattle.kernel_history.proofs.Standing.{ok_map}
 use Rattle.kernel_history.proofs.history.enter_next.Goals as goal
@@ -27,11 +25,6 @@ enter_inverse-requires g c =
       can_go_up_from c.args.tree.now c.args.travel c.content.result.now c.args.runner.now way c.requires.legal c.requires.possible at
           c.requires.is c.requires.ready,
     )
-
-pub returns-in-Up-clause-names : goal.returns-in-Up-clause-names
-returns-in-Up-clause-names g c =
-    same_more c.args.runner.now.counted.store.names c.enter_inverse.new.self.counted.store.names
-    (ap (λ (h : StoreState). h.names) (same_store c.args.runner.now c.enter_inverse.new.self c.enter_inverse.ensures.counted))
 
 pub returns-in-Up-clause-bodies : goal.returns-in-Up-clause-bodies
 returns-in-Up-clause-bodies g c = ap (λ (t : Procedures). kept_in t) c.enter_inverse.ensures.procedures

@@ -5,6 +5,7 @@ use Rattle.janus_meaning.specs.World.{World, declare}
 use Rattle.kernel_machine.specs.State.{here}
 use Rattle.kernel_machine.specs.Text.{Accepts, Refuses}
 use Rattle.janus_slots.specs.Slots.{names_in}
+use Rattle.janus_frames.specs.StoreState.{StoreState}
 use Rattle.kernel_loader.specs.Program.{IsReady, cell_of_program, declarations_of}
 use Rattle.kernel_loader.specs.Runner.{world_of}
 use Rattle.kernel_loader.specs.Defined.{in_a_row}
@@ -36,12 +37,12 @@ pub returns-clause-ready : goal.returns-clause-ready
 returns-clause-ready g c =
     if_ok_map c.load.result
     (λ program ready.
-    subst (λ (s : Store). IsReady c.load.new.runner.counted.store.names c.load.new.runner.entries (names_in (declare (declarations_of program) s))
+    subst (λ (s : Store). IsReady c.load.new.runner.entries (names_in (declare (declarations_of program) s))
     c.load.new.runner.procedures program) c.requires.is.1.0.store ready)
     c.load.ensures.ready
 
 pub returns-clause-counts : goal.returns-clause-counts
-returns-clause-counts g c = record { writes = c.load.ensures.kept.unwritten; steps = c.load.ensures.steps }
+returns-clause-counts g c = record { writes = ap (λ (h : StoreState). h.writes) c.load.ensures.kept; steps = c.load.ensures.steps }
 
 if_ok_both : {A E : Type 0} {P Q R : A → Type 0} (r : Result A E) → ((x : A) → P x → Q x → R x) → IfOk r P → IfOk r Q → IfOk r R
 if_ok_both (Ok x) f p q = f x p q

@@ -9,7 +9,6 @@ use Rattle.kernel_loader.specs.Runner.{Stands, writes_of, steps_of, count_of}
 use Rattle.kernel_machine.specs.declared.heading.Heading.TheVariants.{GoesBack}
 use Rattle.kernel_history.specs.declared.job.Open.TheVariants.{Inside}
 use Rattle.kernel_loader.proofs.Counting.{written_still, came_still}
-use Rattle.kernel_loader.proofs.Growing.{same_more}
 use Rattle.kernel_loader.proofs.Running.{whole_at_start}
 use Rattle.kernel_history.proofs.Standing.{stands_with, inside_with, kept_at, kept_idle}
 use Rattle.kernel_machine.specs.declared.outcome.Outcome.{Outcome}
@@ -33,7 +32,7 @@ settle_back-requires-clause-kept g c =
       subst (λ (n : ℕ). Kept c.args.tree.now c.back.new.self (Inside (record { work = c.args.entered.now.work; count = n; heading = GoesBack c.args.why }))) e
           (kept_at c.args.tree.now c.args.entered.now.work c.args.entered.now.count (c.args.entered.now.count - c.args.m) (GoesBack c.args.why)
           (GoesBack c.args.why) c.args.runner.now c.back.new.self c.program_of.result.now c.requires
-          (same_more c.args.runner.now.counted.store.names c.back.new.self.counted.store.names c.back.ensures.names) c.back.ensures.entries
+          c.back.ensures.entries
           (ap (λ (t : Procedures). kept_in t) c.back.ensures.procedures) c.program_of.ensures stands),
     )
 
@@ -59,8 +58,7 @@ returns-else-left-eq0-clause-kept g c =
     let p = c.program_of.result.now in
     let stands = c.back.ensures.goes _ (stands_with tree work c.args.entered.now.count true c.args.runner.now p c.program_of.ensures c.requires.stands) in
     kept_at tree work c.args.entered.now.count c.saturating_sub-left.result (GoesBack c.args.why) (GoesBack c.args.why)
-    c.args.runner.now c.back.new.self p c.requires (same_more c.args.runner.now.counted.store.names c.back.new.self.counted.store.names c.back.ensures.names)
-    c.back.ensures.entries
+    c.args.runner.now c.back.new.self p c.requires c.back.ensures.entries
     (ap (λ (t : Procedures). kept_in t) c.back.ensures.procedures) c.program_of.ensures
     (subst (λ (n : ℕ). Stands c.back.new.self p (place_in tree work p n) true) (sym c.saturating_sub-left.ensures) stands)
 

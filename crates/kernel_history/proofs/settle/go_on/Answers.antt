@@ -20,7 +20,6 @@ use Rattle.kernel_history.specs.Fields.{past_of, work_of, state_of}
 use Rattle.kernel_machine.specs.Slices.{Backs}
 use Rattle.kernel_loader.specs.Runner.{world_of, writes_of, steps_of, count_of}
 use Rattle.kernel_machine.specs.declared.progress.Progress.TheVariants.{Went, Stopped, Ended}
-use Rattle.kernel_loader.proofs.Growing.{same_more}
 use Rattle.kernel_loader.proofs.Counting.{came_still}
 use Rattle.kernel_history.proofs.Standing.{stands_with, inside_with, kept_at}
 use Rattle.kernel_history.proofs.settle.go_on.Goals as goal
@@ -47,8 +46,7 @@ returns-in-Ended-clause-end g c =
       come = record {
         kept =
             kept_at c.args.tree.now c.args.entered.now.work c.args.entered.now.count c.in-Ended.n GoesOn GoesOn c.args.runner.now c.run.new.self
-            c.program_of.result.now kept
-            (same_more c.args.runner.now.counted.store.names c.run.new.self.counted.store.names c.run.ensures.names) c.run.ensures.entries
+            c.program_of.result.now kept c.run.ensures.entries
             (ap (λ (t : Procedures). kept_in t) c.run.ensures.procedures) c.program_of.ensures came.is;
         ended = came.reaches.0;
         whole = came.whole;
@@ -59,7 +57,7 @@ pub turn_back-requires : goal.turn_back-requires
 turn_back-requires g c =
     let kept = onward c.args.tree.now c.args.runner.now c.args.entered.now c.requires.kept c.requires.onward in
     kept_at c.args.tree.now c.args.entered.now.work c.args.entered.now.count c.in-Stopped.j GoesOn GoesOn c.args.runner.now c.run.new.self
-    c.program_of.result.now kept (same_more c.args.runner.now.counted.store.names c.run.new.self.counted.store.names c.run.ensures.names) c.run.ensures.entries
+    c.program_of.result.now kept c.run.ensures.entries
     (ap (λ (t : Procedures). kept_in t) c.run.ensures.procedures) c.program_of.ensures
     ((c.in-Stopped.ensures.runs
     _ (stands_with c.args.tree.now c.args.entered.now.work c.args.entered.now.count false c.args.runner.now c.program_of.result.now c.program_of.ensures
@@ -92,8 +90,7 @@ returns-in-Went-clause-kept g c =
     let went = moved_to c.args.entered.now _ _ (c.count-entered.ensures ∙ came.is.counted) c.requires.onward in
     subst (λ (e : Entered). Kept c.args.tree.now c.run.new.self (Inside e)) (sym went)
     (kept_at c.args.tree.now c.args.entered.now.work c.args.entered.now.count (c.args.entered.now.count + c.args.m)
-    GoesOn GoesOn c.args.runner.now c.run.new.self c.program_of.result.now kept
-    (same_more c.args.runner.now.counted.store.names c.run.new.self.counted.store.names c.run.ensures.names) c.run.ensures.entries
+    GoesOn GoesOn c.args.runner.now c.run.new.self c.program_of.result.now kept c.run.ensures.entries
     (ap (λ (t : Procedures). kept_in t) c.run.ensures.procedures) c.program_of.ensures came.is)
 
 pub returns-in-Stopped-clause-step : goal.returns-in-Stopped-clause-step

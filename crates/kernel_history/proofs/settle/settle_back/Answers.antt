@@ -1,12 +1,11 @@
 use Rattle.std.proofs.Common.{List, take, refl, sym, ap, ◌∙◌, subst}
 use Rattle.janus_meaning.specs.Syntax.{Name}
-use Rattle.janus_names.specs.Numbers.{GoOn}
-use Rattle.janus_store.specs.StoreState.{StoreState, IsWhole}
+use Rattle.janus_frames.specs.StoreState.{StoreState, IsWhole}
 use Rattle.kernel_loader.proofs.Unlisted.{shows_less}
 use Rattle.kernel_history.specs.Fields.{past_of, work_of}
 use Rattle.kernel_history.specs.Bodies.{bodies_at}
 use Rattle.kernel_history.specs.Standing.{shown_here}
-use Rattle.kernel_loader.proofs.Growing.{no_more, same_more}
+use Rattle.kernel_loader.proofs.Growing.{same_more}
 use Rattle.kernel_history.proofs.Standing.{work_possible, below_there, cell_of_down, can_leave_cell, can_leave_down, shows_up, below_posted, nodes_forgotten}
 use Rattle.kernel_history.proofs.Standing.{no_other_forgotten, no_other_back, nodes_ready, shows_forgotten, older_names_left, no_name_forgotten, no_name_back}
 use Rattle.kernel_history.specs.Kept.{unlisted}
@@ -24,7 +23,7 @@ returns-in-Cell-clause-is g c =
     let can = can_leave_cell tree c.args.runner.now c.args.work.now k.0 k.1 c.in-Cell.program c.in-Cell.is c.requires.whole in
     let left = c.leave.ensures.leaves (shown_here tree) can in
     let low = below_posted tree c.args.runner.now c.args.work.now k.0 k.1 c.in-Cell.program c.in-Cell.is in
-    let older = older_names_left tree c.args.runner.now c.args.work.now k.0 k.1 c.leave.new.self c.in-Cell.program c.in-Cell.is c.leave.ensures.names
+    let older = older_names_left tree c.args.runner.now c.args.work.now k.0 k.1 c.leave.new.self c.in-Cell.program c.in-Cell.is
     c.leave.ensures.entries c.leave.ensures.kept in
     let same = c.forget.ensures.store in (
       shows_forgotten (unlisted c.in-Cell.program c.leave.new.self) c.forget.new.self c.in-Cell.program.first (shown_here tree) same c.forget.ensures.entries
@@ -38,10 +37,9 @@ pub returns-in-Cell-clause-ready : goal.returns-in-Cell-clause-ready
 returns-in-Cell-clause-ready g c =
     let k = c.requires.kept in
     let older = older_names_left c.args.tree.now c.args.runner.now c.args.work.now k.0 k.1 c.leave.new.self c.in-Cell.program c.in-Cell.is
-    c.leave.ensures.names c.leave.ensures.entries c.leave.ensures.kept in
+    c.leave.ensures.entries c.leave.ensures.kept in
     nodes_forgotten c.args.tree.now c.args.runner.now c.args.work.now k.0 k.1 (unlisted c.in-Cell.program c.leave.new.self) c.forget.new.self
-    c.in-Cell.program c.in-Cell.is (ap (λ (h : StoreState). h.names) c.forget.ensures.store) c.forget.ensures.entries c.forget.ensures.kept
-    older.ready
+    c.in-Cell.program c.in-Cell.is c.forget.ensures.entries c.forget.ensures.kept older.ready
 
 -- the bodies of the posted cell are dropped
 pub returns-in-Cell-clause-no_other : goal.returns-in-Cell-clause-no_other
@@ -82,7 +80,7 @@ returns-in-Down-clause-is g c =
     _ (can_leave_down c.args.tree.now c.args.runner.now c.args.work.now k.0 k.1 c.in-Move.travel c.content.result.now c.in-Move.is way at c.requires.whole)
 
 pub returns-in-Down-clause-ready : goal.returns-in-Down-clause-ready
-returns-in-Down-clause-ready g c = nodes_ready c.args.tree.now c.args.runner.now c.leave-in-Down.new.self c.leave-in-Down.ensures.names
+returns-in-Down-clause-ready g c = nodes_ready c.args.tree.now c.args.runner.now c.leave-in-Down.new.self
     (same_more c.args.runner.now.entries c.leave-in-Down.new.self.entries c.leave-in-Down.ensures.entries) c.leave-in-Down.ensures.kept c.requires.kept.1.ready
 
 pub returns-in-Up-clause-is : goal.returns-in-Up-clause-is
@@ -105,9 +103,6 @@ content-requires-clause-known g c =
     let possible = work_possible (past_of c.args.tree.now) (work_of c.args.work.now) c.in-Move.travel (ap work_of c.in-Move.is) k.1.possible in
     (below_there c.args.tree.now c.in-Move.travel c.below.result k.1.legal (sym c.way.ensures ∙ c.in-Down.is) possible c.below.ensures).1
 
-pub returns-in-Up-clause-names : goal.returns-in-Up-clause-names
-returns-in-Up-clause-names g c = no_more c.args.runner.now.counted.store.names
-
 pub returns-in-Cell-clause-counts : goal.returns-in-Cell-clause-counts
 returns-in-Cell-clause-counts g c =
     record {
@@ -118,10 +113,6 @@ returns-in-Cell-clause-counts g c =
 pub returns-in-Cell-clause-entries : goal.returns-in-Cell-clause-entries
 returns-in-Cell-clause-entries g c =
     rw c.in-Cell.is (c.forget.ensures.entries ∙ ap (λ (l : List Name). take c.in-Cell.program.first_name l) c.leave.ensures.entries)
-
-pub returns-in-Cell-clause-names : goal.returns-in-Cell-clause-names
-returns-in-Cell-clause-names g c =
-    subst (λ (h : StoreState). GoOn c.args.runner.now.counted.store.names h.names) (sym c.forget.ensures.store) c.leave.ensures.names
 
 pub returns-in-Cell-clause-no_name : goal.returns-in-Cell-clause-no_name
 returns-in-Cell-clause-no_name g c =

@@ -48,7 +48,7 @@ returns-clause-kept g c =
     let can = can_leave_up tree c.args.runner.now c.content.result.now c.args.n at k.legal c.args.travel false c.requires.way k.stands c.requires.come.whole
     k.ready names in
     kept_up tree c.parent-tree.result c.args.travel c.leave.new.self c.arrive.result.1 c.arrive.result.0 c.requires.way k.legal k.possible k.counted k.path
-    (nodes_ready tree c.args.runner.now c.leave.new.self c.leave.ensures.names
+    (nodes_ready tree c.args.runner.now c.leave.new.self
     (same_more c.args.runner.now.entries c.leave.new.self.entries c.leave.ensures.entries) c.leave.ensures.kept k.ready) k.order
     (no_other_same tree c.args.runner.now.procedures c.leave.new.self.procedures c.leave.ensures.kept k.no_other)
     (names_same tree c.args.runner.now.entries c.leave.new.self.entries c.leave.ensures.entries k.no_name) (c.leave.ensures.leaves _ can).1

@@ -2,12 +2,10 @@ use Rattle.std.proofs.Common.{ℕ, ◌+◌, false, ap, ◌∙◌, subst}
 use Rattle.janus_meaning.specs.Writes.{IsWritten}
 use Rattle.kernel_machine.specs.StepsOfSlices.{steps_back}
 use Rattle.kernel_loader.specs.Runner.{writes_of}
-use Rattle.kernel_loader.proofs.Counting.{same_store, same_counts}
-use Rattle.janus_store.specs.StoreState.{StoreState}
+use Rattle.kernel_loader.proofs.Counting.{same_counts}
 use Rattle.kernel_loader.specs.Procedures.{kept_in}
 use Rattle.kernel_loader.specs.procedures.Procedures.{Procedures}
 use Rattle.kernel_machine.specs.declared.heading.Heading.TheVariants.{GoesOn, GoesBack}
-use Rattle.kernel_loader.proofs.Growing.{same_more}
 use Rattle.kernel_history.proofs.Standing.{stands_with, inside_with, kept_at}
 use Rattle.kernel_history.proofs.settle.turn_back.Goals as goal
 
@@ -20,8 +18,7 @@ pub go_back-requires : goal.go_back-requires
 go_back-requires g c =
     kept_at c.args.tree.now c.args.entered.now.work c.args.entered.now.count c.args.entered.now.count GoesOn (GoesBack c.args.why)
     c.args.runner.now c.turn.new.self c.program_of.result.now c.requires
-    (same_more c.args.runner.now.counted.store.names c.turn.new.self.counted.store.names
-    (ap (λ (h : StoreState). h.names) (same_store c.args.runner.now c.turn.new.self c.turn.ensures.counted))) c.turn.ensures.entries
+    c.turn.ensures.entries
     (ap (λ (t : Procedures). kept_in t) c.turn.ensures.procedures) c.program_of.ensures
     (c.turn.ensures.turns
     _ (stands_with c.args.tree.now c.args.entered.now.work c.args.entered.now.count false c.args.runner.now c.program_of.result.now c.program_of.ensures

@@ -1,8 +1,10 @@
 use Rattle.std.proofs.Common.{◌∙◌}
+use Rattle.janus_code.specs.Slotted.{all_slots}
+use Rattle.janus_code.proofs.Slotting.{are_all}
+use Rattle.kernel_loader.proofs.Kept.{if_ok_map}
 use Rattle.kernel_loader.proofs.loader.book_of.Goals as goal
 
 pub returns-clause-block : goal.returns-clause-block
-returns-clause-block g c = record {
-  block = λ xs slots w. c.in_ok-book.ensures.block xs ∙ c.in-Ok.ensures.block xs slots (c.in-Ok.ensures.wide xs w);
-  numbered = λ xs slots w. c.in_ok-book.ensures.numbered xs (c.in-Ok.ensures.wide xs w);
-}
+returns-clause-block c =
+    let meant = c.in-Ok.ensures.block all_slots are_all (c.in-Ok.ensures.wide all_slots c.slots_law.ensures) in
+    if_ok_map c.new.result (λ book is. is ∙ meant) c.new.ensures.block

@@ -15,10 +15,11 @@ returns-in-Err-clause-entries g c =
     ∙ taken_back c.args.runner.now.entries c.list_and_link.new.runner.entries c.len-known.result c.len-known.ensures c.list_and_link.ensures.entries)
 
 pub returns-in-Err-clause-shown : goal.returns-in-Err-clause-shown
-returns-in-Err-clause-shown g c = λ shown h.
-    let now = c.list_and_link.ensures.shown shown h in (
+returns-in-Err-clause-shown g c = λ shown sound h.
+    let now = c.list_and_link.ensures.shown shown sound h in (
       shows_unlisted c.args.runner.now c.list_and_link.new.runner c.truncate.new.self shown c.list_and_link.ensures.entries
           (c.truncate.ensures.names
-          ∙ taken_back c.args.runner.now.entries c.list_and_link.new.runner.entries c.len-known.result c.len-known.ensures c.list_and_link.ensures.entries) h now.0,
+          ∙ taken_back c.args.runner.now.entries c.list_and_link.new.runner.entries c.len-known.result c.len-known.ensures c.list_and_link.ensures.entries)
+          sound h now.0,
       now.1,
     )

@@ -1,4 +1,4 @@
-use Rattle.std.proofs.Common.{◌+◌, max, length, rules, refl, sym, ap, ◌∙◌, subst}
+use Rattle.std.proofs.Common.{◌+◌, length, rules, refl, sym, ap, ◌∙◌, subst}
 use Rattle.janus_meaning.specs.World.{World, declare}
 use Rattle.janus_slots.specs.Slots.{names_in}
 use Rattle.janus_slots.specs.Law.{AreListed}
@@ -7,11 +7,10 @@ use Rattle.janus_syntax.specs.View.{plain_cell}
 use Rattle.janus_check.specs.Checked.{known_in}
 use Rattle.janus_check.specs.Names.{Known}
 use Rattle.kernel_machine.specs.Text.{Accepts, Refuses}
-use Rattle.janus_store.specs.StoreState.{shown_store}
+use Rattle.janus_frames.specs.StoreState.{shown_store}
 use Rattle.kernel_runner.specs.Program.{IsReady}
 use Rattle.kernel_runner.specs.Runner.{ShownWorld, world_of, over}
 use Rattle.kernel_runner.specs.declared.program.Program.{Program}
-use Rattle.kernel_loader.specs.Keeping.{width_of_cell}
 use Rattle.kernel_loader.specs.Loading.{AddNamesOf, ShowsKnown}
 use Rattle.kernel_loader.specs.Defined.{in_a_row}
 use Rattle.kernel_loader.specs.Known.{IsKnownOf}
@@ -51,7 +50,7 @@ pub returns-in-Ok-link-clause-ready : goal.returns-in-Ok-link-clause-ready
 returns-in-Ok-link-clause-ready g c =
     let new = c.link.new.runner in
     let program : Program = record { book = c.in-Ok-link.book; cell = c.into_cell.result; first = c.in-Ok-link.first; first_name = c.len-first_name.result } in
-    subst (λ (t : Cell). IsReady new.counted.store.names new.entries
+    subst (λ (t : Cell). IsReady new.entries
     (names_in (declare (plain_cell t).declarations (shown_store c.args.runner.now.counted.store))) new.procedures program) (sym c.into_cell.ensures)
     (c.in-Ok-link.ensures.ready program (record { tree = c.into_cell.ensures; code = refl; bodies = refl }))
 
@@ -67,13 +66,6 @@ returns-in-Ok-link-clause-only g c =
 pub returns-in-Ok-link-clause-last : goal.returns-in-Ok-link-clause-last
 returns-in-Ok-link-clause-last g c =
     c.in-Ok-link.ensures.last ∙ ap (λ (t : Cell). c.in-Ok-link.first + length (plain_cell t).procedures) (sym c.into_cell.ensures)
-
-pub returns-in-Ok-link-clause-slots : goal.returns-in-Ok-link-clause-slots
-returns-in-Ok-link-clause-slots g c =
-    let old = c.args.runner.now.counted.store in
-    c.in-Ok-link.ensures.slots
-    ∙ ap (λ (t : Cell). max (width_of_cell c.link.new.runner.entries (length (names_in (declare (plain_cell t).declarations (shown_store old)))) (plain_cell t))
-    (length old.names)) (sym c.into_cell.ensures)
 
 pub returns-in_err-checked-clause-refuses : goal.returns-in_err-checked-clause-refuses
 returns-in_err-checked-clause-refuses g c =

@@ -13,4 +13,5 @@ returns-clause-err g c =
     let said = ap (λ (m : Octets). message_octets (frames_of c.args.key.now m)) c.in-Ok.ensures.sent in
     let reply = ap (λ (r : Option Message). reply_octets c.args.key.now (option_map octets_of r)) c.in-Some.is in
     subst (λ (octets : List ℕ). OnErr c.send_message.result
-    (SentSome (g.W.Write.contents c.args.writer.now) (g.W.Write.contents c.send_message.new.writer) octets)) (sent ∙ said ∙ sym reply) c.send_message.ensures.err
+    (SentSome (g.W.Write.contents c.args.writer.now) (g.W.Write.contents c.send_message.new.writer) octets))
+    (sent ∙ said ∙ sym reply) c.send_message.ensures.err

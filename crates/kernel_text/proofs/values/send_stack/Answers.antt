@@ -1,6 +1,6 @@
 use Rattle.std.proofs.Common.{◌≡◌, ◌++◌, ap, sym}
 use Rattle.janus_meaning.specs.Store.{Stk}
-use Rattle.janus_store.specs.Stacks.{held}
+use Rattle.janus_memory.specs.Stacks.{held}
 use Rattle.kernel_text.specs.ValueTexts.{height_text, numbers_text, told_text}
 use Rattle.exact_write.proofs.SendLemmas.{some_first, some_then, all_then}
 use Rattle.kernel_text.proofs.values.send_stack.Goals as goal

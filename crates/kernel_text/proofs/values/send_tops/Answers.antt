@@ -4,7 +4,7 @@ use Rattle.std.proofs.lemmas.Iterator.Consumers.{YieldsList-turn, YieldsList-end
 use Rattle.std.proofs.lemmas.List.{map-id}
 use Rattle.std.proofs.lemmas.Option.{slice_get-get_or}
 use Rattle.std.specs.Io.KnownBytes.{Appends}
-use Rattle.janus_store.specs.Stacks.{held}
+use Rattle.janus_memory.specs.Stacks.{held}
 use Rattle.exact_write.specs.Sent.{SentSome}
 use Rattle.kernel_text.specs.ValueTexts.{spaced_text}
 use Rattle.exact_write.proofs.SendLemmas.{some_now, appends_none}

@@ -1,5 +1,5 @@
 use Rattle.std.proofs.Common.{◌++◌, ap, sym}
-use Rattle.janus_store.specs.Values.{shown}
+use Rattle.janus_memory.specs.Values.{shown}
 use Rattle.kernel_text.specs.ValueTexts.{told_text, value_text}
 use Rattle.exact_write.proofs.SendLemmas.{some_first, some_then}
 use Rattle.kernel_text.proofs.values.send_value.Goals as goal

@@ -1,5 +1,5 @@
 use Rattle.std.proofs.Common.{◌<◌, length, take, codes, arith}
-use Rattle.janus_store.specs.Stacks.{held}
+use Rattle.janus_memory.specs.Stacks.{held}
 use Rattle.kernel_text.specs.ValueTexts.{spaced_text, numbers_text}
 use Rattle.exact_write.proofs.SendLemmas.{some_first, some_then}
 use Rattle.kernel_text.proofs.Numbers.{more_text}

@@ -1,6 +1,6 @@
 use Rattle.std.proofs.Common.{◌++◌, ◌∙◌, ap, subst, sym}
 use Rattle.std.specs.Str.{IsUtf8}
-use Rattle.janus_store.specs.Values.{shown}
+use Rattle.janus_memory.specs.Values.{shown}
 use Rattle.kernel_text.specs.ValueTexts.{value_text}
 use Rattle.kernel_text.proofs.Utf8.{value_utf8}
 use Rattle.kernel_text.proofs.values.value_text.Goals as goal

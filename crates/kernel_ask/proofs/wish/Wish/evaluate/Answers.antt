@@ -7,9 +7,10 @@ use Rattle.kernel_ask.specs.Wishes.{WishOf}
 use Rattle.kernel_ask.specs.Evaluation.{IsEvaluated}
 use Rattle.kernel_ask.proofs.wish.Wish.evaluate.Goals as goal
 
-pub evaluation_of-value-requires-clause-names : goal.evaluation_of-value-requires-clause-names
-evaluation_of-value-requires-clause-names g c =
-    subst (λ (s : Store). IfSome c.args.names.now (λ (env : Known). shape_in env.names ≡ shape_of s)) (sym c.store.ensures.sight) c.requires.names
+pub evaluation_of-value-requires : goal.evaluation_of-value-requires
+evaluation_of-value-requires g c = record {
+  names = subst (λ (s : Store). IfSome c.args.names.now (λ (env : Known). shape_in env.names ≡ shape_of s)) (sym c.store.ensures.sight) c.requires.names;
+}
 
 pub returns-clause-name : goal.returns-clause-name
 returns-clause-name g c = ap (λ (w : WishOf). w.name) c.self.view_is

@@ -55,7 +55,7 @@ enter-requires g c =
     let old = c.self.inside.runner in
     let shown = shown_here tree in
     let met = c.prepare.new.runner in
-    let is = c.prepare.ensures.shown shown kept.stands in
+    let is = c.prepare.ensures.shown shown (here_sound tree kept.legal) kept.stands in
     let behind = posted_behind tree old c.in-Ok.program kept.ready c.in-Ok.ensures.behind in
     let low = behind_stack tree c.in-Ok.program kept.legal kept.order behind in (
       shown,
@@ -78,7 +78,7 @@ invariant_of-self-2 g c =
     let old = c.self.inside.runner in
     let shown = shown_here tree in
     let met = c.prepare.new.runner in
-    let is = c.prepare.ensures.shown shown kept.stands in
+    let is = c.prepare.ensures.shown shown (here_sound tree kept.legal) kept.stands in
     let behind = posted_behind tree old c.in-Ok.program kept.ready c.in-Ok.ensures.behind in
     let low = behind_stack tree c.in-Ok.program kept.legal kept.order behind in
     let room = ok_fact _ c.room.result (sym c.is_err.ensures.value ∙ c.if-is_err.false) c.room.ensures.ok in
@@ -88,21 +88,20 @@ invariant_of-self-2 g c =
     let formed = accepted_formed _ _ _ c.in-Ok.ensures.accepts in
     let can : CanEnter met c.in-Ok.program shown =
     record { is = is; sound = here_sound tree kept.legal; formed = formed; ready = c.in-Ok.ensures.ready; named = c.in-Ok.ensures.named; behind = low } in
-    let at_text = nodes_more tree old met c.prepare.ensures.kept.names c.prepare.ensures.entries c.prepare.ensures.older kept.ready in
+    let at_text = nodes_more tree old met c.prepare.ensures.entries c.prepare.ensures.older kept.ready in
     let onward = same_more met.entries c.enter.new.self.entries c.enter.ensures.entries in
     let older : KeepsOlderNames tree c.enter.new.self c.in-Ok.program =
-    older_names_begun tree old c.enter.new.self c.in-Ok.program kept.ready kept.stands
-    (more_yet old.counted.store.names met.counted.store.names c.enter.new.self.counted.store.names c.prepare.ensures.kept.names c.enter.ensures.names)
+    older_names_begun tree old c.enter.new.self c.in-Ok.program kept.legal kept.ready kept.stands
     (more_yet old.entries met.entries c.enter.new.self.entries c.prepare.ensures.entries onward)
     (ap (λ (bs : List LinkedProcedure). take (length (kept_in old.procedures)) bs) c.enter.ensures.kept ∙ c.prepare.ensures.older)
     c.in-Ok.ensures.first_name in
     kept_begun tree (record { cells = c.room.new.self; position = tree.position }) old c.enter.new.self c.in-Ok.program kept
-    (nodes_ready tree met c.enter.new.self c.enter.ensures.names onward c.enter.ensures.kept at_text) older
+    (nodes_ready tree met c.enter.new.self onward c.enter.ensures.kept at_text) older
     (names_begun tree old.entries met.entries c.enter.new.self.entries c.in-Ok.program c.in-Ok.ensures.first_name c.prepare.ensures.entries
     c.enter.ensures.entries c.in-Ok.ensures.own_names kept.no_name) behind same nodes refl room formed c.in-Ok.ensures.behind
     (ap (λ (bs : List LinkedProcedure). length bs) c.enter.ensures.kept ∙ c.in-Ok.ensures.last) (stands shown can)
 
--- a refused text: there may be more slots, and more names of procedures
+-- a refused text
 pub invariant_of-self : goal.invariant_of-self
 invariant_of-self g c =
     let idle : c.self.inside.job ≡ Idle = idle_job c.self.inside.job (subst (λ (s : CountedState). s.state.job ≡ state.Idle) (sym c.self.view_is) c.requires) in
@@ -112,10 +111,10 @@ invariant_of-self g c =
     let old = c.self.inside.runner in
     let shown = shown_here tree in
     let met = c.prepare.new.runner in
-    let is = c.prepare.ensures.shown shown kept.stands in
+    let is = c.prepare.ensures.shown shown (here_sound tree kept.legal) kept.stands in
     subst (λ (j : Open). IsKept tree met j) (sym idle)
     (idle_in_time tree met
-    (kept_idle tree Idle old met kept (nodes_more tree old met c.prepare.ensures.kept.names c.prepare.ensures.entries c.prepare.ensures.older kept.ready)
+    (kept_idle tree Idle old met kept (nodes_more tree old met c.prepare.ensures.entries c.prepare.ensures.older kept.ready)
     (no_other_same tree old.procedures met.procedures c.in-Err.ensures.none kept.no_other)
     (names_same tree old.entries met.entries c.in-Err.ensures.no_names kept.no_name) is.1 is.0))
 
@@ -129,7 +128,7 @@ invariant_of-self-then-is_err g c =
     let old = c.self.inside.runner in
     let shown = shown_here tree in
     let met = c.prepare.new.runner in
-    let is = c.prepare.ensures.shown shown kept.stands in
+    let is = c.prepare.ensures.shown shown (here_sound tree kept.legal) kept.stands in
     let behind = posted_behind tree old c.in-Ok.program kept.ready c.in-Ok.ensures.behind in
     let low = behind_stack tree c.in-Ok.program kept.legal kept.order behind in
     let past = ap (λ (t : cells.Tree EndedCell). past_of (record { cells = t; position = tree.position })) c.room.ensures.same in
@@ -140,7 +139,6 @@ invariant_of-self-then-is_err g c =
         past = past;
         nodes = nodes;
         position = refl;
-        names = c.prepare.ensures.kept.names;
         entries = c.prepare.ensures.entries;
         whole = is.1;
         shows = is.0;
@@ -155,7 +153,6 @@ invariant_of-self-then-is_err g c =
             past = past;
             nodes = nodes;
             position = refl;
-            names = more_yet old.counted.store.names met.counted.store.names w.enter.new.self.counted.store.names c.prepare.ensures.kept.names entered.names;
             entries = more_yet old.entries met.entries w.enter.new.self.entries c.prepare.ensures.entries
                 (same_more met.entries w.enter.new.self.entries w.enter.ensures.entries);
             whole = entered.whole;

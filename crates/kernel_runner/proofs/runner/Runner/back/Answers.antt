@@ -9,9 +9,6 @@ use Rattle.kernel_runner.proofs.runner.Runner.back.Goals as goal
 pub slice-sliced-requires-clause-standing : goal.slice-sliced-requires-clause-standing
 slice-sliced-requires-clause-standing g c = c.requires.1.standing
 
-pub slice-sliced-requires-clause-numbered : goal.slice-sliced-requires-clause-numbered
-slice-sliced-requires-clause-numbered g c = c.requires.1.ready.numbered
-
 pub slice-sliced-requires-clause-safe : goal.slice-sliced-requires-clause-safe
 slice-sliced-requires-clause-safe g c = safe_back c.args.self.now c.args.program.now c.requires.0 c.args.m c.requires.1
 

@@ -4,7 +4,7 @@ use Rattle.janus_meaning.specs.Syntax.{Proc}
 use Rattle.janus_meaning.specs.World.{declare}
 use Rattle.janus_syntax.specs.Tree.{procedure_view, procedures_view}
 use Rattle.janus_syntax.specs.View.{plain_procedure}
-use Rattle.janus_store.specs.StoreState.{shown_store}
+use Rattle.janus_frames.specs.StoreState.{shown_store}
 use Rattle.janus_machine.specs.Bodies.{AreDefined, onto}
 use Rattle.kernel_runner.specs.Program.{procedures_of}
 use Rattle.kernel_runner.proofs.Borders.{entered_here}
@@ -29,7 +29,7 @@ returns-clause-ok g c = λ from can.
     c.define_all.ensures.kept refl
     (subst (λ (n : ℕ). AreDefined c.define_all.new.self (onto c.args.program.now.first n from.bodies)) (sym same)
     (c.define_all.ensures.defined from.bodies can.is.0.defined.defined can.behind))
-    (record { stands = c.enter.ensures.stands; place = c.enter.ensures.place c.declare.new.store.names; counts = c.enter.ensures.counts })
+    (record { stands = c.enter.ensures.stands; place = c.enter.ensures.place; counts = c.enter.ensures.counts })
 
 pub returns-clause-counts : goal.returns-clause-counts
 returns-clause-counts g c = record { writes = c.in_ok-declare.ensures.ok.unwritten; steps = refl }

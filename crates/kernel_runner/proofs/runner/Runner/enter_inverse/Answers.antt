@@ -11,9 +11,4 @@ returns-clause-enters g c = λ from can.
       procedures = c.args.self.now.procedures;
       entries = c.args.self.now.entries;
     }) c.args.program.now from can refl refl refl
-    (record {
-      stands = c.enter_inverse.ensures.stands;
-      place = c.enter_inverse.ensures.place c.args.self.now.counted.store.names;
-      counts =
-          c.enter_inverse.ensures.counts;
-    })
+    (record { stands = c.enter_inverse.ensures.stands; place = c.enter_inverse.ensures.place; counts = c.enter_inverse.ensures.counts })

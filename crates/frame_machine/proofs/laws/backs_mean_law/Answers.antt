@@ -1,5 +1,0 @@
-use Rattle.frame_machine.proofs.Courses.{backs_mean}
-use Rattle.frame_machine.proofs.laws.backs_mean_law.Goals as goal
-
-pub returns : goal.returns
-returns c = backs_mean

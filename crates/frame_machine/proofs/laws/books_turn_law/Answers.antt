@@ -1,5 +1,0 @@
-use Rattle.frame_machine.proofs.Courses.{books_turn}
-use Rattle.frame_machine.proofs.laws.books_turn_law.Goals as goal
-
-pub returns : goal.returns
-returns c = books_turn

@@ -1,5 +1,0 @@
-use Rattle.frame_machine.proofs.Courses.{runs_mean}
-use Rattle.frame_machine.proofs.laws.runs_mean_law.Goals as goal
-
-pub returns : goal.returns
-returns c = runs_mean

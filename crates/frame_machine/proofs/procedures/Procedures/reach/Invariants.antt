@@ -1,9 +1,0 @@
-use Rattle.std.proofs.Common.{◌≡◌, ◌-◌, ℕ, suc, length, get_or}
-use Rattle.frame_machine.proofs.procedures.Procedures.reach.Given as goal
-
-abbrev pub invariant-loop-self : goal.invariant-loop-self
-invariant-loop-self l = (l.self.bodies.items ≡ l.initial.self.bodies.items) ×
-    ((n : ℕ) → get_or l.self.newest.items n 0 ≡ get_or l.initial.self.newest.items n 0)
-
-abbrev pub decreases-loop-self : goal.decreases-loop-self
-decreases-loop-self l = suc l.name - length l.self.newest.items

@@ -1,0 +1,21 @@
+use Rattle.std.proofs.Common.{◌≡◌, List, [], None, ap, sym, subst, rules}
+use Rattle.kernel_audit.specs.Notes.{wished_in}
+use Rattle.kernel_audit.specs.Wishes.{WishOf}
+use Rattle.hall_state.specs.OpenResults.{AreSettled}
+use Rattle.hall_state.specs.PendingResults.{AreBeside}
+use Rattle.hall_state.proofs.Beside.{beside_new, settled_new}
+use Rattle.hall_state.proofs.state.State.new.Goals as goal
+
+pub invariant_of-result : goal.invariant_of-result
+invariant_of-result g c =
+    let minutes = c.args.kernel.machine.minutes in
+    let none : wished_in c.keeper-2.result ≡ [] = ap wished_in c.keeper-2.ensures in
+    record {
+      counted = search rules;
+      told = search rules;
+      closes = search rules;
+      beside = subst (λ (w : List (List WishOf)). ∥ AreBeside 0 minutes w c.new-2.result.items ∥₁) (sym none)
+          ∣ beside_new minutes c.new-2.result.items c.requires.fresh c.new-2.ensures.items ∣₁;
+      results = subst (λ (w : List (List WishOf)). ∥ AreSettled 0 c.args.kernel.machine w None ∥₁) (sym none)
+          ∣ settled_new c.args.kernel.machine c.requires.fresh ∣₁;
+    }

@@ -1,6 +1,0 @@
-use Rattle.std.proofs.Common.{◌≡◌, take}
-use Rattle.janus_machine.specs.Bodies.{numbers_of}
-use Rattle.janus_machine.proofs.linked_procedure.numbers.Given as goal
-
-abbrev pub invariant-loop-i : goal.invariant-loop-i
-invariant-loop-i l = l.numbers.items ≡ numbers_of (take l.i l.fn.parameters)

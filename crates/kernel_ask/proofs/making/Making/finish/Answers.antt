@@ -1,0 +1,21 @@
+use Rattle.std.proofs.Common.{arith}
+use Rattle.kernel_ask.proofs.Named.{nothing_left}
+use Rattle.kernel_ask.proofs.making.Making.finish.Goals as goal
+
+pub make_next-made-requires-clause-room : goal.make_next-made-requires-clause-room
+make_next-made-requires-clause-room g c = c.loop-i.invariant.2
+
+pub loop-i-preserved : goal.loop-i-preserved
+loop-i-preserved g c = (
+  λ o given u. c.make_next-made.ensures.goes o given (c.loop-i.invariant.0 o given u),
+  let was = c.loop-i.invariant.1 in
+      let fewer = c.make_next-made.ensures.fewer in
+      omega (arith, was, fewer),
+  c.make_next-made.ensures.room,
+)
+
+pub returns-clause-left : goal.returns-clause-left
+returns-clause-left g c =
+    let was = c.loop-i.invariant.1 in
+    let count = c.requires.room.count in
+    nothing_left _ (omega (arith, was, count))

@@ -1,0 +1,150 @@
+//! The values of user expressions after a job that has ended, made one by one: whoever makes them may stop between two.
+ghost use Rattle.std.specs.Prelude.{◌≡◌, ◌<◌, ◌≤◌, ◌-◌, [], true, false, List, IfSome, vec_len, vec_capacity, length};
+ghost use Rattle.janus_meaning.specs.Shape.{shape_of};
+ghost use Rattle.janus_check.specs.Names.{shape_in};
+ghost use Rattle.kernel_text.specs.State.{Idle, Past, here};
+ghost use Rattle.kernel_text.specs.outcome.Outcome.{Outcome as OutcomeOf};
+ghost use Rattle.kernel_ask.specs.EndedAt.{StandsAtEnd};
+ghost use Rattle.kernel_ask.specs.Evaluation.{AreValuesAfter};
+ghost use Rattle.kernel_ask.specs.Making.{has_values};
+ghost use Rattle.kernel_ask.specs.Wishes.{WishOf};
+
+use crate::done::NamedValue;
+use crate::evaluation::names_here;
+use crate::wish::Wish;
+use janus_check::Env;
+use kernel_text::{Kernel, Outcome};
+use std::alloc::Global;
+use std::collections::VecDeque;
+use std::sync::ledger::Ledger;
+
+/// User expressions of a job that has ended, the first of which are evaluated. It is of one kernel, which stands where the job left it.
+#[derive(Drop)]
+pub struct Making {
+    /// Whether they are evaluated: behind a cell that ran.
+    is_wanted: bool,
+    rest: VecDeque<Wish>,
+    /// With room for all.
+    values: Vec<NamedValue>,
+}
+
+/// Whether it is that of a cell that ran.
+fn is_run(outcome: &Outcome) -> bool
+    ensures { result ≡ has_values outcome.now }
+{
+    match outcome {
+        Outcome::Ran(_, _) => true,
+        Outcome::Failed(_, _)
+        | Outcome::Interrupted(_)
+        | Outcome::Undid(_, _)
+        | Outcome::Redid(_, _)
+        | Outcome::Went(_, _, _)
+        | Outcome::Refused(_) => false,
+    }
+}
+
+/// The declared names of the world of the position, where they are needed.
+fn names_for<L: Ledger>(alloc: Global, kernel: &Kernel<L>, are_needed: bool) -> Option<Env>
+    requires { kernel.now.machine.state.job ≡ Idle }
+    ensures { IfSome result (λ env. shape_in env.names ≡ shape_of (here kernel.now.machine.state.past).store) }
+{
+    if are_needed {
+        names_here(alloc, kernel)
+    } else {
+        None
+    }
+}
+
+impl Making {
+    ghost use Rattle.kernel_ask.specs.Making.{IsUnderWay, HasRoom, left_of};
+
+    /// None is evaluated yet. It takes no memory.
+    pub fn new(outcome: &Outcome, wishes: Vec<Wish>, room: Vec<NamedValue>) -> Making
+        requires empty { room.items ≡ [] }
+        requires room { vec_len wishes ≤ vec_capacity room }
+        ensures { (s : Past) → StandsAtEnd outcome.now s → IsUnderWay outcome.now s wishes.items result }
+    {
+        let is_wanted = is_run(outcome);
+        Making {
+            is_wanted,
+            rest: VecDeque::from_vec(wishes),
+            values: room,
+        }
+    }
+
+    /// Whether one is left that has to be evaluated.
+    fn needs_names(&self) -> bool {
+        self.is_wanted && self.rest.len() > 0
+    }
+
+    /// The value of the next one, if one is left; whether one was. The declared names are lent.
+    fn make_next<L: Ledger>(
+        &mut self,
+        alloc: Global,
+        kernel: &Kernel<L>,
+        names: &Option<Env>,
+    ) -> bool
+        requires idle { kernel.now.machine.state.job ≡ Idle }
+        requires names { IfSome names.now (λ env. shape_in env.names ≡ shape_of (here kernel.now.machine.state.past).store) }
+        requires room { HasRoom self.old }
+        ensures goes { (o : OutcomeOf) (given : List WishOf) → IsUnderWay o kernel.now.machine.state.past given self.old →
+            IsUnderWay o kernel.now.machine.state.past given self.new }
+        ensures room { HasRoom self.new }
+        ensures fewer { length (left_of self.new) ≡ length (left_of self.old) - 1 }
+        ensures left { result ≡ false → left_of self.new ≡ [] }
+        ensures some { result ≡ true → 0 < length (left_of self.old) }
+    {
+        let Some(wish) = self.rest.pop_front() else {
+            return false;
+        };
+        if self.is_wanted {
+            let named = wish.evaluate(alloc, kernel, names);
+            self.values.push_reserved(named);
+        }
+        true
+    }
+
+    /// The values of so many more at most; whether more may be left. The table of the declared names is made once for them; where there is no memory for
+    /// it each value says so.
+    pub fn make<L: Ledger>(&mut self, alloc: Global, kernel: &Kernel<L>, most: u32) -> bool
+        requires idle { kernel.now.machine.state.job ≡ Idle }
+        requires room { HasRoom self.old }
+        ensures goes { (o : OutcomeOf) (given : List WishOf) → IsUnderWay o kernel.now.machine.state.past given self.old →
+            IsUnderWay o kernel.now.machine.state.past given self.new }
+        ensures fewer { length (left_of self.new) ≡ length (left_of self.old) - most }
+        ensures left { result ≡ false → left_of self.new ≡ [] }
+        // It answers that more may be left only where so many were.
+        ensures some { result ≡ true → most ≤ length (left_of self.old) }
+    {
+        let names = names_for(alloc, kernel, self.needs_names());
+        for _i in 0..most {
+            if !self.make_next(alloc, kernel, &names) {
+                return false;
+            }
+        }
+        true
+    }
+
+    /// The values of all that are left.
+    pub fn finish<L: Ledger>(&mut self, alloc: Global, kernel: &Kernel<L>)
+        requires idle { kernel.now.machine.state.job ≡ Idle }
+        requires room { HasRoom self.old }
+        ensures goes { (o : OutcomeOf) (given : List WishOf) → IsUnderWay o kernel.now.machine.state.past given self.old →
+            IsUnderWay o kernel.now.machine.state.past given self.new }
+        ensures left { left_of self.new ≡ [] }
+    {
+        let names = names_for(alloc, kernel, self.needs_names());
+        for _i in 0..self.rest.len() {
+            let _made = self.make_next(alloc, kernel, &names);
+        }
+    }
+
+    /// The values, once none is left.
+    pub fn values(self) -> Vec<NamedValue>
+        requires { left_of self ≡ [] }
+        ensures { (o : OutcomeOf) (s : Past) (given : List WishOf) → IsUnderWay o s given self → AreValuesAfter o s given result.items }
+    {
+        let Making { values, .. } = self;
+        values
+    }
+}
