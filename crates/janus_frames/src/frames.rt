@@ -9,9 +9,9 @@ ghost use Rattle.janus_meaning.specs.Store.{Store as Values, Val, Slot, Num, Arr
 ghost use Rattle.janus_meaning.specs.Value.{first};
 ghost use Rattle.janus_meaning.specs.World.{size_of};
 ghost use Rattle.janus_meaning.specs.Writes.{IsWritten};
-ghost use Rattle.janus_evaluation.specs.Results.{IsCounted};
 ghost use Rattle.janus_row.specs.Acts.{Fits};
-ghost use Rattle.janus_row.specs.Rows.{IsRow, IsBody, body_at, sight_of};
+ghost use Rattle.janus_row.specs.Rows.{IsRow, IsBody, instruction_at, body_at, sight_of};
+ghost use Rattle.janus_row.specs.Slices.{IsWrittenOnce};
 ghost use Rattle.janus_row.specs.Sound.{World};
 ghost use Rattle.janus_slots.specs.Slots.{slot};
 ghost use Rattle.janus_memory.specs.Values.{kind_of, shown, read_or};
@@ -19,7 +19,7 @@ ghost use Rattle.janus_frames.specs.Cells.{has, from};
 ghost use Rattle.janus_frames.specs.Calls.{CanLend, Enters, AreAlone, Returns, given_back, own_names, slots_of, names_of};
 ghost use Rattle.janus_frames.specs.FramesState.{no_frames, names_there, stacks_there, values_there, with_names, HasShape};
 ghost use Rattle.janus_frames.specs.Limits.{call_limit};
-ghost use Rattle.janus_frames.specs.Run.{HasCellRoom, KeepsCalls, IsSafeRun, IsRunnableOnce, Runs, RunsOnce, undeclared};
+ghost use Rattle.janus_frames.specs.Run.{HasCellRoom, KeepsCalls, IsSafeRun, IsRunnableOnce, Runs, RunsOnce, KeepsValues, undeclared};
 ghost use Rattle.janus_frames.specs.Shown.{place_in, through, AreLow, IsStored};
 ghost use Rattle.janus_frames.specs.Stores.{IsNumber, IsArray, IsStack, IsHeldStack, HasElementAt, IsFirstOnTop, rest_of, write};
 ghost use Rattle.janus_frames.specs.Values.{first_of};
@@ -369,6 +369,8 @@ impl<L: Ledger> Frames<L> {
         ensures size { size_of self.new.slots ≡ sight_of row.now (body_at row.now.instructions.items result.at) }
         ensures kept { KeepsCalls self.old self.new }
         ensures written { IsWritten result.taken self.old.writes self.new.writes }
+        // Only a counted write gives a name another value.
+        ensures unwritten { self.new.writes ≡ self.old.writes → KeepsValues self.old.slots self.new.slots }
         ensures stays { result.taken ≡ 0 → (self.new ≡ self.old) × (result.at ≡ at) }
     {
         fits_wider_law();
@@ -401,7 +403,7 @@ impl<L: Ledger> Frames<L> {
         ensures run { RunsOnce row.now at result (undeclared self.old) (undeclared self.new) }
         ensures size { IfOk result (λ next. size_of self.new.slots ≡ sight_of row.now (body_at row.now.instructions.items next)) }
         ensures kept { KeepsCalls self.old self.new }
-        ensures counted { IsCounted result self.old.writes self.new.writes }
+        ensures counted { IsWrittenOnce (instruction_at row.now.instructions.items at).op result self.old.writes self.new.writes }
         ensures stays { OnErr result (self.new ≡ self.old) }
     {
         fits_wider_law();
