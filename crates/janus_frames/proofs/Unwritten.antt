@@ -1,9 +1,6 @@
 -- A run in which nothing was counted, as frames see it.
-use Rattle.std.proofs.Common.{◌≡◌, ℕ, ℤ, ◌+◌, ◌-◌, ◌<◌, ◌≤◌, List, pos, get_or, refl, ap, ◌∙◌, sym, subst, arith}
+use Rattle.std.proofs.Common.{◌≡◌, ℕ, ℤ, ◌+◌, ◌-◌, ◌≤◌, List, pos, ap, ◌∙◌, sym, subst, arith}
 use Rattle.std.proofs.lemmas.List.{get_or-drop}
-use Rattle.janus_meaning.specs.Fault.{Fine}
-use Rattle.janus_meaning.specs.Store.{Val, look}
-use Rattle.janus_slots.specs.Slots.{slot}
 use Rattle.janus_memory.specs.Memory.{MemoryState, Content, Plain, HasArray, HasStack, Gone, val_of, val_at, number_at, content_at}
 use Rattle.janus_row.specs.Over.{cells_of, others_of}
 use Rattle.janus_row.specs.Seen.{AreUnwritten, array_in, stack_in}
