@@ -72,7 +72,7 @@ impl<L: Ledger> Model for Frames<L> {
 
 impl<L: Ledger> Frames<L> {
     /// No names, with the memory of this many cells and of all stacks and calls that may be, and no writes so far, which are counted in the ledger that
-    /// is opened by this blank; with the leave to move its values, and a tally of that ledger, at 0.
+    /// is opened by this blank; with the permit to move its values, and a tally of that ledger, at 0.
     ///
     /// # Errors
     ///

@@ -5,9 +5,9 @@
 //! its cells are called by their numbers from its first one on. An array or a stack is in one cell alone, and is moved as its index.
 //!
 //! It is told from which place on cells are for results, whose numbers are kept and not counted. Each change of a number before that place, of an
-//! element or of the values of a stack is counted, in a ledger of which there is one memory, but for what takes the leave `Moves`: to move values, to
-//! let one begin or end, and to tell that place. The leave is made with the memory and cannot be had otherwise. So who has the memory without it
-//! changes values by counted writes alone. To give a cell a stack, which is empty, and to take an empty one away is no write, and takes no leave.
+//! element or of the values of a stack is counted, in a ledger of which there is one memory, but for what takes the permit `Moves`: to move values, to
+//! let one begin or end, and to tell that place. The permit is made with the memory and cannot be had otherwise. So who has the memory without it
+//! changes values by counted writes alone. To give a cell a stack, which is empty, and to take an empty one away is no write, and takes no permit.
 //!
 //! The modules, in the order in which a reader needs them:
 //! - `limit`: how many values all stacks may hold.
@@ -15,7 +15,7 @@
 //! - `arrays`, `stacks`: all arrays, and all stacks that may live in one `cell_pool`, each at its index.
 //! - `stack_view`, `value`: the values of a stack, and a value, as they are lent.
 //! - `writes`: the count of the writes, and a tally beside it, which contracts alone see.
-//! - `moves`: the leave to change values without a write.
+//! - `moves`: the permit to change values without a write.
 //! - `memory`: the cells with all of these.
 //!
 //! The definitions, in specs/, in reading order:

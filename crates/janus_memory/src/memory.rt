@@ -54,7 +54,7 @@ impl<L: Ledger> Model for Memory<L> {
 
 impl<L: Ledger> Memory<L> {
     /// No cells, with the memory of this many and of all stacks that may be, and no writes so far, which are counted in the ledger that is opened by
-    /// this blank; with the leave to move its values, and a tally of that ledger, at 0.
+    /// this blank; with the permit to move its values, and a tally of that ledger, at 0.
     ///
     /// # Errors
     ///

@@ -38,7 +38,7 @@ impl<L: Ledger> Model for Tally<L> {
 }
 
 impl<L: Ledger> Writes<L> {
-    /// A count, of no writes so far, the leave to change values without one, and a tally at 0.
+    /// A count, of no writes so far, the permit to change values without one, and a tally at 0.
     pub(crate) fn open(blank: Blank) -> (Writes<L>, Moves<L>, Tally<L>)
         requires name { blank.name ≡ L.name }
         requires parts { blank.parts ≡ L.parts }
