@@ -10,6 +10,7 @@ pub mod Bodies
 pub mod Nested
 pub mod Cursor
 pub mod Cursors
+pub mod Whereabouts
 pub mod Counts
 pub mod CountedStore
 pub mod Open
