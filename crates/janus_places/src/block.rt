@@ -57,6 +57,7 @@ fn add_statement(table: &mut Table, statement: &Stm, locals: usize) -> Result<()
 
 /// Adds the places of a statement's blocks.
 #[cycle(places)]
+#[tactic(auto, using(crate::proofs::Rows::none))]
 fn add_inner(table: &mut Table, statement: &Stm, locals: usize) -> Result<(), AllocError>
     requires { locals ≤ length table.old.locals.items }
     ensures within { OnOk result (length table.old.locals.items ≤ length table.new.locals.items) }
@@ -66,25 +67,80 @@ fn add_inner(table: &mut Table, statement: &Stm, locals: usize) -> Result<(), Al
     match statement {
         Stm::If(test, then_part, else_part, last) => {
             let (first, last) = (Some(span_of(test)), Some(span_of(last)));
-            add_branch(table, Form::If, Branch::First, first, then_part, last, locals)?;
-            add_branch(table, Form::If, Branch::Second, first, else_part, last, locals)
+            add_branch(
+                table,
+                Form::If,
+                Branch::First,
+                first,
+                then_part,
+                last,
+                locals,
+            )?;
+            add_branch(
+                table,
+                Form::If,
+                Branch::Second,
+                first,
+                else_part,
+                last,
+                locals,
+            )
         }
         Stm::Loop(entry, do_part, loop_part, exit) => {
             let (entry, exit) = (Some(span_of(entry)), Some(span_of(exit)));
-            add_branch(table, Form::Loop, Branch::First, entry, do_part, exit, locals)?;
-            add_branch(table, Form::Loop, Branch::Second, exit, loop_part, entry, locals)
+            add_branch(
+                table,
+                Form::Loop,
+                Branch::First,
+                entry,
+                do_part,
+                exit,
+                locals,
+            )?;
+            add_branch(
+                table,
+                Form::Loop,
+                Branch::Second,
+                exit,
+                loop_part,
+                entry,
+                locals,
+            )
         }
         Stm::LocalInt(name, _, body, _, _) => {
             let (head, tail) = (head_of(statement), tail_of(statement));
             let inner = table.open(name, locals)?;
-            add_branch(table, Form::LocalInt, Branch::First, head, body, tail, inner)
+            add_branch(
+                table,
+                Form::LocalInt,
+                Branch::First,
+                head,
+                body,
+                tail,
+                inner,
+            )
         }
         Stm::LocalStack(name, body, _) => {
             let (head, tail) = (head_of(statement), tail_of(statement));
             let inner = table.open(name, locals)?;
-            add_branch(table, Form::LocalStack, Branch::First, head, body, tail, inner)
+            add_branch(
+                table,
+                Form::LocalStack,
+                Branch::First,
+                head,
+                body,
+                tail,
+                inner,
+            )
         }
-        _ => Ok(()),
+        Stm::Skip
+        | Stm::Assign(_, _, _)
+        | Stm::AssignElement(_, _, _, _)
+        | Stm::Push(_, _)
+        | Stm::Pop(_, _)
+        | Stm::Swap(_, _)
+        | Stm::Call(_, _)
+        | Stm::Uncall(_, _) => Ok(()),
     }
 }
 

@@ -73,7 +73,12 @@ impl Table {
     }
 
     /// Adds a place; the only error is want of memory.
-    pub(crate) fn add(&mut self, part: Part, span: Option<Span>, locals: usize) -> Result<(), AllocError>
+    pub(crate) fn add(
+        &mut self,
+        part: Part,
+        span: Option<Span>,
+        locals: usize,
+    ) -> Result<(), AllocError>
         ensures adds { OnOk result ((spot : Spot) → part ≡ part_of spot → span ≡ span_of spot → AreLocals self.old.locals.items locals (locals_of spot) →
             Adds self.old self.new (spot ∷ [])) }
         ensures locals { OnOk result (self.new.locals.items ≡ self.old.locals.items) }

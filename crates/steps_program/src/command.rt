@@ -45,7 +45,11 @@ fn line_of(word: &str) -> Option<usize> {
 
 /// A count, which is 1 where none is told.
 fn count_of(word: &str) -> Option<u64> {
-    if word.is_empty() { Some(1) } else { number(word) }
+    if word.is_empty() {
+        Some(1)
+    } else {
+        number(word)
+    }
 }
 
 /// A command of a word.

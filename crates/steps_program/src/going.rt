@@ -63,11 +63,17 @@ fn mark_of(value: ValueView<'_>) -> u64 {
 
 /// A mark with one number more.
 fn mixed(mark: u64, number: i32) -> u64 {
-    (mark ^ (number as u32 as u64)).wrapping_mul(1_099_511_628_211).rotate_left(23)
+    (mark ^ (number as u32 as u64))
+        .wrapping_mul(1_099_511_628_211)
+        .rotate_left(23)
 }
 
 /// The mark of the value of a name; 0 where it is not in sight.
-pub(crate) fn mark<L: Ledger>(alloc: Global, walk: &Walk<L>, name: &str) -> Result<u64, AllocError> {
+pub(crate) fn mark<L: Ledger>(
+    alloc: Global,
+    walk: &Walk<L>,
+    name: &str,
+) -> Result<u64, AllocError> {
     let Some(level) = walk.level(walk.open_calls()) else {
         return Ok(0);
     };

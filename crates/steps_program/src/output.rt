@@ -58,7 +58,11 @@ fn inverted(part: Part) -> (&'static str, Option<Form>) {
 
 /// Writes what stands at a place in words.
 fn send_part<W: Write>(writer: &mut W, part: Part, inverse: bool) -> Result<(), WriteFailed> {
-    let (words, form) = if inverse { inverted(part) } else { onward(part) };
+    let (words, form) = if inverse {
+        inverted(part)
+    } else {
+        onward(part)
+    };
     send(writer, b" ")?;
     send(writer, words.as_bytes())?;
     if let Some(form) = form {

@@ -15,7 +15,12 @@ fn is_blank(text: &str) -> bool {
 }
 
 /// Puts what is gathered behind the others, unless it is blank.
-fn close(alloc: Global, cells: &mut Vec<Source>, gathered: String, first_line: usize) -> Result<(), AllocError> {
+fn close(
+    alloc: Global,
+    cells: &mut Vec<Source>,
+    gathered: String,
+    first_line: usize,
+) -> Result<(), AllocError> {
     if is_blank(gathered.as_str()) {
         return Ok(());
     }

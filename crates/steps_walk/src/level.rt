@@ -41,14 +41,24 @@ impl<L: Ledger> Walk<L> {
         let inverse = self.faces_inverse(i);
         if i < depth {
             let at = self.runner.cursor.open_call(i).place;
-            return Some(Level { cell, procedure, at, inverse });
+            return Some(Level {
+                cell,
+                procedure,
+                at,
+                inverse,
+            });
         }
         let book = Book {
             code: &own.program.book,
             procedures: &self.runner.procedures,
         };
         let at = self.runner.cursor.written_place(&book);
-        Some(Level { cell, procedure, at, inverse })
+        Some(Level {
+            cell,
+            procedure,
+            at,
+            inverse,
+        })
     }
 
     /// Whether the inverse runs in the code of the i-th open call's caller.

@@ -75,7 +75,12 @@ impl<L: Ledger> Walk<L> {
         Ok(())
     }
 
-    fn add_locals(&self, alloc: Global, level: &Level, names: &mut Vec<String>) -> Result<(), AllocError> {
+    fn add_locals(
+        &self,
+        alloc: Global,
+        level: &Level,
+        names: &mut Vec<String>,
+    ) -> Result<(), AllocError> {
         let Some(table) = self.table(level) else {
             return Ok(());
         };

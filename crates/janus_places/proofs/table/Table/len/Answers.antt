@@ -1,14 +1,6 @@
-use Rattle.std.proofs.Common.{rules, ◌≡◌, ◌<◌, ◌≤◌, ◌∷◌, ◌++◌, [], ℕ, suc, List, length, map, slice_get, Some, IfOk, OnOk, string_bytes, ◌+◌, ◌-◌, ◌*◌, ◌/◌, ◌%◌, Bool, true, false, nat_eq, nat_lt, slice_index_or, slice_set, bit_and, bit_or, Fits, w8, w32, w64, Bor, MutBor}
-use Rattle.janus_meaning.specs.Syntax.{Name as TheName}
-use Rattle.janus_syntax.specs.Tree.{Block}
-use Rattle.janus_syntax.specs.View.{name_of}
-use Rattle.janus_places.specs.Spots.{Spot, part_of, span_of, locals_of}
-use Rattle.janus_places.specs.declared.table.Local.{Local}
-use Rattle.janus_places.specs.Standing.{IsTold, AreOpen, code_of}
-use Rattle.janus_places.specs.Table.{IsTableOf, AreLocals, Opens, Adds, places_in}
-use Rattle.janus_linear.specs.Layout.{block_size}
+use Rattle.std.proofs.Common.{arith}
+use Rattle.janus_places.proofs.Rows.{table_long}
 use Rattle.janus_places.proofs.table.Table.len.Goals as goal
 
--- src/table.rt:86:5
 pub returns-clause-code : goal.returns-clause-code
-returns-clause-code c = ?
+returns-clause-code c = λ es g b t. omega (arith, c.len.ensures, c.args.self.now.rows.ok.0, table_long c.args.self.now es g b t)

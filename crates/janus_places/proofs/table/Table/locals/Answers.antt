@@ -1,30 +1,29 @@
-use Rattle.std.proofs.Common.{rules, ◌≡◌, ◌<◌, ◌≤◌, ◌∷◌, ◌++◌, [], ℕ, suc, List, length, map, slice_get, Some, IfOk, OnOk, string_bytes, ◌+◌, ◌-◌, ◌*◌, ◌/◌, ◌%◌, Bool, true, false, nat_eq, nat_lt, slice_index_or, slice_set, bit_and, bit_or, Fits, w8, w32, w64, Bor, MutBor}
-use Rattle.janus_meaning.specs.Syntax.{Name as TheName}
-use Rattle.janus_syntax.specs.Tree.{Block}
-use Rattle.janus_syntax.specs.View.{name_of}
-use Rattle.janus_places.specs.Spots.{Spot, part_of, span_of, locals_of}
+use Rattle.std.proofs.Common.{List, ℕ, Bor, map, ◌++◌, ap, subst, arith, ◌∙◌}
 use Rattle.janus_places.specs.declared.table.Local.{Local}
-use Rattle.janus_places.specs.Standing.{IsTold, AreOpen, code_of}
-use Rattle.janus_places.specs.Table.{IsTableOf, AreLocals, Opens, Adds, places_in}
-use Rattle.janus_linear.specs.Layout.{block_size}
+use Rattle.janus_places.proofs.Rows.{next_left, all_told, open_at, never_past, falls}
 use Rattle.janus_places.proofs.table.Table.locals.Goals as goal
 
--- src/table.rt:110:9
 pub loop-behind-init : goal.loop-behind-init
-loop-behind-init c = ?
+loop-behind-init c = λ xs h. (xs, ap (λ l. map (λ (name : Bor (List ℕ)). name.now) l ++ xs) c.new-names.ensures.items, h)
 
--- src/table.rt:112:17
 pub returns-in_default : goal.returns-in_default
-returns-in_default c = ?
+returns-in_default c = λ es g b t.
+    absurd (never_past c.args.self.now es g b c.args.at c.index.result.now c.loop-behind.behind c.deref.result.now c.loop-behind.names.items
+    c.deref.ensures.value c.index.ensures c.requires t c.loop-behind-test.true c.loop-behind.invariant c.in_default.ensures.lookup.0)
 
--- src/table.rt:110:9
 pub loop-behind-smaller : goal.loop-behind-smaller
-loop-behind-smaller c = ?
+loop-behind-smaller c =
+    falls c.args.self.now c.deref.result.now c.loop-behind.behind c.in-Some.local.now c.deref.ensures.value c.loop-behind-test.true
+    c.in-Some.ensures.lookup.3.0 c.in-Some.ensures.lookup.1
 
--- src/table.rt:110:9
 pub loop-behind-preserved : goal.loop-behind-preserved
-loop-behind-preserved c = ?
+loop-behind-preserved c = λ xs h.
+    next_left c.args.self.now.locals.items c.loop-behind.behind c.in-Some.local.now c.loop-behind.names.items c.push.new.self.items c.as_str.result xs
+    c.loop-behind-test.true (rw c.deref.ensures.value at c.in-Some.ensures.lookup.1) c.in_ok-push.ensures.items c.as_str.ensures.value
+    (c.loop-behind.invariant xs h)
 
--- src/table.rt:103:5
 pub returns : goal.returns
-returns c = ?
+returns c = λ es g b t.
+    open_at c.args.self.now es g b c.args.at c.index.result.now _ c.index.ensures c.requires t (λ xs h.
+    all_told c.args.self.now.locals.items c.loop-behind.behind c.loop-behind.names.items xs (omega (arith, c.loop-behind-test.false))
+    (c.loop-behind.invariant xs h))

@@ -1,14 +1,8 @@
-use Rattle.std.proofs.Common.{rules, ◌≡◌, ◌<◌, ◌≤◌, ◌∷◌, ◌++◌, [], ℕ, suc, List, length, map, slice_get, Some, IfOk, OnOk, string_bytes, ◌+◌, ◌-◌, ◌*◌, ◌/◌, ◌%◌, Bool, true, false, nat_eq, nat_lt, slice_index_or, slice_set, bit_and, bit_or, Fits, w8, w32, w64, Bor, MutBor}
-use Rattle.janus_meaning.specs.Syntax.{Name as TheName}
-use Rattle.janus_syntax.specs.Tree.{Block}
-use Rattle.janus_syntax.specs.View.{name_of}
-use Rattle.janus_places.specs.Spots.{Spot, part_of, span_of, locals_of}
-use Rattle.janus_places.specs.declared.table.Local.{Local}
-use Rattle.janus_places.specs.Standing.{IsTold, AreOpen, code_of}
-use Rattle.janus_places.specs.Table.{IsTableOf, AreLocals, Opens, Adds, places_in}
-use Rattle.janus_linear.specs.Layout.{block_size}
+use Rattle.std.proofs.Common.{arith}
+use Rattle.janus_places.proofs.Rows.{opened}
 use Rattle.janus_places.proofs.table.Table.open.Goals as goal
 
--- src/table.rt:58:5
 pub returns-clause-local : goal.returns-clause-local
-returns-clause-local c = ?
+returns-clause-local c = λ xs h.
+    opened c.args.self.now.locals.items c.push.new.self.items (record { name = c.in_ok-clone.field-0; outer = c.args.outer }) c.len.result _ xs
+    c.in_ok-push.ensures.items (omega (arith, c.len.ensures, c.push.new.self.ok.0)) c.in_ok-clone.ensures.cases h
