@@ -15,6 +15,7 @@ pub mod Kept
 pub mod Leaving
 pub mod Levels
 pub mod Mirrors
+pub mod Written
 pub mod Moves
 pub mod Near
 pub mod OpenTotals

@@ -8,6 +8,7 @@ pub mod Index
 pub mod TableNames
 pub mod Standing
 pub mod Kept
+pub mod OpenCell
 pub mod Came
 -- Of janus_frames, given again.
 pub use Rattle.janus_frames.specs.StoreState

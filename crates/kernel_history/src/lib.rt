@@ -11,6 +11,7 @@
 //!
 //! - `tree`: the tree of cells with the position, and what is asked of it; `job`: the open job.
 //! - `history`: the tree, the runner and the open job in one, and how jobs begin. `settle`: a slice and its parts, and what comes at the end of a cell.
+//! - `open_cell`: a posted cell that is open, taken out of its history, to be walked through.
 //! - `defined`: the procedures of a world; `view`: the shown world, lent; `extent`: how far an undo and a redo can go.
 //!
 //! The definitions, in specs/, in reading order:
@@ -34,11 +35,14 @@ mod defined;
 mod extent;
 mod history;
 mod job;
+mod open_cell;
 mod settle;
 mod tree;
 mod view;
 
 pub use crate::history::History;
 pub use crate::job::Stage;
+pub use crate::open_cell::OpenCell;
+pub use crate::tree::HistoryTree;
 pub use crate::view::View;
 pub use kernel_loader::{Store, names_in_sight};
