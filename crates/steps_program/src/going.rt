@@ -1,7 +1,7 @@
 //! How far a command goes.
 
 use crate::output::place_of;
-use crate::source::Source;
+use crate::source::{Source, source_of};
 use janus_memory::ValueView;
 use janus_syntax::tree::Exp;
 use kernel_machine::Progress;
@@ -36,8 +36,8 @@ pub(crate) enum Goal<'a> {
     Line(usize),
     /// Until an expression over the names in sight holds.
     Holds(&'a Exp),
-    /// Until the value of a name is another one than this.
-    Changes(&'a str, u64),
+    /// Until the value of a name, where so many calls are open, is another one than this.
+    Changes(&'a str, usize, u64),
 }
 
 /// A number of a value by which a change of it is seen.
@@ -74,7 +74,7 @@ pub(crate) fn mark<L: Ledger>(
     walk: &Walk<L>,
     name: &str,
 ) -> Result<u64, AllocError> {
-    let Some(level) = walk.level(walk.open_calls()) else {
+    let Some(level) = walk.here() else {
         return Ok(0);
     };
     let sight = walk.sight(alloc, &level)?;
@@ -99,7 +99,7 @@ fn is_there<L: Ledger>(
             if walk.open_calls() > depth {
                 return Ok(false);
             }
-            let Some(level) = walk.level(walk.open_calls()) else {
+            let Some(level) = walk.here() else {
                 return Ok(true);
             };
             match walk.spot(&level) {
@@ -109,7 +109,7 @@ fn is_there<L: Ledger>(
         }
         Goal::Fewer(depth) => Ok(walk.open_calls() < depth),
         Goal::Line(line) => {
-            let Some(level) = walk.level(walk.open_calls()) else {
+            let Some(level) = walk.here() else {
                 return Ok(false);
             };
             let Some(spot) = walk.spot(&level) else {
@@ -118,13 +118,16 @@ fn is_there<L: Ledger>(
             if !spot.is_stop(level.inverse) {
                 return Ok(false);
             }
-            match place_of(&sources[level.cell], spot) {
+            let Some(source) = source_of(sources, level.node) else {
+                return Ok(false);
+            };
+            match place_of(source, spot) {
                 Some(place) => Ok(place.line == line),
                 None => Ok(false),
             }
         }
         Goal::Holds(exp) => {
-            let Some(level) = walk.level(walk.open_calls()) else {
+            let Some(level) = walk.here() else {
                 return Ok(false);
             };
             let sight = walk.sight(alloc, &level)?;
@@ -133,7 +136,12 @@ fn is_there<L: Ledger>(
                 Err(_) => Ok(false),
             }
         }
-        Goal::Changes(name, old) => Ok(mark(alloc, walk, name)? != old),
+        Goal::Changes(name, depth, old) => {
+            if walk.open_calls() != depth {
+                return Ok(false);
+            }
+            Ok(mark(alloc, walk, name)? != old)
+        }
     }
 }
 

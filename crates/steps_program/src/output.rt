@@ -1,7 +1,7 @@
 //! What is written.
 
 use crate::place::{Place, line_of, place_at};
-use crate::source::Source;
+use crate::source::{Source, source_of};
 use janus_places::{Branch, Form, Part};
 use janus_syntax::{Span, TokenKind, tokens};
 use kernel_text::{WriteFailed, send, send_counted, send_value};
@@ -117,13 +117,15 @@ pub(crate) fn send_where<L: Ledger, W: Write>(
     sources: &[Source],
 ) -> Result<(), WriteFailed> {
     send_counted(writer, "step ", walk.count())?;
-    let Some(level) = walk.level(walk.open_calls()) else {
+    let Some(level) = walk.here() else {
         return send(writer, b"\n");
     };
     let Some(spot) = walk.spot(&level) else {
         return send(writer, b"\n");
     };
-    let source = &sources[level.cell];
+    let Some(source) = source_of(sources, level.node) else {
+        return send(writer, b"\n");
+    };
     let place = place_of(source, spot);
     if let Some(place) = place {
         send_place(writer, place)?;
@@ -174,8 +176,10 @@ fn send_call<L: Ledger, W: Write>(
         send(writer, b" ")?;
         send(writer, name.as_bytes())?;
     }
-    if let Some(place) = place_of(&sources[caller.cell], spot) {
-        send_place(writer, place)?;
+    if let Some(source) = source_of(sources, caller.node) {
+        if let Some(place) = place_of(source, spot) {
+            send_place(writer, place)?;
+        }
     }
     if callee.inverse {
         send(writer, b" inverse")?;
@@ -251,10 +255,12 @@ pub(crate) fn send_list<L: Ledger, W: Write>(
     walk: &Walk<L>,
     sources: &[Source],
 ) -> Result<(), WriteFailed> {
-    let Some(level) = walk.level(walk.open_calls()) else {
+    let Some(level) = walk.here() else {
         return Ok(());
     };
-    let source = &sources[level.cell];
+    let Some(source) = source_of(sources, level.node) else {
+        return Ok(());
+    };
     let here = match walk.spot(&level) {
         Some(spot) => match place_of(source, spot) {
             Some(place) => place.line,

@@ -2,15 +2,15 @@
 
 use crate::command::Command;
 use crate::output::send_where;
-use crate::source::{Source, cells_of};
+use crate::source::{Source, Stray, count_cells, run_before};
 use crate::talk::obey;
-use kernel_machine::Refusal;
-use kernel_text::{WriteFailed, send, send_counted};
+use kernel_core::{Begun, CellText, Job, Kernel};
+use kernel_text::{WriteFailed, send, send_outcome, send_post_fault};
 use std::alloc::Global;
 use std::io::{BufRead, Write};
 use std::marker::Brand;
 use std::sync::ledger::{Blank, Ledger};
-use steps_walk::{Ran, Walk};
+use steps_walk::Walk;
 use thiserror::Error;
 
 /// Why a run ends before its commands are obeyed.
@@ -36,8 +36,15 @@ impl From<WriteFailed> for RunFault {
     }
 }
 
-/// How many steps each of the cells before may take.
-const STEPS: u64 = 1_000_000_000_000;
+impl From<Stray> for RunFault {
+    fn from(stray: Stray) -> RunFault {
+        match stray {
+            Stray::NoCell => RunFault::NoCell,
+            Stray::Memory => RunFault::Memory,
+            Stray::Write => RunFault::Write,
+        }
+    }
+}
 
 /// Walks through a cell of a file, by its number from 1, or through the last one: the cells before it are run, and then commands are read and obeyed until
 /// there are none, or `quit`.
@@ -51,7 +58,7 @@ pub fn run<R: BufRead + Drop, W: Write>(
     run_counted::<Brand, R, W>(alloc, Blank::new(2), file, cell, reader, writer)
 }
 
-/// Does what [`run`] says. The blank opens the ledger of the runner.
+/// Does what [`run`] says. The blank opens the ledger of the kernel.
 fn run_counted<L: Ledger, R: BufRead + Drop, W: Write>(
     alloc: Global,
     blank: Blank,
@@ -64,109 +71,99 @@ fn run_counted<L: Ledger, R: BufRead + Drop, W: Write>(
     requires parts { blank.parts ≡ L.parts }
     requires two { 1 < L.parts }
 {
-    let Ok(mut walk) = Walk::<L>::new(alloc, blank) else {
-        return Err(RunFault::Memory);
-    };
-    let ended = walk_through(alloc, &mut walk, file, cell, reader, writer);
-    walk.discard();
-    ended
-}
-
-/// Runs the cells before, enters the cell, and obeys.
-fn walk_through<L: Ledger, R: BufRead + Drop, W: Write>(
-    alloc: Global,
-    walk: &mut Walk<L>,
-    file: &str,
-    cell: Option<usize>,
-    reader: &mut R,
-    writer: &mut W,
-) -> Result<(), RunFault> {
-    let Ok(cells) = cells_of(alloc, file) else {
+    let Ok(mut kernel) = Kernel::<L>::new(alloc, blank) else {
         return Err(RunFault::Memory);
     };
     let number = match cell {
         Some(number) => number,
-        None => cells.len(),
+        None => count_cells(file),
     };
-    if number == 0 || number > cells.len() {
-        return Err(RunFault::NoCell);
-    }
-    let mut sources = Vec::new(alloc);
-    let mut i = 0;
-    for source in cells {
-        i += 1;
-        if i < number {
-            run_before(alloc, walk, i, source, &mut sources, writer)?;
-        } else if i == number {
-            enter(alloc, walk, i, source, &mut sources, writer)?;
+    let (source, mut sources) = match run_before(alloc, &mut kernel, file, number, writer) {
+        Ok(found) => found,
+        Err(stray) => {
+            kernel.discard();
+            return Err(RunFault::from(stray));
         }
+    };
+    let walk = enter(alloc, kernel, source.text.as_str(), writer)?;
+    if sources.push(source).is_err() {
+        walk.discard();
+        return Err(RunFault::Memory);
     }
-    send_where(writer, walk, sources.as_slice())?;
-    flush(writer)?;
-    obey_all(alloc, walk, sources.as_slice(), reader, writer)
+    walk_through(alloc, walk, sources.as_slice(), reader, writer)
 }
 
-/// Runs a cell that stands before; its source is kept where it stays.
-fn run_before<L: Ledger, W: Write>(
-    alloc: Global,
-    walk: &mut Walk<L>,
-    number: usize,
-    source: Source,
-    sources: &mut Vec<Source>,
-    writer: &mut W,
-) -> Result<(), RunFault> {
-    send_counted(writer, "cell ", number as u64)?;
-    match walk.run_cell(alloc, source.text.as_str(), STEPS) {
-        Ran::Ended(steps) => {
-            send_counted(writer, " ran ", steps)?;
-            if sources.push(source).is_err() {
-                return Err(RunFault::Memory);
-            }
-        }
-        Ran::Failed(fault, steps) => {
-            send_counted(writer, " fault ", fault.number() as u64)?;
-            send(writer, b" ")?;
-            send(writer, fault.name().as_bytes())?;
-            send_counted(writer, " after ", steps)?;
-        }
-        Ran::Cut(steps) => send_counted(writer, " interrupted after ", steps)?,
-        Ran::Refused(refusal) => send_refusal(writer, refusal)?,
-    }
-    send(writer, b"\n")?;
-    Ok(())
-}
-
-/// Writes why a text is refused.
-fn send_refusal<W: Write>(writer: &mut W, refusal: Refusal) -> Result<(), WriteFailed> {
-    send_counted(writer, " refused ", refusal.number() as u64)?;
-    send(writer, b" ")?;
-    send(writer, refusal.name().as_bytes())?;
-    if let Some(span) = refusal.span() {
-        send_counted(writer, " ", span.start as u64)?;
-        send_counted(writer, " ", span.end as u64)?;
-    }
-    Ok(())
-}
-
-/// Enters the cell that is walked through.
+/// Begins a cell, and takes it out of the kernel, to be walked through. Where its text is refused, that is told.
 fn enter<L: Ledger, W: Write>(
     alloc: Global,
-    walk: &mut Walk<L>,
-    number: usize,
-    source: Source,
-    sources: &mut Vec<Source>,
+    kernel: Kernel<L>,
+    text: &str,
+    writer: &mut W,
+) -> Result<Walk<L>, RunFault> {
+    let mut kernel = kernel;
+    if let Err(fault) = begin(alloc, &mut kernel, text, writer) {
+        kernel.discard();
+        return Err(fault);
+    }
+    let Some(open) = kernel.into_open_cell() else {
+        return Err(RunFault::Refused);
+    };
+    match Walk::of(alloc, open) {
+        Ok(walk) => Ok(walk),
+        Err(_) => Err(RunFault::Memory),
+    }
+}
+
+/// Posts a cell, and begins it.
+fn begin<L: Ledger, W: Write>(
+    alloc: Global,
+    kernel: &mut Kernel<L>,
+    text: &str,
     writer: &mut W,
 ) -> Result<(), RunFault> {
-    if let Err(refusal) = walk.enter(alloc, source.text.as_str()) {
-        send_counted(writer, "cell ", number as u64)?;
-        send_refusal(writer, refusal)?;
+    let Ok(text) = String::from_str(alloc, text) else {
+        return Err(RunFault::Memory);
+    };
+    let Ok(code) = CellText::new(alloc, text) else {
+        return Err(RunFault::Memory);
+    };
+    let job = Job::Cell {
+        code,
+        silent: false,
+        store: true,
+    };
+    if let Err(fault) = kernel.post(0, job) {
+        send_post_fault(writer, fault)?;
         send(writer, b"\n")?;
         return Err(RunFault::Refused);
     }
-    if sources.push(source).is_err() {
-        return Err(RunFault::Memory);
+    match kernel.begin() {
+        Begun::Going => Ok(()),
+        Begun::Ended(outcome) => {
+            send_outcome(writer, &outcome)?;
+            send(writer, b"\n")?;
+            Err(RunFault::Refused)
+        }
+        Begun::Nothing => Err(RunFault::Refused),
     }
-    Ok(())
+}
+
+/// Tells where the walk begins, and obeys.
+fn walk_through<L: Ledger, R: BufRead + Drop, W: Write>(
+    alloc: Global,
+    walk: Walk<L>,
+    sources: &[Source],
+    reader: &mut R,
+    writer: &mut W,
+) -> Result<(), RunFault> {
+    let mut walk = walk;
+    let told = send_where(writer, &walk, sources);
+    let ended = match told {
+        Ok(()) => obey_all(alloc, &mut walk, sources, reader, writer),
+        Err(_) => Err(RunFault::Write),
+    };
+    walk.discard();
+    ended
 }
 
 /// Writes all that was held back.
@@ -185,6 +182,7 @@ fn obey_all<L: Ledger, R: BufRead + Drop, W: Write>(
     reader: &mut R,
     writer: &mut W,
 ) -> Result<(), RunFault> {
+    flush(writer)?;
     let mut line = String::new(alloc);
     for _ in 0..u64::MAX {
         line.clear();

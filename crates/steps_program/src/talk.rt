@@ -3,7 +3,7 @@
 use crate::command::Command;
 use crate::going::{Came, Goal, go_back, go_on, mark, steps_on};
 use crate::output::{send_calls, send_list, send_read, send_sight, send_where};
-use crate::source::Source;
+use crate::source::{Source, source_of};
 use janus_syntax::parse_exp;
 use kernel_text::{Fault, WriteFailed, send, send_counted};
 use std::alloc::Global;
@@ -53,7 +53,7 @@ fn tell_fault<L: Ledger, W: Write>(
     send(writer, fault.name().as_bytes())?;
     send_counted_line(writer, " after ", walk.count())?;
     send_where(writer, walk, sources)?;
-    let Some(level) = walk.level(walk.open_calls()) else {
+    let Some(level) = walk.here() else {
         return Ok(());
     };
     let Some(spot) = walk.spot(&level) else {
@@ -62,8 +62,11 @@ fn tell_fault<L: Ledger, W: Write>(
     let Some(span) = spot.span else {
         return Ok(());
     };
+    let Some(source) = source_of(sources, level.node) else {
+        return Ok(());
+    };
     match walk.sight(alloc, &level) {
-        Ok(sight) => send_read(alloc, writer, walk, &sight, &sources[level.cell], span),
+        Ok(sight) => send_read(alloc, writer, walk, &sight, source, span),
         Err(_) => send_no_memory(writer),
     }
 }
@@ -106,10 +109,11 @@ fn watch<L: Ledger, W: Write>(
     let Ok(old) = mark(alloc, walk, name) else {
         return send_no_memory(writer);
     };
+    let goal = Goal::Changes(name, walk.open_calls(), old);
     let came = if is_onward {
-        go_on(alloc, walk, sources, Goal::Changes(name, old))
+        go_on(alloc, walk, sources, goal)
     } else {
-        go_back(alloc, walk, sources, Goal::Changes(name, old))
+        go_back(alloc, walk, sources, goal)
     };
     tell(alloc, walk, sources, came, writer)
 }
@@ -120,7 +124,7 @@ fn show<L: Ledger, W: Write>(
     walk: &Walk<L>,
     writer: &mut W,
 ) -> Result<(), WriteFailed> {
-    let Some(level) = walk.level(walk.open_calls()) else {
+    let Some(level) = walk.here() else {
         return Ok(());
     };
     match walk.sight(alloc, &level) {

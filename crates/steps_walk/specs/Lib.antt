@@ -1,1 +1,2 @@
 pub mod Walking
+pub mod Walk

@@ -40,32 +40,30 @@ impl<L: Ledger> Walk<L> {
         let mut names = Vec::new(alloc);
         match level.procedure {
             None => self.add_declared(alloc, &mut names)?,
-            Some(procedure) => self.add_parameters(alloc, level.cell, procedure, &mut names)?,
+            Some(procedure) => self.add_parameters(alloc, level.node, procedure, &mut names)?,
         }
         self.add_locals(alloc, level, &mut names)?;
         Ok(Sight { names })
     }
 
+    /// Adds the declared names.
     fn add_declared(&self, alloc: Global, names: &mut Vec<String>) -> Result<(), AllocError> {
-        let texts = self.runner.counted.store.texts();
+        let texts = self.open.runner.counted.store.texts();
         for i in 0..texts.len() {
             names.push(String::from_str(alloc, texts.name(i))?)?;
         }
         Ok(())
     }
 
-    /// The first parameter stands on top.
+    /// Adds the parameters of a procedure: the first one stands on top.
     fn add_parameters(
         &self,
         alloc: Global,
-        cell: usize,
+        node: Option<usize>,
         procedure: usize,
         names: &mut Vec<String>,
     ) -> Result<(), AllocError> {
-        let Some(cell) = self.cells.get(cell) else {
-            return Ok(());
-        };
-        let Some(procedure) = cell.program.procedures().get(procedure) else {
+        let Some(procedure) = self.procedures_of(node).get(procedure) else {
             return Ok(());
         };
         for i in (0..procedure.parameters.len()).rev() {
@@ -75,6 +73,7 @@ impl<L: Ledger> Walk<L> {
         Ok(())
     }
 
+    /// Adds the locals that are open at a level.
     fn add_locals(
         &self,
         alloc: Global,
@@ -94,11 +93,11 @@ impl<L: Ledger> Walk<L> {
         Ok(())
     }
 
-    /// The value of the name in a slot, if it is in sight.
+    /// The value of the name in a slot, if one is in sight.
     pub fn value(&self, slot: usize) -> Option<ValueView<'_>> {
-        if slot >= self.runner.counted.store.sight_len() {
+        if slot >= self.open.runner.counted.store.sight_len() {
             return None;
         }
-        Some(self.runner.counted.store.sight_entry(slot))
+        Some(self.open.runner.counted.store.sight_entry(slot))
     }
 }
