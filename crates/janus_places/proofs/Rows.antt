@@ -115,7 +115,8 @@ last_at (y ∷ xs) x = last_at xs x
 pub opened : (ls news : List Local) (l : Local) (n : ℕ) (x : Name) (xs : List Name) → news ≡ ls ++ l ∷ [] → n ≡ length news → string_bytes l.name ≡ x →
     AreLocals ls l.outer xs → AreLocals news n (x ∷ xs)
 opened ls news l n x xs e m named h =
-    let many : n ≡ suc (length ls) = m ∙ ap (λ (k : List Local). length k) e ∙ length-append ls (l ∷ []) ∙ (let z : length ls + 1 ≡ suc (length ls) = omega arith in z) in
+    let many : n ≡ suc (length ls) = m ∙ ap (λ (k : List Local). length k) e ∙ length-append ls (l ∷ [])
+    ∙ (let z : length ls + 1 ≡ suc (length ls) = omega arith in z) in
     subst (λ k. AreLocals news k (x ∷ xs)) (sym many) (
       l,
       subst (λ k. slice_get k (length ls) ≡ Some l) (sym e) (last_at ls l),

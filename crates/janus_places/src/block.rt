@@ -3,7 +3,8 @@
 ghost use Rattle.std.specs.Prelude.{◌≡◌, ◌≤◌, List, length, IfOk, OnOk};
 ghost use Rattle.janus_meaning.specs.Syntax.{Name as TheName};
 ghost use Rattle.janus_syntax.specs.Tree.{Stm as TheStm, stm_view, block_view};
-ghost use Rattle.janus_places.specs.Spots.{block_spots, inner_spots, stm_spots, between, form_of as the_form_of, enters_span, leaves_span, Enters, Leaves, inside};
+ghost use Rattle.janus_places.specs.Spots.{block_spots, inner_spots, stm_spots, between, form_of as the_form_of};
+ghost use Rattle.janus_places.specs.Spots.{enters_span, leaves_span, Enters, Leaves, inside};
 ghost use Rattle.janus_places.specs.Table.{IsTableOf, AreLocals, Adds};
 
 use crate::part::{Branch, Form, Part, form_of};

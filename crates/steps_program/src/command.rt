@@ -13,6 +13,7 @@ pub enum Command<'a> {
     Finish,
     /// To go on to a line of the file.
     To(usize),
+    BackTo(usize),
     ToFault,
     ToEnd,
     ToStart,
@@ -60,6 +61,10 @@ fn of_word<'a>(first: &str, word: &'a str) -> Command<'a> {
     match first {
         "to" => match line_of(word) {
             Some(line) => Command::To(line),
+            None => Command::Unknown,
+        },
+        "back-to" => match line_of(word) {
+            Some(line) => Command::BackTo(line),
             None => Command::Unknown,
         },
         "until" => Command::Until(word),

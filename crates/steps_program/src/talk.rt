@@ -174,6 +174,10 @@ pub(crate) fn obey<L: Ledger, W: Write>(
             go(alloc, walk, sources, Goal::Fewer(depth), writer)
         }
         Command::To(line) => go(alloc, walk, sources, Goal::Line(line), writer),
+        Command::BackTo(line) => {
+            let came = go_back(alloc, walk, sources, Goal::Line(line));
+            tell(alloc, walk, sources, came, writer)
+        }
         Command::ToFault | Command::ToEnd => to_end(alloc, walk, sources, writer),
         Command::ToStart => {
             walk.back(u64::MAX);

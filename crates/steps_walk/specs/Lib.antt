@@ -1,2 +1,3 @@
 pub mod Walking
 pub mod Walk
+pub mod Where

@@ -1,4 +1,5 @@
 //! Where a walk stands, in the cell and in each open call.
+ghost use Rattle.std.specs.Prelude.{◌≡◌, ◌≤◌};
 
 use crate::tables::{CellTables, index_of};
 use crate::walk::Walk;
@@ -29,13 +30,19 @@ pub struct Spot {
 }
 
 impl<L: Ledger> Walk<L> {
+    ghost use Rattle.steps_walk.specs.Walk.{calls_in};
+
     /// How many calls are open.
-    pub fn open_calls(&self) -> usize {
+    pub fn open_calls(&self) -> usize
+        ensures { result ≡ calls_in self.now }
+    {
         self.open.runner.cursor.open_calls()
     }
 
     /// Where the walk stands in the innermost code, for i as many as there are open calls; else where the i-th open call stands, the outermost being 0.
-    pub fn level(&self, i: usize) -> Option<Level> {
+    pub fn level(&self, i: usize) -> Option<Level>
+        requires { i ≤ calls_in self.now }
+    {
         let (node, procedure) = self.code_of(i)?;
         let inverse = self.faces_inverse(i);
         let at = if i < self.open_calls() {
@@ -66,7 +73,9 @@ impl<L: Ledger> Walk<L> {
     }
 
     /// Whether the inverse runs in the code of the i-th open call's caller.
-    fn faces_inverse(&self, i: usize) -> bool {
+    fn faces_inverse(&self, i: usize) -> bool
+        requires { i ≤ calls_in self.now }
+    {
         let mut inverse = self.open.runner.cursor.faces_inverse();
         for k in i..self.open_calls() {
             if self.open.runner.cursor.open_call(k).uncalled {
@@ -77,12 +86,18 @@ impl<L: Ledger> Walk<L> {
     }
 
     /// In which code the i-th open call was made: the node of the cell, and the index of the procedure in it.
-    fn code_of(&self, i: usize) -> Option<(Option<usize>, Option<usize>)> {
+    fn code_of(&self, i: usize) -> Option<(Option<usize>, Option<usize>)>
+        requires { i ≤ calls_in self.now }
+    {
         if i == 0 {
             return Some((None, None));
         }
         let number = self.open.runner.cursor.open_call(i - 1).procedure;
-        let name = self.open.runner.entries.name(number);
+        let names = &self.open.runner.entries;
+        if number >= names.len() {
+            return None;
+        }
+        let name = names.name(number);
         if let Some(procedure) = index_of(self.open.program.procedures(), name) {
             return Some((None, Some(procedure)));
         }
@@ -99,7 +114,10 @@ impl<L: Ledger> Walk<L> {
     pub(crate) fn procedures_of(&self, node: Option<usize>) -> &[Procedure] {
         match node {
             None => self.open.program.procedures(),
-            Some(node) => self.open.tree.cells.content(node).program.procedures(),
+            Some(node) if node > 0 && self.open.tree.cells.has(node) => {
+                self.open.tree.cells.content(node).program.procedures()
+            }
+            Some(_) => &[],
         }
     }
 

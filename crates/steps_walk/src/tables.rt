@@ -1,4 +1,7 @@
 //! The places of a cell in its text.
+ghost use Rattle.std.specs.Prelude.{IfOk};
+ghost use Rattle.janus_syntax.specs.Tree.{block_view};
+ghost use Rattle.janus_places.specs.Table.{IsTableOf};
 
 use janus_places::Table;
 use janus_syntax::tree::{Cell, Procedure};
@@ -13,7 +16,9 @@ pub(crate) struct CellTables {
 
 impl CellTables {
     /// Those of a cell; the only error is want of memory.
-    pub(crate) fn of(alloc: Global, cell: &Cell) -> Result<CellTables, AllocError> {
+    pub(crate) fn of(alloc: Global, cell: &Cell) -> Result<CellTables, AllocError>
+        ensures { IfOk result (λ tables. IsTableOf tables.block (block_view cell.now.statements.items)) }
+    {
         let block = Table::of(alloc, &cell.statements)?;
         let mut bodies = Vec::new(alloc);
         for procedure in &cell.procedures {

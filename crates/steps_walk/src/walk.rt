@@ -1,11 +1,14 @@
 //! The open cell, and its steps.
-ghost use Rattle.std.specs.Prelude.{◌≡◌, ◌+◌, false};
+ghost use Rattle.std.specs.Prelude.{◌≡◌, ◌+◌, true, false, IfOk};
 ghost use Rattle.janus_meaning.specs.Writes.{IsWritten};
 ghost use Rattle.kernel_machine.specs.StepsOfSlices.{steps_on, steps_back};
-ghost use Rattle.kernel_runner.specs.Runner.{IsInside, Runs, count_of, writes_of, steps_of};
+ghost use Rattle.kernel_runner.specs.Runner.{Place, Is, Inside, IsInside, Runs, count_of, writes_of, steps_of};
 
 use crate::tables::CellTables;
 use crate::turning::step_back;
+use janus_machine::Book;
+use janus_places::Part;
+use janus_syntax::Span;
 use kernel_history::{HistoryTree, OpenCell};
 use kernel_machine::Progress;
 use std::alloc::{AllocError, Global};
@@ -31,7 +34,7 @@ pub struct Walk<L: Ledger> {
 fn before(alloc: Global, tree: &HistoryTree) -> Result<Vec<Before>, AllocError> {
     let mut all = Vec::new(alloc);
     let mut node = tree.position;
-    while node != 0 {
+    while node > 0 && tree.cells.has(node) {
         let tables = CellTables::of(alloc, tree.cells.content(node).program.cell())?;
         all.push(Before { node, tables })?;
         node = tree.cells.parent(node);
@@ -42,10 +45,15 @@ fn before(alloc: Global, tree: &HistoryTree) -> Result<Vec<Before>, AllocError> 
 impl<L: Ledger> Walk<L> {
     ghost use Rattle.steps_walk.specs.Walking.{StepsBack};
     ghost use Rattle.steps_walk.specs.Walk.{runner_of, program_of};
+    ghost use Rattle.steps_walk.specs.Where.{HasTable, is_outside, IsThere};
 
     /// A walk from where the open cell stands; the only error is want of memory.
-    pub fn of(alloc: Global, open: OpenCell<L>) -> Result<Walk<L>, AllocError> {
-        let tables = CellTables::of(alloc, open.program.cell())?;
+    pub fn of(alloc: Global, open: OpenCell<L>) -> Result<Walk<L>, AllocError>
+        ensures runner { IfOk result (λ walk. runner_of walk ≡ open.runner) }
+        ensures program { IfOk result (λ walk. program_of walk ≡ open.program) }
+        ensures table { IfOk result HasTable }
+    {
+        let tables = CellTables::of(alloc, &open.program.cell)?;
         let before = before(alloc, &open.tree)?;
         Ok(Walk {
             open,
@@ -84,5 +92,20 @@ impl<L: Ledger> Walk<L> {
         ensures counted { steps_of (runner_of self.new) ≡ steps_of (runner_of self.old) + steps_back (count_of (runner_of self.old)) m }
     {
         step_back(&mut self.open.runner, &self.open.program, m);
+    }
+
+    /// What stands in the text where the walk stands, where no call is open.
+    pub fn own_spot(&self) -> (Part, Option<Span>)
+        requires inside { IsInside (runner_of self.now) (program_of self.now) false }
+        requires outside { is_outside self.now ≡ true }
+        requires traced { HasTable self.now }
+        ensures { (at : Place) → Is (runner_of self.now) (Inside (program_of self.now) at false) → IsThere self.now at result.0 result.1 }
+    {
+        let book = Book {
+            code: &self.open.program.book,
+            procedures: &self.open.runner.procedures,
+        };
+        let at = self.open.runner.cursor.written_place(&book);
+        self.tables.block.spot(at)
     }
 }

@@ -26,7 +26,8 @@ add_block-loop-i-preserved t c =
           let new = added.adds xs k.0 in (
             still c.args.locals xs new k.0,
             λ end rest.
-                next_statement c.args.block.now c.loop-i.i c.index-block-i.result xs c.args.table.now c.loop-i.table c.add_statement.new.table end c.loop-i-test.true
+                next_statement c.args.block.now c.loop-i.i c.index-block-i.result xs c.args.table.now c.loop-i.table c.add_statement.new.table end
+                c.loop-i-test.true
                 c.index-block-i.is (k.1 end) new rest,
           ),
     )
@@ -52,7 +53,8 @@ add_inner-returns-in_ok-add_branch-in-If-clause-adds t c =
     let s = tree.If (exp_view x.test) (block_view x.then_part.items) (block_view x.else_part.items) (exp_view x.last) in
     on_ok c.add_branch-in-If.result (λ second xs h.
     let one = rw c.deref.ensures.value at (c.in_ok-add_branch-in-If.ensures.adds xs s refl (ap Some c.span_of.ensures) (ap Some c.span_of-in-If.ensures) h) in
-    let two = rw c.deref-in-If.ensures.value at (second xs s refl (ap Some c.span_of.ensures) (ap Some c.span_of-in-If.ensures) (still c.args.locals xs one h)) in
+    let two = rw c.deref-in-If.ensures.value at
+    (second xs s refl (ap Some c.span_of.ensures) (ap Some c.span_of-in-If.ensures) (still c.args.locals xs one h)) in
     subst (λ k. Adds c.args.table.now c.add_branch-in-If.new.table (inner_spots xs k))
     (sym (ap stm_view x.is ∙ view_if x.test x.last x.then_part x.else_part)) (both one two)) c.add_branch-in-If.ensures.adds
 
