@@ -59,22 +59,21 @@ impl Reading {
         }
     }
 
-    /// Takes what is gathered, where it is a cell, and counts it.
-    fn take(&mut self, alloc: Global) -> Option<Source> {
+    /// Takes what is gathered; a text that is not blank is counted.
+    fn take(&mut self, alloc: Global) -> Source {
         let text = std::mem::replace(&mut self.gathered, String::new(alloc));
-        if is_blank(text.as_str()) {
-            return None;
+        if !is_blank(text.as_str()) {
+            self.number += 1;
         }
-        self.number += 1;
-        Some(Source {
+        Source {
             text,
             first_line: self.first_line,
             node: None,
-        })
+        }
     }
 }
 
-/// How many cells a file has.
+/// How many cells a file has that are not blank.
 pub(crate) fn count_cells(file: &str) -> usize {
     let mut count = 0;
     let mut has_text = false;
@@ -107,20 +106,33 @@ pub(crate) fn run_before<L: Ledger, W: Write>(
             reading.gathered.push_str(line)?;
             reading.gathered.push('\n')?;
         } else {
-            if let Some(source) = reading.take(alloc) {
-                if reading.number == number {
-                    return Ok((source, reading.sources));
-                }
+            let source = reading.take(alloc);
+            if is_sought(&source, reading.number, number) {
+                return Ok((source, reading.sources));
+            }
+            let command = Command::read(line);
+            if runs(&source, command) {
                 run_cell(alloc, kernel, &mut reading, source, writer)?;
             }
-            obey_line(kernel, Command::read(line), writer)?;
+            obey_line(kernel, command, writer)?;
             reading.first_line = line_number + 1;
         }
     }
-    match reading.take(alloc) {
-        Some(source) if reading.number == number => Ok((source, reading.sources)),
-        _ => Err(Stray::NoCell),
+    let source = reading.take(alloc);
+    if is_sought(&source, reading.number, number) {
+        return Ok((source, reading.sources));
     }
+    Err(Stray::NoCell)
+}
+
+/// Whether a text is the cell of the number that is looked for.
+fn is_sought(source: &Source, number: usize, sought: usize) -> bool {
+    number == sought && !is_blank(source.text.as_str())
+}
+
+/// Whether a text is run before a command: all but a blank one, which `%%` alone runs.
+fn runs(source: &Source, command: Command) -> bool {
+    matches!(command, Command::Run) || !is_blank(source.text.as_str())
 }
 
 /// Runs a cell; its source is kept where it becomes a node.
