@@ -1,3 +1,3 @@
 pub mod Walking
-pub mod Walk
 pub mod Where
+pub mod Walk

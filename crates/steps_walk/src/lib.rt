@@ -4,15 +4,17 @@
 //! many steps on or back, and stands then wherever these lead: at a fault too, which changes nothing, and at the end. Nothing is logged and nothing is run
 //! again: a walk goes back by the inverse of the code.
 //!
-//! The modules, in the order in which a reader needs them: `turning` (steps back, after which a runner faces on), `tables` (the places of a cell), `walk`
-//! (the open cell, and its steps), `level` (where it stands, in the cell and in the open calls), `sight` (the names in sight with their values), `evaluation`
-//! (an expression over them).
+//! The modules, in the order in which a reader needs them: `turning` (steps back, after which a runner faces on), `place` (what stands in the text where it
+//! stands), `tables` (the places of a cell), `walk` (the open cell, and its steps), `level` (where it stands, in the cell and in the open calls), `sight` (the
+//! names in sight with their values), `evaluation` (an expression over them).
 //!
-//! The definitions are in specs/: `Walking` (what steps on and back do to where a walk stands).
+//! The definitions are in specs/: `Walking` (what steps back do to where a runner stands), `Where` (what is told of where it stands), `Walk` (what
+//! contracts see of a walk).
 #![tactic(auto)]
 
 mod evaluation;
 mod level;
+mod place;
 mod sight;
 mod tables;
 mod turning;

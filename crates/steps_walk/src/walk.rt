@@ -4,9 +4,9 @@ ghost use Rattle.janus_meaning.specs.Writes.{IsWritten};
 ghost use Rattle.kernel_machine.specs.StepsOfSlices.{steps_on, steps_back};
 ghost use Rattle.kernel_runner.specs.Runner.{Place, Is, Inside, IsInside, Runs, count_of, writes_of, steps_of};
 
+use crate::place::own_spot;
 use crate::tables::CellTables;
 use crate::turning::step_back;
-use janus_machine::Book;
 use janus_places::Part;
 use janus_syntax::Span;
 use kernel_history::{HistoryTree, OpenCell};
@@ -44,8 +44,8 @@ fn before(alloc: Global, tree: &HistoryTree) -> Result<Vec<Before>, AllocError> 
 
 impl<L: Ledger> Walk<L> {
     ghost use Rattle.steps_walk.specs.Walking.{StepsBack};
-    ghost use Rattle.steps_walk.specs.Walk.{runner_of, program_of};
-    ghost use Rattle.steps_walk.specs.Where.{HasTable, is_outside, IsThere};
+    ghost use Rattle.steps_walk.specs.Walk.{runner_of, program_of, HasTable, is_outside};
+    ghost use Rattle.steps_walk.specs.Where.{IsThere};
 
     /// A walk from where the open cell stands; the only error is want of memory.
     pub fn of(alloc: Global, open: OpenCell<L>) -> Result<Walk<L>, AllocError>
@@ -94,18 +94,14 @@ impl<L: Ledger> Walk<L> {
         step_back(&mut self.open.runner, &self.open.program, m);
     }
 
-    /// What stands in the text where the walk stands, where no call is open.
+    /// What stands in the text where the walk stands, while no call is open.
     pub fn own_spot(&self) -> (Part, Option<Span>)
         requires inside { IsInside (runner_of self.now) (program_of self.now) false }
         requires outside { is_outside self.now ≡ true }
         requires traced { HasTable self.now }
-        ensures { (at : Place) → Is (runner_of self.now) (Inside (program_of self.now) at false) → IsThere self.now at result.0 result.1 }
+        ensures { (at : Place) → Is (runner_of self.now) (Inside (program_of self.now) at false) →
+            IsThere (runner_of self.now) (program_of self.now) at result.0 result.1 }
     {
-        let book = Book {
-            code: &self.open.program.book,
-            procedures: &self.open.runner.procedures,
-        };
-        let at = self.open.runner.cursor.written_place(&book);
-        self.tables.block.spot(at)
+        own_spot(&self.open.runner, &self.open.program, &self.tables.block)
     }
 }
