@@ -50,7 +50,7 @@ module _ (m : MemoryState) (top : ℕ) (calls : List OpenCall) (i : AreIn m top 
   pub changed-in : AreIn (record m { numbers = ns; contents = xs; writes = w }) top calls
   changed-in = record {
     frames = changed (val_at m) (val_at new) m.base top k calls i.frames low other there;
-    counted = changed-counted (val_at m) (val_at new) m.base top k calls i.frames low other there m.spare (values_among m.contents) (values_among xs) m.room
+    counted = changed-counted (val_at m) (val_at new) m.base top k calls i.frames low other there m.spare (values_among m.contents) (values_among xs) m.room m.results
         m.writes w i.counted (ap one_stack c.here ∙ c.stacks ∙ sym (ap one_stack was))
         (let x = ap held_by c.here in let y = ap held_by was in let z = c.values in omega (arith, x, y, z));
     above = λ p l. c.plain p (let o = name-place m top calls i k u e in omega (arith, l, o)) ∙ i.above p l;

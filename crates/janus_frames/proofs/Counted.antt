@@ -26,10 +26,10 @@ module _ (v w : ℕ → Val) (base top k : ℕ) (cs : List OpenCall) (f : AreFra
       (λ t e. ap (λ (t : Val × Store). t.0)
       (fine_inj t (v (base + k), stored (with k Lent (from v base)) (top - base)) (sym e ∙ take-at (from v base) (top - base) k l (f.present k l))))
 
-  pub changed-counted : (spare a b room x y : ℕ) → AreCounted spare a (state_at v base top cs room x)
+  pub changed-counted : (spare a b room results x y : ℕ) → AreCounted spare a (state_at v base top cs room results x)
       → one_stack (w (base + k)) ≡ one_stack (v (base + k)) → b + held_by (v (base + k)) ≡ a + held_by (w (base + k))
-      → AreCounted spare b (state_at w base top cs room y)
-  changed-counted spare many more room x y h e g =
+      → AreCounted spare b (state_at w base top cs room results y)
+  changed-counted spare many more room results x y h e g =
       let c = changed-callers v w base top k cs f l other p in
       let a = changed-total one_stack refl in
       let b = changed-total held_by refl in

@@ -55,10 +55,10 @@ module _ (old new : ℕ → Val) (base top : ℕ) (call : OpenCall) (rest : List
       ap (λ k. unbind (parameters (length (names_of call.args))) (stored (from old base) k)) (alone ∙ sym many)
       ∙ unbind-all (from old base) (length (names_of call.args))
 
-  pub left-counted : (spare values room writes : ℕ) → AreCounted spare values (state_at old base top (call ∷ rest) room writes)
-      → AreCounted spare values (state_at new call.base base rest room writes)
-  left-counted spare values room writes h =
-      counted-left spare values (state_at old base top (call ∷ rest) room writes) (state_at new call.base base rest room writes)
+  pub left-counted : (spare values room results writes : ℕ) → AreCounted spare values (state_at old base top (call ∷ rest) room results writes)
+      → AreCounted spare values (state_at new call.base base rest room results writes)
+  left-counted spare values room results writes h =
+      counted-left spare values (state_at old base top (call ∷ rest) room results writes) (state_at new call.base base rest room results writes)
       (record { args = names_of call.args; store = stored (from old call.base) (base - call.base) }) (callers_of old call.base rest)
       (down (from old base) (length (names_of call.args))) refl l_told left-returns h
 
@@ -68,7 +68,7 @@ module _ (m n : MemoryState) (top : ℕ) (call : OpenCall) (rest : List OpenCall
     (above : (p : ℕ) → m.base ≤ p → content_at n p ≡ Plain) where
   pub left-in : AreIn (record n { base = call.base }) m.base rest
   left-in =
-      let x = left-counted (val_at m) (val_at n) m.base top call rest i.frames alone g m.spare (values_among m.contents) m.room m.writes i.counted in
+      let x = left-counted (val_at m) (val_at n) m.base top call rest i.frames alone g m.spare (values_among m.contents) m.room m.results m.writes i.counted in
       let s = h.spare in
       let v = h.values in
       let l = h.size in
@@ -78,7 +78,7 @@ module _ (m n : MemoryState) (top : ℕ) (call : OpenCall) (rest : List OpenCall
       let xv = x.values in
       record {
         frames = left-frames (val_at m) (val_at n) m.base top call rest i.frames alone g;
-        counted = record { stacks = ap (λ s. s + stacks_there (state_at (val_at n) call.base m.base rest m.room m.writes)) s ∙ xs; values = v ∙ xv };
+        counted = record { stacks = ap (λ s. s + stacks_there (state_at (val_at n) call.base m.base rest m.room m.results m.writes)) s ∙ xs; values = v ∙ xv };
         above = above;
         long = omega (arith, l, o, long);
       }
@@ -137,11 +137,11 @@ module _ (old new : ℕ → Val) (base top : ℕ) (call : OpenCall) (calls : Lis
         e_callers ∙ ap (λ s. record { args = names_of call.args; store = s } ∷ callers_of old base calls) (sym e.1),
       )
 
-  pub entered-counted : (spare values room writes : ℕ) → AreCounted spare values (state_at old base top calls room writes)
-      → AreCounted spare values (state_at new top (top + length (slots_of call.args)) (call ∷ calls) room writes)
-  entered-counted spare values room writes h =
-      counted-entered spare values (state_at old base top calls room writes)
-      (state_at new top (top + length (slots_of call.args)) (call ∷ calls) room writes) (names_of call.args) (t, can) entered-enters h
+  pub entered-counted : (spare values room results writes : ℕ) → AreCounted spare values (state_at old base top calls room results writes)
+      → AreCounted spare values (state_at new top (top + length (slots_of call.args)) (call ∷ calls) room results writes)
+  entered-counted spare values room results writes h =
+      counted-entered spare values (state_at old base top calls room results writes)
+      (state_at new top (top + length (slots_of call.args)) (call ∷ calls) room results writes) (names_of call.args) (t, can) entered-enters h
 
 -- the memory behind that
 module _ (m n : MemoryState) (top : ℕ) (call : OpenCall) (calls : List OpenCall) (i : AreIn m top calls) (at : call.base ≡ m.base) (t : List Val × Store)
@@ -150,13 +150,13 @@ module _ (m n : MemoryState) (top : ℕ) (call : OpenCall) (calls : List OpenCal
     (above : (p : ℕ) → top + length (slots_of call.args) ≤ p → content_at n p ≡ Plain) where
   pub entered-in : AreIn (record n { base = top }) (top + length (slots_of call.args)) (call ∷ calls)
   entered-in =
-      let x = entered-counted (val_at m) (val_at n) m.base top call calls i.frames at t can g m.spare (values_among m.contents) m.room m.writes i.counted in
+      let x = entered-counted (val_at m) (val_at n) m.base top call calls i.frames at t can g m.spare (values_among m.contents) m.room m.results m.writes i.counted in
       let xs = x.stacks in
       let xv = x.values in
       record {
         frames = entered-frames (val_at m) (val_at n) m.base top call calls i.frames at t can g;
         counted = record {
-          stacks = ap (λ s. s + stacks_there (state_at (val_at n) top (top + length (slots_of call.args)) (call ∷ calls) m.room m.writes)) s ∙ xs;
+          stacks = ap (λ s. s + stacks_there (state_at (val_at n) top (top + length (slots_of call.args)) (call ∷ calls) m.room m.results m.writes)) s ∙ xs;
           values = v ∙ xv;
         };
         above = above;

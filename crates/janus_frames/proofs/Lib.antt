@@ -19,5 +19,6 @@ pub mod Inwards
 pub mod Reserving
 pub mod Running
 pub mod Ran
+pub mod Unwritten
 pub mod OverRow
 pub mod Runnable

@@ -20,14 +20,16 @@ use Rattle.janus_frames.proofs.Calling.{as-many}
 use Rattle.janus_frames.proofs.Counted.{counted-more, counted-fewer}
 use Rattle.janus_frames.proofs.Holding.{opened as opened-frames, opened-callers, opened-slots, closed, closed-callers, closed-slots, IsEnough, callers-same}
 use Rattle.janus_frames.proofs.Holding.{nested-same, enough}
-use Rattle.janus_frames.proofs.Sight.{in-sight, num-content}
+use Rattle.janus_frames.proofs.Sight.{in-sight}
 use Rattle.janus_frames.proofs.Stored.{stored-same}
 use Rattle.janus_frames.proofs.Totals.{one_stack}
 
-pub same-frames : (s t : Store) (cs ds : List Caller) (n w : ℕ) → s ≡ t → cs ≡ ds
-    → ◌≡◌ {A = FramesState} (record { slots = s; callers = cs; room = n; writes = w }) (record { slots = t; callers = ds; room = n; writes = w })
-same-frames s t cs ds n w e f =
-    ap (λ s. record { slots = s; callers = cs; room = n; writes = w }) e ∙ ap (λ cs. record { slots = t; callers = cs; room = n; writes = w }) f
+pub same-frames : (s t : Store) (cs ds : List Caller) (n r w : ℕ) → s ≡ t → cs ≡ ds
+    → ◌≡◌ {A = FramesState} (record { slots = s; callers = cs; room = n; results = r; writes = w })
+    (record { slots = t; callers = ds; room = n; results = r; writes = w })
+same-frames s t cs ds n r w e f =
+    ap (λ s. record { slots = s; callers = cs; room = n; results = r; writes = w }) e
+    ∙ ap (λ cs. record { slots = t; callers = cs; room = n; results = r; writes = w }) f
 
 -- ---- a name more
 
@@ -62,7 +64,7 @@ module _ (m : MemoryState) (top : ℕ) (calls : List OpenCall) (i : AreIn m top 
       ≡ with_names (Slot (slot (size_of (frames_in m top calls).slots)) u (frames_in m top calls).slots) (frames_in m top calls)
   more-state = same-frames (stored (from (val_at new) m.base) (top + 1 - m.base))
       (Slot (slot (size_of (frames_in m top calls).slots)) u (frames_in m top calls).slots) (callers_of (val_at new) m.base calls)
-      (frames_in m top calls).callers m.room m.writes o_slots o_callers
+      (frames_in m top calls).callers m.room m.results m.writes o_slots o_callers
 
   pub more-in : AreIn (record m { numbers = ns; contents = xs; spare = s }) (top + 1) calls
   more-in = record {
@@ -158,7 +160,7 @@ module _ (m : MemoryState) (top : ℕ) (calls : List OpenCall) (i : AreIn m top 
 module _ (m : MemoryState) (top n : ℕ) (calls : List OpenCall) (i : AreIn m top calls) where
   pub reach-state : frames_in (reached m n) top calls ≡ frames_in m top calls
   reach-state = same-frames (stored (from (val_at (reached m n)) m.base) (top - m.base)) (stored (from (val_at m) m.base) (top - m.base))
-      (callers_of (val_at (reached m n)) m.base calls) (callers_of (val_at m) m.base calls) m.room m.writes
+      (callers_of (val_at (reached m n)) m.base calls) (callers_of (val_at m) m.base calls) m.room m.results m.writes
       (stored-same (from (val_at (reached m n)) m.base) (from (val_at m) m.base) (top - m.base) (λ k l. reach-value m n (m.base + k)))
       (sym (callers-same (val_at m) (val_at (reached m n)) m.base (top - m.base) calls i.frames.nested (λ q l. sym (reach-value m n q))))
 
@@ -225,7 +227,7 @@ module _ (m : MemoryState) (top : ℕ) (calls : List OpenCall) (i : AreIn m top 
     pub fewer-state : (t : Store) → (frames_in (record m { contents = xs; spare = s }) (top - 1) calls).slots ≡ t
         → frames_in (record m { contents = xs; spare = s }) (top - 1) calls ≡ with_names t (frames_in m top calls)
     fewer-state t e = same-frames (frames_in less (top - 1) calls).slots t (callers_of (val_at less) m.base calls) (frames_in m top calls).callers m.room
-        m.writes e c_callers
+        m.results m.writes e c_callers
 
     pub fewer-in : AreIn (record m { contents = xs; spare = s }) (top - 1) calls
     fewer-in = record {
@@ -311,17 +313,3 @@ release-closed m top calls i wide l p z =
     by : (q : ℕ) → Order q (top - 1) → top - 1 < length m.contents → get_or (set m.contents (top - 1) Plain) q Plain ≡ Plain
     by q (Same e) low = ap (λ q. get_or (set m.contents (top - 1) Plain) q Plain) e ∙ get_or-set_same m.contents (top - 1) Plain Plain low
     by q (More g) low = get_or-set_other m.contents (top - 1) q Plain Plain (λ e. omega (arith, e, g)) ∙ i.above q (omega (arith, g, l))
-
--- a cell that is plain already
-pub close-closed : (m : MemoryState) (top : ℕ) (calls : List OpenCall) → AreIn m top calls → 0 < top → (n : ℤ) → val_at m (top - 1) ≡ Num n → IsClosed m m top
-close-closed m top calls i l n e = record {
-  same = λ q h. refl;
-  above = λ q h. by q (order q (top - 1) h);
-  stacks = let s = ap one_stack e in omega (arith, s);
-  values = refl;
-  none = ap held_by e;
-}
-  where
-    by : (q : ℕ) → Order q (top - 1) → content_at m q ≡ Plain
-    by q (Same f) = ap (content_at m) f ∙ (num-content (number_at m (top - 1)) (content_at m (top - 1)) n e).0
-    by q (More g) = i.above q (omega (arith, g, l))

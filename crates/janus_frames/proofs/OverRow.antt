@@ -10,7 +10,7 @@ use Rattle.janus_meaning.specs.Stepping as meaning
 use Rattle.janus_meaning.specs.Stepping.{Place, To, Halt, live, kept, frames_of}
 use Rattle.janus_memory.specs.Memory.{MemoryState, val_at, reached, stacks_among}
 use Rattle.janus_row.specs.Frames.{IsSeen}
-use Rattle.janus_row.specs.Over.{cells_of, others_of, front_of}
+use Rattle.janus_row.specs.Over.{cells_of, others_of, front_of, names_of}
 use Rattle.janus_row.specs.Rows.{instruction_at, body_at, sight_of}
 use Rattle.janus_row.specs.Slices.{EndsBy, IsSliced, IsStepTo, IsOneStep}
 use Rattle.janus_row.specs.Sound.{World, Sees, TakesStep, IsSound, IsSafeAhead, IsRefused}
@@ -20,12 +20,13 @@ use Rattle.janus_row.specs.declared.code.Row.{Row}
 use Rattle.janus_row.specs.declared.code.Span.{Span}
 use Rattle.janus_row.specs.declared.fault.Stop.{Stop}
 use Rattle.janus_row.specs.declared.slice.Sliced.{Sliced}
-use Rattle.janus_frames.specs.Calls.{own_names, values_lent}
+use Rattle.janus_frames.specs.Calls.{own_names, names_lent, values_lent}
 use Rattle.janus_frames.specs.FramesState.{FramesState, stacks_there}
 use Rattle.janus_frames.specs.Inside.{AreIn, frames_in}
 use Rattle.janus_frames.specs.Run.{HasCellRoom, KeepsCalls, IsSafeRun, IsRunnable, IsRunnableOnce, Runs, RunsOnce, undeclared}
 use Rattle.janus_frames.specs.Cells.{from}
 use Rattle.janus_frames.specs.declared.frames.OpenCall.{OpenCall}
+use Rattle.janus_frames.proofs.Holding.{names-below}
 use Rattle.janus_frames.proofs.Opening.{reach-in, reach-state, reach-long}
 use Rattle.janus_frames.proofs.Reading.{size-stored}
 use Rattle.janus_frames.proofs.Ran.{seen, room-is, callers-are, slots-are, in-again, stacks-are, values-are}
@@ -38,10 +39,11 @@ seen-as n m v s o p q t a e f g h x =
     (subst (λ v. IsSeen n m v t (cells_of a) (others_of a)) g
     (subst (λ s. IsSeen n m v s (cells_of a) (others_of a)) h x)))
 
-pub same-state : (g h : FramesState) → g.slots ≡ h.slots → g.callers ≡ h.callers → g.room ≡ h.room → g.writes ≡ h.writes → g ≡ h
-same-state g h a b c d =
+pub same-state : (g h : FramesState) → g.slots ≡ h.slots → g.callers ≡ h.callers → g.room ≡ h.room → g.results ≡ h.results → g.writes ≡ h.writes → g ≡ h
+same-state g h a b c r d =
     ap (λ s. record g { slots = s }) a ∙ ap (λ cs. record g { slots = h.slots; callers = cs }) b
     ∙ ap (λ n. record g { slots = h.slots; callers = h.callers; room = n }) c
+    ∙ ap (λ n. record g { slots = h.slots; callers = h.callers; room = h.room; results = n }) r
     ∙ ap (λ n. record h { writes = n }) d
 
 -- r is the memory m once a row has its cells
@@ -68,6 +70,14 @@ module _ (m : MemoryState) (top : ℕ) (calls : List OpenCall) (i : AreIn m top 
   -- the row has its cells
   pub has-cells : row.width ≤ length (cells_of r)
   has-cells = let l = long in let d = length-drop r.base r.numbers in let b = base-is in omega (arith, l, d, b)
+
+  -- as many of them are for names as were told
+  pub names-are : m.results ≡ names_lent (frames_in m top calls).callers + row.names → names_of r ≡ row.names
+  names-are told =
+      let b = base-is in
+      let e : r.results ≡ m.results = ap (λ (r : MemoryState). r.results) reach in
+      let n = names-below (val_at m) m.base (top - m.base) calls i.frames.nested in
+      omega (arith, told, b, e, n)
 
   -- the row sees the names there
   pub start : (w : World) (k : ℕ) → w.sight k ≡ sight_of row k → size_of f.slots ≡ sight_of row k
@@ -215,8 +225,9 @@ module _ (m : MemoryState) (top : ℕ) (calls : List OpenCall) (i : AreIn m top 
         let still : To (w.places at) (frames_in m top calls).slots ≡ To (w.places out.at) x.store =
         subst (λ j. meaning.steps w.outside j (w.places at) (frames_in m top calls).slots ≡ To (w.places out.at) x.store) none x.steps in
         let written_is : r.writes ≡ m.writes = ap (λ (r : MemoryState). r.writes) reach in
+        let results_is : n.results ≡ m.results = ap (λ b. b.results) before ∙ ap (λ (r : MemoryState). r.results) reach in
         same-state after (frames_in m top calls)
-        (e ∙ sym (to-place (w.places at) (w.places out.at) (frames_in m top calls).slots x.store still)) l.callers l.room
+        (e ∙ sym (to-place (w.places at) (w.places out.at) (frames_in m top calls).slots x.store still)) l.callers l.room results_is
         (omega (arith, written, none, written_is))
 
   -- ---- one instruction
@@ -291,7 +302,7 @@ module _ (m : MemoryState) (top : ℕ) (calls : List OpenCall) (i : AreIn m top 
           ap (λ t. frames_in n t calls) (sym (top-is w a))
           ∙ same-state (frames_in n (n.base + sight_of row at) calls) (frames_in m top calls)
           (left-slots m top calls i row cells r reach wide free n before size spare w at (a.sight at) there (frames_in m top calls).slots x)
-          l.callers l.room (e ∙ ap (λ (r : MemoryState). r.writes) reach)
+          l.callers l.room (ap (λ b. b.results) before ∙ ap (λ (r : MemoryState). r.results) reach) (e ∙ ap (λ (r : MemoryState). r.writes) reach)
 
       pub refused-runs : (new : FramesState) → new ≡ frames_in m top calls
           → RunsOnce row at (Err stop) (undeclared (frames_in m top calls)) (undeclared new)

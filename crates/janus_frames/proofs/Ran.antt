@@ -119,7 +119,7 @@ module _ (m : MemoryState) where
       let s = size-stored (from (val_at m) m.base) u in (
         ap slot (sym s),
         subst (IsVal (val_at m (m.base + u)) cs os) (sym s)
-            (val-there u (number_at m (m.base + u)) (content_at m (m.base + u)) (content_is 0 0 m u) (number_is 0 0 m u) (h u (omega arith))),
+            (val-there u (number_at m (m.base + u)) (content_at m (m.base + u)) (content_is 0 m u) (number_is 0 m u) (h u (omega arith))),
         holds-stored u (λ k lt. h k (omega (arith, lt))),
       )
 
@@ -131,7 +131,7 @@ module _ (m : MemoryState) where
 
   val-here : (v : Val) (k : ℕ) → IsVal v cs os k → v ≡ val_at m (m.base + k)
   val-here v k h =
-      val-is v k h ∙ ap (λ n. val_of n (content os k)) (number_is 0 0 m k) ∙ ap (val_of (number_at m (m.base + k))) (content_is 0 0 m k)
+      val-is v k h ∙ ap (λ n. val_of n (content os k)) (number_is 0 m k) ∙ ap (val_of (number_at m (m.base + k))) (content_is 0 m k)
 
   pub stored-held : (s : Store) → Holds cs os s → s ≡ stored (from (val_at m) m.base) (size_of s)
   stored-held Bare h = refl
@@ -169,7 +169,7 @@ module _ (m : MemoryState) (top : ℕ) (calls : List OpenCall) (i : AreIn m top 
   seen = record {
     size = size-stored (from (val_at m) m.base) (top - m.base);
     slots = holds-stored m (top - m.base) i.frames.present;
-    above = λ k le. content_is 0 0 m k ∙ i.above (m.base + k) (let o = i.frames.order in omega (arith, le, o));
+    above = λ k le. content_is 0 m k ∙ i.above (m.base + k) (let o = i.frames.order in omega (arith, le, o));
     wide = let a = length-drop m.base m.contents in let b = length-drop m.base m.numbers in omega (arith, a, b, wide);
     spare = i.counted.stacks;
     held = let c = i.counted.values in omega (arith, c);
@@ -228,7 +228,7 @@ module _ (m : MemoryState) (top : ℕ) (calls : List OpenCall) (i : AreIn m top 
       behind : (p : ℕ) → n.base + u ≤ p → content_at n p ≡ Plain
       behind p le =
           let z : n.base + (p - n.base) ≡ p = omega (arith, le) in
-          sym (ap (content_at n) z) ∙ sym (content_is 0 0 n (p - n.base)) ∙ sees.above (p - n.base) (omega (arith, le))
+          sym (ap (content_at n) z) ∙ sym (content_is 0 n (p - n.base)) ∙ sees.above (p - n.base) (omega (arith, le))
 
       pub callers-are : (frames_in n (n.base + u) calls).callers ≡ (frames_in m top calls).callers
       callers-are = ran-callers m n top u calls i base-is front enough

@@ -11,3 +11,12 @@ room-in m top calls room i = record {
   above = i.above;
   long = i.long;
 }
+
+-- or in which other cells are for results
+pub told-in : (m : MemoryState) (top : ℕ) (calls : List OpenCall) (results : ℕ) → AreIn m top calls → AreIn (record m { results = results }) top calls
+told-in m top calls results i = record {
+  frames = i.frames;
+  counted = record { stacks = i.counted.stacks; values = i.counted.values };
+  above = i.above;
+  long = i.long;
+}

@@ -117,3 +117,11 @@ module _ (f : FramesState) (d : ℕ) (ts : List Name) (h : AreHeld f d ts) (row 
         calls = let e = h.calls in omega (arith, e, l);
         room = let e = h.room in let r = kept.room in omega (arith, e, r);
       }
+
+-- ---- the same frames, where other cells are for results
+
+pub told-room : (f : FramesState) (row : Row) (r : ℕ) → HasCellRoom row f → HasCellRoom row (record f { results = r })
+told-room f row r c = record { sights = c.sights; wide = c.wide; own = c.own; cells = c.cells }
+
+pub told-kept : (f h g : FramesState) (r : ℕ) → h ≡ record f { results = r } → KeepsCalls h g → KeepsCalls f g
+told-kept f h g r e k = record { callers = k.callers ∙ ap (λ (h : FramesState). h.callers) e; room = k.room ∙ ap (λ (h : FramesState). h.room) e }

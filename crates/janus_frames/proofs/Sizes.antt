@@ -94,11 +94,7 @@ params-few (c ∷ cs) h = let r = params-few cs h.1 in let l = h.0 in omega (ari
 -- ---- the invariant
 
 module _ (f : FramesState) (d : ℕ) (ts : List Name) (h : AreHeld f d ts) where
-  -- there is room for a local
-  pub local-room : names_there f < d + params_bound f.callers + local_limit → names_there f < f.room
-  local-room l = let p = params-few f.callers h.short in let n = h.calls in let r = h.room in omega (arith, l, p, n, r)
-
-  -- and for a call
+  -- there is room for a call
   pub call-room : (count : ℕ) → length f.callers < call_limit → count ≤ 16 → names_there f + count ≤ f.room
   call-room count l m = let p = params-few f.callers h.short in let n = h.few in let r = h.room in omega (arith, l, m, p, n, r)
 
@@ -122,35 +118,8 @@ module _ (f : FramesState) (d : ℕ) (ts : List Name) (h : AreHeld f d ts) where
         room = let e = h.room in let r = s.room in omega (arith, e, r);
       }
 
-  -- a local is opened
-  pub held-opened : (x : Name) (v : Val) → names_there f < d + params_bound f.callers + local_limit → AreHeld (with_names (Slot x v f.slots) f) d ts
-  held-opened x v l = record {
-    one_text = h.one_text;
-    many = h.many;
-    declared = let e = h.declared in let o = outer_more (size_of f.slots) (suc (size_of f.slots)) f.callers (omega arith) in omega (arith, e, o);
-    few = omega (arith, l);
-    short = h.short;
-    calls = h.calls;
-    room = h.room;
-  }
-
-  -- and closed
-  pub held-closed : (x : Name) (v : Val) (s : Store) → own_names d f.callers < size_of f.slots → f.slots ≡ Slot x v s → AreHeld (with_names s f) d ts
-  held-closed x v s l e =
-      let z : size_of f.slots ≡ suc (size_of s) = ap size_of e in
-      let y : size_of f.slots - 1 ≡ size_of s = omega arith in
-      record {
-        one_text = h.one_text;
-        many = h.many;
-        declared = subst (λ n. d ≤ outer_size n f.callers) y (outer_fewer d (size_of f.slots) f.callers l h.declared);
-        few = let e = h.few in omega (arith, e, z);
-        short = h.short;
-        calls = h.calls;
-        room = h.room;
-      }
-
   -- there is memory for more
-  pub held-roomy : (r : ℕ) → f.room ≤ r → AreHeld (record { slots = f.slots; callers = f.callers; room = r; writes = f.writes }) d ts
+  pub held-roomy : (r : ℕ) → f.room ≤ r → AreHeld (record f { room = r }) d ts
   held-roomy r l = record {
     one_text = h.one_text;
     many = h.many;

@@ -13,12 +13,14 @@ pub record FramesState : Type 0 where
   pub callers : List Caller
   -- for how many names the memory was taken
   pub room : ℕ
+  -- from which cell on all are for results: those before it, of callers and in sight, are for names
+  pub results : ℕ
   -- how often values were written
   pub writes : ℕ
 
 -- no names, with room for so many
 abbrev pub no_frames : ℕ → FramesState
-no_frames n = record { slots = Bare; callers = []; room = n; writes = 0 }
+no_frames n = record { slots = Bare; callers = []; room = n; results = 0; writes = 0 }
 
 -- how many names there are
 abbrev pub names_there : FramesState → ℕ
@@ -34,7 +36,7 @@ values_there h = held_in h.slots + values_lent h.callers
 
 -- other names are in sight, in the same calls
 abbrev pub with_names : Store → FramesState → FramesState
-with_names s h = record { slots = s; callers = h.callers; room = h.room; writes = h.writes }
+with_names s h = record h { slots = s }
 
 -- all but the values and the count of writes stays
 pub record HasShape (old new : FramesState) : Type 0 where
@@ -44,5 +46,6 @@ pub record HasShape (old new : FramesState) : Type 0 where
 
 abbrev pub frames_code : Coded FramesState
 frames_code =
-    code_by (Store × (List Caller × (ℕ × ℕ))) (coded× store_code (coded× (coded_list caller_code) (coded× coded_ℕ coded_ℕ)))
-    (λ h. (h.slots, (h.callers, (h.room, h.writes)))) (λ p. record { slots = p.0; callers = p.1.0; room = p.1.1.0; writes = p.1.1.1 }) (λ _. refl)
+    code_by (Store × (List Caller × (ℕ × (ℕ × ℕ)))) (coded× store_code (coded× (coded_list caller_code) (coded× coded_ℕ (coded× coded_ℕ coded_ℕ))))
+    (λ h. (h.slots, (h.callers, (h.room, (h.results, h.writes)))))
+    (λ p. record { slots = p.0; callers = p.1.0; room = p.1.1.0; results = p.1.1.1.0; writes = p.1.1.1.1 }) (λ _. refl)

@@ -16,13 +16,18 @@ callers_of v b [] = []
 callers_of v b (c ∷ cs) = record { args = names_of c.args; store = stored (from v c.base) (b - c.base) } ∷ callers_of v c.base cs
 
 -- frames of cells with these values
-abbrev pub state_at : (ℕ → Val) → ℕ → ℕ → List OpenCall → ℕ → ℕ → FramesState
-state_at v base top calls room writes =
-    record { slots = stored (from v base) (top - base); callers = callers_of v base calls; room = room; writes = writes }
+abbrev pub state_at : (ℕ → Val) → ℕ → ℕ → List OpenCall → (room results writes : ℕ) → FramesState
+state_at v base top calls room results writes = record {
+  slots = stored (from v base) (top - base);
+  callers = callers_of v base calls;
+  room = room;
+  results = results;
+  writes = writes;
+}
 
 -- the frames that stand in a memory up to a place
 abbrev pub frames_in : MemoryState → ℕ → List OpenCall → FramesState
-frames_in m top calls = state_at (val_at m) m.base top calls m.room m.writes
+frames_in m top calls = state_at (val_at m) m.base top calls m.room m.results m.writes
 
 -- what the fields hold
 abbrev pub frames_of : {L : Type 0} → Inside L → FramesState

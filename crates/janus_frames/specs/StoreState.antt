@@ -7,8 +7,8 @@ use Rattle.janus_meaning.specs.Store.{Store, Bare, Slot, Val, cleared, held_in}
 use Rattle.janus_meaning.specs.World.{size_of, oldest, stacks_in}
 use Rattle.janus_meaning.specs.Codes.{store_code}
 use Rattle.janus_slots.specs.Slots.{slot, in_slots, under_names}
-use Rattle.janus_frames.specs.Calls.{Caller, caller_code, Enters, Returns, AreAlone, given_back, names_lent, stacks_lent, values_lent, params_bound, own_names}
-use Rattle.janus_frames.specs.Limits.{local_limit, call_limit}
+use Rattle.janus_frames.specs.Calls.{Caller, caller_code, Enters, Returns, AreAlone, given_back, stacks_lent, values_lent}
+use Rattle.janus_frames.specs.Limits.{call_limit}
 
 -- the declared names under their texts with their values, without locals and parameters
 abbrev pub shown_of : Store → ℕ → List Name → List Caller → Store
@@ -46,10 +46,6 @@ shown_store h = under_names (reverse h.texts) (declared_store h)
 
 -- ---- how much is held
 
--- how many names there are: declared ones, locals and parameters
-abbrev pub names_held : StoreState → ℕ
-names_held h = size_of h.slots + names_lent h.callers
-
 -- how many stacks live, declared and local: one that is lent counts once, where it is in no lent slot
 abbrev pub live_stacks : StoreState → ℕ
 live_stacks h = stacks_in h.slots + stacks_lent h.callers
@@ -65,14 +61,6 @@ pub record IsWhole (h : StoreState) : Type 0 where
   pub declared : h.declared ≡ size_of h.slots
   pub callers : h.callers ≡ []
   pub slots : in_slots h.slots ≡ h.slots
-
--- a local of the innermost call is open, or outside of calls one at all
-abbrev pub HasLocal : StoreState → Type 0
-HasLocal h = own_names h.declared h.callers < size_of h.slots
-
--- one local more may be open
-abbrev pub HasLocalRoom : StoreState → Type 0
-HasLocalRoom h = names_held h < h.declared + params_bound h.callers + local_limit
 
 -- one call more, with `count` parameters, may be open
 pub record HasCallRoom (h : StoreState) (count : ℕ) : Type 0 where
@@ -99,14 +87,6 @@ pub record IsLike (old new : StoreState) : Type 0 where
   pub declared : new.declared ≡ old.declared
   pub texts : new.texts ≡ old.texts
   pub callers : new.callers ≡ old.callers
-
--- one local more is open, in the next slot
-abbrev pub opened : Val → StoreState → StoreState
-opened v h = state_of (Slot (slot (size_of h.slots)) v h.slots) h.declared h.texts h.callers h.writes
-
--- other values of the same names
-abbrev pub with_slots : Store → StoreState → StoreState
-with_slots s h = state_of s h.declared h.texts h.callers h.writes
 
 -- a call is entered: its arguments are moved to its parameters, and nothing is written
 pub record IsEntered (args : List Name) (old new : StoreState) : Type 0 where

@@ -2,33 +2,32 @@
 
 ghost use Rattle.std.specs.Prelude.{◌≡◌, ◌<◌, ◌≤◌, ◌+◌, ℕ, ℤ, List, [], ◌∷◌, length, reverse, IfOk, OnOk, OnErr, IsTrue, ◌↔◌};
 ghost use Rattle.std.specs.Prelude.{IfSome, None, true, false, ◌^◌};
-ghost use Rattle.janus_meaning.specs.Fault.{Fine, IndexRange, TopEmpty};
-ghost use Rattle.janus_meaning.specs.Syntax.{Name};
+ghost use Rattle.janus_meaning.specs.Fault.{Fine};
 ghost use Rattle.janus_meaning.specs.Limit.{live_stack_limit, value_limit};
-ghost use Rattle.janus_meaning.specs.Store.{Store as Values, Val, Slot, Num, Arr, Stk, look, element, set_element};
+ghost use Rattle.janus_meaning.specs.Store.{Val, Slot, Num, Arr, Stk, look, element, set_element};
 ghost use Rattle.janus_meaning.specs.Value.{first};
 ghost use Rattle.janus_meaning.specs.World.{size_of};
 ghost use Rattle.janus_meaning.specs.Writes.{IsWritten};
-ghost use Rattle.janus_evaluation.specs.Results.{IsCounted};
 ghost use Rattle.janus_row.specs.Acts.{Fits};
-ghost use Rattle.janus_row.specs.Rows.{IsRow, IsBody, body_at, sight_of};
+ghost use Rattle.janus_row.specs.Rows.{IsRow, IsBody, instruction_at, body_at, sight_of};
+ghost use Rattle.janus_row.specs.Slices.{IsWrittenOnce};
 ghost use Rattle.janus_row.specs.Sound.{World};
 ghost use Rattle.janus_slots.specs.Slots.{slot};
-ghost use Rattle.janus_memory.specs.Values.{kind_of, shown, read_or};
+ghost use Rattle.janus_memory.specs.Values.{shown};
 ghost use Rattle.janus_frames.specs.Cells.{has, from};
-ghost use Rattle.janus_frames.specs.Calls.{CanLend, Enters, AreAlone, Returns, given_back, own_names, slots_of, names_of};
+ghost use Rattle.janus_frames.specs.Calls.{CanLend, Enters, AreAlone, Returns, given_back, own_names, names_lent, slots_of, names_of};
 ghost use Rattle.janus_frames.specs.FramesState.{no_frames, names_there, stacks_there, values_there, with_names, HasShape};
 ghost use Rattle.janus_frames.specs.Limits.{call_limit};
-ghost use Rattle.janus_frames.specs.Run.{HasCellRoom, KeepsCalls, IsSafeRun, IsRunnableOnce, Runs, RunsOnce, undeclared};
+ghost use Rattle.janus_frames.specs.Run.{HasCellRoom, KeepsCalls, IsSafeRun, IsRunnableOnce, Runs, RunsOnce, KeepsValues, undeclared};
 ghost use Rattle.janus_frames.specs.Shown.{place_in, through, AreLow, IsStored};
-ghost use Rattle.janus_frames.specs.Stores.{IsNumber, IsArray, IsStack, IsHeldStack, HasElementAt, IsFirstOnTop, rest_of, write};
+ghost use Rattle.janus_frames.specs.Stores.{IsNumber, IsStack, IsHeldStack, HasElementAt, IsFirstOnTop, rest_of, write};
 ghost use Rattle.janus_frames.specs.Values.{first_of};
 
 use crate::args::Args;
 use crate::limit::CALL_LIMIT;
 use crate::moves::{give_back, lend};
 use crate::value::Declared;
-use janus_memory::{Kind, Memory, Tally, ValueView};
+use janus_memory::{Memory, Moves, Tally, ValueView};
 use janus_row::code::Row;
 use janus_row::over::{slice_over, take_one_over};
 use janus_row::slice::{Sliced, body_of};
@@ -73,7 +72,7 @@ impl<L: Ledger> Model for Frames<L> {
 
 impl<L: Ledger> Frames<L> {
     /// No names, with the memory of this many cells and of all stacks and calls that may be, and no writes so far, which are counted in the ledger that
-    /// is opened by this blank; and a tally of that ledger, at 0.
+    /// is opened by this blank; with the permit to move its values, and a tally of that ledger, at 0.
     ///
     /// # Errors
     ///
@@ -82,22 +81,22 @@ impl<L: Ledger> Frames<L> {
         alloc: Global,
         room: usize,
         blank: Blank,
-    ) -> Result<(Frames<L>, Tally<L>), AllocError>
+    ) -> Result<(Frames<L>, Moves<L>, Tally<L>), AllocError>
         requires name { blank.name ≡ L.name }
         requires parts { blank.parts ≡ L.parts }
         requires two { 1 < L.parts }
         ensures empty { IfOk result (λ r. r.0 ≡ no_frames r.0.room) }
         ensures room { IfOk result (λ r. room ≤ r.0.room) }
-        ensures tally { IfOk result (λ r. r.1 ≡ 0) }
+        ensures tally { IfOk result (λ r. r.2 ≡ 0) }
     {
         let calls = Vec::with_capacity(alloc, CALL_LIMIT)?;
-        let (memory, tally) = Memory::new(alloc, room, blank)?;
+        let (memory, moves, tally) = Memory::new(alloc, room, blank)?;
         let frames = Frames {
             memory,
             top: 0,
             calls,
         };
-        Ok((frames, tally))
+        Ok((frames, moves, tally))
     }
 
     /// Raises a tally of the ledger, and changes nothing of the frames.
@@ -129,43 +128,6 @@ impl<L: Ledger> Frames<L> {
     {
         self.memory.law();
         self.top - self.memory.base()
-    }
-
-    /// The kind of the k-th name in sight.
-    #[inline(always)]
-    pub(crate) fn kind(&self, k: usize) -> Kind
-        requires { k < size_of self.now.slots }
-        ensures { (v : Val) → look (slot k) self.now.slots ≡ Fine v → result ≡ kind_of v }
-    {
-        self.memory.law();
-        self.memory.kind(self.memory.base() + k)
-    }
-
-    /// The number of the k-th name in sight.
-    #[inline(always)]
-    pub(crate) fn number(&self, k: usize) -> i32
-        requires { IsNumber (look (slot k) self.now.slots) }
-        ensures { look (slot k) self.now.slots ≡ Fine (Num result) }
-    {
-        self.memory.number(k)
-    }
-
-    /// The element at an index of the k-th name's array; none where the index is out of its range.
-    #[inline(always)]
-    pub(crate) fn element(&self, k: usize, at: i32) -> Option<i32>
-        requires { IsArray (look (slot k) self.now.slots) }
-        ensures { (l : List ℤ) → look (slot k) self.now.slots ≡ Fine (Arr l) → read_or IndexRange result ≡ element l at }
-    {
-        self.memory.element(k, at)
-    }
-
-    /// The value on top of the k-th name's stack; none where it is empty.
-    #[inline(always)]
-    pub(crate) fn top(&self, k: usize) -> Option<i32>
-        requires { IsStack (look (slot k) self.now.slots) }
-        ensures { (l : List ℤ) → look (slot k) self.now.slots ≡ Fine (Stk l) → read_or TopEmpty result ≡ first l }
-    {
-        self.memory.top(k)
     }
 
     /// How many values the k-th name's stack has.
@@ -220,19 +182,16 @@ impl<L: Ledger> Frames<L> {
         let _top = self.top;
     }
 
-    /// Another number for the k-th name in sight; the answer is the one that it had.
+    /// Another number for the k-th name in sight.
     #[inline(always)]
-    pub(crate) fn replace(&mut self, k: usize, number: i32) -> i32
+    pub(crate) fn set(&mut self, k: usize, number: i32)
         requires { IsNumber (look (slot k) self.old.slots) }
-        ensures former { look (slot k) self.old.slots ≡ Fine (Num result) }
         ensures written { write (slot k) (Num number) self.old.slots ≡ Fine self.new.slots }
         ensures shape { HasShape self.old self.new }
         ensures counted { self.new.writes ≡ self.old.writes + 1 }
     {
         self.memory.law();
-        let former = self.memory.number(k);
         self.memory.set(k, number);
-        former
     }
 
     /// Another number for an element of the k-th name's array, at an index within its range.
@@ -280,14 +239,15 @@ impl<L: Ledger> Frames<L> {
 
     /// Opens a name with a number.
     #[inline(always)]
-    pub(crate) fn open(&mut self, number: i32)
+    pub(crate) fn open(&mut self, number: i32, moves: &Moves<L>)
         requires { names_there self.old < self.old.room }
         ensures { self.new ≡ with_names (Slot (slot (size_of self.old.slots)) (Num number) self.old.slots) self.old }
     {
         self.memory.law();
         self.memory.reach(self.top + 1);
         self.memory.law();
-        self.memory.keep(self.top - self.memory.base(), number);
+        self.memory
+            .put_number(self.top - self.memory.base(), number, moves);
         self.top += 1;
     }
 
@@ -305,7 +265,7 @@ impl<L: Ledger> Frames<L> {
     }
 
     /// Opens a name with an array. An error for want of memory leaves the names.
-    pub(crate) fn open_array(&mut self, items: Vec<i32>) -> Result<(), AllocError>
+    pub(crate) fn open_array(&mut self, items: Vec<i32>, moves: &Moves<L>) -> Result<(), AllocError>
         requires room { names_there self.old < self.old.room }
         ensures ok { OnOk result (self.new ≡ with_names (Slot (slot (size_of self.old.slots)) (Arr items.items) self.old.slots) self.old) }
         ensures err { OnErr result (self.new ≡ self.old) }
@@ -313,55 +273,55 @@ impl<L: Ledger> Frames<L> {
         self.memory.law();
         self.memory.reach(self.top + 1);
         self.memory.law();
-        self.memory.put_array(self.top, items)?;
+        self.memory.put_array(self.top, items, moves)?;
         self.top += 1;
         Ok(())
     }
 
     /// Opens a name with what it is declared as. An error for want of memory leaves the names.
-    pub(crate) fn declare(&mut self, declared: Declared) -> Result<(), AllocError>
+    pub(crate) fn declare(&mut self, declared: Declared, moves: &Moves<L>) -> Result<(), AllocError>
         requires room { names_there self.old < self.old.room }
         requires few { first_of declared ≡ Stk [] → stacks_there self.old < live_stack_limit }
         ensures ok { OnOk result (self.new ≡ with_names (Slot (slot (size_of self.old.slots)) (first_of declared) self.old.slots) self.old) }
         ensures err { OnErr result (self.new ≡ self.old) }
     {
         match declared {
-            Declared::Number => self.open(0),
-            Declared::Array(items) => return self.open_array(items),
+            Declared::Number => self.open(0, moves),
+            Declared::Array(items) => return self.open_array(items, moves),
             Declared::Stack => self.open_stack(),
         }
         Ok(())
     }
 
-    /// Closes the newest name, which has a number, and gives it.
-    #[inline(always)]
-    pub(crate) fn close(&mut self) -> i32
-        requires number { (x : Name) × (n : ℤ) × (r : Values) × (self.old.slots ≡ Slot x (Num n) r) }
-        requires own { own_names 0 self.old.callers < size_of self.old.slots }
-        ensures { (x : Name) (n : ℤ) (r : Values) → self.old.slots ≡ Slot x (Num n) r → (result ≡ n) × (self.new ≡ with_names r self.old) }
-    {
-        self.top -= 1;
-        self.memory.number(self.top - self.memory.base())
-    }
-
     /// Takes the newest name away, which has the value that it was opened with: 0, zeros, or an empty stack.
-    pub(crate) fn retire(&mut self)
+    pub(crate) fn retire(&mut self, moves: &Moves<L>)
         requires first { IsFirstOnTop self.old.slots }
         requires own { own_names 0 self.old.callers < size_of self.old.slots }
         ensures { self.new ≡ with_names (rest_of self.old.slots) self.old }
     {
         self.memory.law();
         self.top -= 1;
-        self.memory.release(self.top);
+        self.memory.release(self.top, moves);
     }
 
-    /// Up to m steps of a row from a place, over the names in sight. Its results take the cells behind them.
+    /// So many cells of the frame in sight are for names, and those behind them are for results.
+    #[inline(always)]
+    pub(crate) fn tell_names(&mut self, names: u32, moves: &Moves<L>)
+        ensures { self.new ≡ record self.old { results = names_lent self.old.callers + names } }
+    {
+        let base = self.memory.base();
+        self.memory.law();
+        self.memory.tell_results(base + names as usize, moves);
+    }
+
+    /// Up to m steps of a row from a place, over the names in sight. Its results take the cells behind those for names.
     pub(crate) fn run(&mut self, row: &Row, at: usize, m: u64) -> Sliced
         requires row { IsRow row.now.instructions.items }
         requires fits { Fits row.now.names row.now.width row.now.instructions.items row.now.spans.items row.now.primitives.items }
         requires stands { at < length row.now.instructions.items }
         requires few { m + 4294967296 < 2 ^ 64 }
         requires room { HasCellRoom row.now self.old }
+        requires told { self.old.results ≡ names_lent self.old.callers + row.now.names }
         requires sound { IsSafeRun row.now at m (undeclared self.old) }
         ensures stands { result.at < length row.now.instructions.items }
         ensures taken { result.taken ≤ m }
@@ -369,6 +329,8 @@ impl<L: Ledger> Frames<L> {
         ensures size { size_of self.new.slots ≡ sight_of row.now (body_at row.now.instructions.items result.at) }
         ensures kept { KeepsCalls self.old self.new }
         ensures written { IsWritten result.taken self.old.writes self.new.writes }
+        // Only a counted write gives a name another value.
+        ensures unwritten { self.new.writes ≡ self.old.writes → KeepsValues self.old.slots self.new.slots }
         ensures stays { result.taken ≡ 0 → (self.new ≡ self.old) × (result.at ≡ at) }
     {
         fits_wider_law();
@@ -380,7 +342,6 @@ impl<L: Ledger> Frames<L> {
             &row.instructions,
             &row.spans,
             &row.primitives,
-            row.names,
             at,
             &mut self.memory,
             m,
@@ -396,12 +357,13 @@ impl<L: Ledger> Frames<L> {
         requires fits { Fits row.now.names row.now.width row.now.instructions.items row.now.spans.items row.now.primitives.items }
         requires body { IsBody row.now.instructions.items at }
         requires room { HasCellRoom row.now self.old }
+        requires told { self.old.results ≡ names_lent self.old.callers + row.now.names }
         requires sound { (w : World) × IsRunnableOnce w row.now at (undeclared self.old) }
         ensures stands { IfOk result (λ next. next < length row.now.instructions.items) }
         ensures run { RunsOnce row.now at result (undeclared self.old) (undeclared self.new) }
         ensures size { IfOk result (λ next. size_of self.new.slots ≡ sight_of row.now (body_at row.now.instructions.items next)) }
         ensures kept { KeepsCalls self.old self.new }
-        ensures counted { IsCounted result self.old.writes self.new.writes }
+        ensures counted { IsWrittenOnce (instruction_at row.now.instructions.items at).op result self.old.writes self.new.writes }
         ensures stays { OnErr result (self.new ≡ self.old) }
     {
         fits_wider_law();
@@ -413,7 +375,6 @@ impl<L: Ledger> Frames<L> {
             &row.instructions,
             &row.spans,
             &row.primitives,
-            row.names,
             at,
             &mut self.memory,
         );
@@ -429,7 +390,7 @@ impl<L: Ledger> Frames<L> {
 
     /// Enters a call of these arguments.
     #[inline(always)]
-    pub(crate) fn enter(&mut self, args: &Args)
+    pub(crate) fn enter(&mut self, args: &Args, moves: &Moves<L>)
         requires found { CanLend (names_of args.now) self.old.slots }
         requires calls { length self.old.callers < call_limit }
         requires room { names_there self.old + length (slots_of args.now) ≤ self.old.room }
@@ -441,7 +402,7 @@ impl<L: Ledger> Frames<L> {
         let base = self.memory.base();
         self.memory.law();
         self.memory.reach(self.top + slots.len());
-        lend(&mut self.memory, base, self.top, slots);
+        lend(&mut self.memory, moves, base, self.top, slots);
         self.calls.push_reserved(OpenCall { args: *args, base });
         self.memory.set_base(self.top);
         self.top += slots.len();
@@ -449,7 +410,7 @@ impl<L: Ledger> Frames<L> {
 
     /// Leaves the innermost call, of which no local is open.
     #[inline(always)]
-    pub(crate) fn leave(&mut self)
+    pub(crate) fn leave(&mut self, moves: &Moves<L>)
         requires { AreAlone self.old.callers self.old.slots }
         ensures left { Returns self.old.callers self.old.slots self.new.slots self.new.callers }
         ensures room { self.new.room ≡ self.old.room }
@@ -458,7 +419,7 @@ impl<L: Ledger> Frames<L> {
         match self.calls.pop() {
             Some(call) => {
                 let base = self.memory.base();
-                give_back(&mut self.memory, call.base, base, call.args.slots());
+                give_back(&mut self.memory, moves, call.base, base, call.args.slots());
                 self.top = base;
                 self.memory.set_base(call.base);
             }

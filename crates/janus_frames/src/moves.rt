@@ -6,13 +6,19 @@ ghost use Rattle.janus_memory.specs.Memory.{Plain, content_at, val_at};
 ghost use Rattle.janus_frames.specs.Cells.{has, AreApart, AreBelow};
 ghost use Rattle.janus_frames.specs.Inside.{HoldsAlike};
 
-use janus_memory::Memory;
+use janus_memory::{Memory, Moves};
 use std::sync::ledger::Ledger;
 
 /// Moves the values of the arguments out of the frame that stands from `base` up to `top`, into a new one behind it: the first argument stands on
 /// top.
 #[inline(always)]
-pub(crate) fn lend<L: Ledger>(memory: &mut Memory<L>, base: usize, top: usize, args: &[u16])
+pub(crate) fn lend<L: Ledger>(
+    memory: &mut Memory<L>,
+    moves: &Moves<L>,
+    base: usize,
+    top: usize,
+    args: &[u16],
+)
     requires order { base ≤ top }
     requires room { top + length args.now ≤ length memory.old.numbers }
     requires low { AreBelow (top - base) args.now }
@@ -28,13 +34,19 @@ pub(crate) fn lend<L: Ledger>(memory: &mut Memory<L>, base: usize, top: usize, a
     let count = args.len();
     for i in 0..count {
         memory.law();
-        memory.lend(base + args[i] as usize, top + (count - (i + 1)));
+        memory.lend(base + args[i] as usize, top + (count - (i + 1)), moves);
     }
 }
 
 /// Moves the values of the parameters, which stand behind the frame from `base` up to `top`, back to the arguments, which lent them.
 #[inline(always)]
-pub(crate) fn give_back<L: Ledger>(memory: &mut Memory<L>, base: usize, top: usize, args: &[u16])
+pub(crate) fn give_back<L: Ledger>(
+    memory: &mut Memory<L>,
+    moves: &Moves<L>,
+    base: usize,
+    top: usize,
+    args: &[u16],
+)
     requires order { base ≤ top }
     requires room { top + length args.now ≤ length memory.old.numbers }
     requires low { AreBelow (top - base) args.now }
@@ -51,6 +63,6 @@ pub(crate) fn give_back<L: Ledger>(memory: &mut Memory<L>, base: usize, top: usi
     let count = args.len();
     for i in 0..count {
         memory.law();
-        memory.give_back(top + (count - (i + 1)), base + args[i] as usize);
+        memory.give_back(top + (count - (i + 1)), base + args[i] as usize, moves);
     }
 }

@@ -24,7 +24,6 @@ pub mod Pulls
 pub mod RowLaid
 pub mod RowsCross
 pub mod Seen
-pub mod Single
 pub mod Slotted
 pub mod Ticks
 pub mod Turned

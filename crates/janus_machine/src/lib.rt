@@ -15,7 +15,7 @@
 //! - `cursor`, `running`: a place in code with the open calls and the count of steps, and the book in whose row it stands.
 //! - `in_row`: steps in the row in which a cursor stands.
 //! - `call`: the first and the last step of a call.
-//! - `machine`: `step` and `slice`, which take the steps: a row is run until it comes to a call or its end, which is entered or left.
+//! - `machine`: `slice`, which takes the steps: a row is run until it comes to a call or its end, which is entered or left.
 //! - `laws`: what the definitions of `specs/` say together.
 //!
 //! The definitions, in specs/, in reading order. Names are slots: code names a variable by its slot, and a procedure by its number.
@@ -55,7 +55,7 @@ pub use crate::counted_store::CountedStore;
 pub use crate::cursor::Cursor;
 pub use crate::linked_code::LinkedCode;
 pub use crate::linked_procedure::LinkedProcedure;
-pub use crate::machine::{End, Sliced, Stepped, slice, step};
+pub use crate::machine::{End, Sliced, slice};
 pub use crate::procedures::Procedures;
 pub use janus_frames::Store;
 pub use janus_meaning::Fault;

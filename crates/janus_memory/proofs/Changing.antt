@@ -64,7 +64,7 @@ module _ {L : Type 0} (a : Inside L) (i : IsKept a) (p j : ℕ) (l : p < length 
         (beside a.stacks.lists t.lists j (list_of t.lists j) (ap (λ (t : Pooled). t.lists) f))
 
     pub stack-kept : (w : ℕ) → total t.lists + length (list_of a.stacks.lists j) ≡ total a.stacks.lists + length (list_of t.lists j)
-        → IsKept {L = L} (record { cells = a.cells; base = a.base; arrays = a.arrays; stacks = t; writes = w })
+        → IsKept {L = L} (record { cells = a.cells; base = a.base; results = a.results; arrays = a.arrays; stacks = t; writes = w })
     stack-kept w s =
         let spare : t.spare ≡ a.stacks.spare = ap (λ (t : Pooled). t.spare) f in
         let was = there (helds.Stack j) e in
@@ -76,7 +76,7 @@ module _ {L : Type 0} (a : Inside L) (i : IsKept a) (p j : ℕ) (l : p < length 
               place (omega (arith, ap length spare, ap stack_count was)) (omega (arith, s, ap value_count was)));
         }
 
-    pub stack-seen : (w : ℕ) → w ≡ a.writes + 1 → memory_of {L = L} (record { cells = a.cells; base = a.base; arrays = a.arrays; stacks = t; writes = w })
+    pub stack-seen : (w : ℕ) → w ≡ a.writes + 1 → memory_of {L = L} (record { cells = a.cells; base = a.base; results = a.results; arrays = a.arrays; stacks = t; writes = w })
         ≡ with_write (with_content (memory_of a) p (HasStack (list_of t.lists j)))
     stack-seen w n =
         let m = memory_of a in
@@ -93,7 +93,7 @@ module _ {L : Type 0} (a : Inside L) (i : IsKept a) (p j : ℕ) (l : p < length 
     array-contents = owned.array-changed (length a.arrays) a.stacks.spare (heap_of a) ls a.cells.items p j i.owned l e (beside a.arrays ls j m f)
         ∙ ap (λ m. set (contents_of (heap_of a) a.cells.items) p (HasArray m)) g
 
-    pub array-kept : (w : ℕ) → IsKept {L = L} (record { cells = a.cells; base = a.base; arrays = ls; stacks = a.stacks; writes = w })
+    pub array-kept : (w : ℕ) → IsKept {L = L} (record { cells = a.cells; base = a.base; results = a.results; arrays = ls; stacks = a.stacks; writes = w })
     array-kept w =
         let was = there (helds.Array j) e in
         record {
@@ -103,7 +103,7 @@ module _ {L : Type 0} (a : Inside L) (i : IsKept a) (p j : ℕ) (l : p < length 
               place (omega (arith, ap stack_count was)) (omega (arith, ap value_count was)));
         }
 
-    pub array-seen : (w : ℕ) → w ≡ a.writes + 1 → memory_of {L = L} (record { cells = a.cells; base = a.base; arrays = ls; stacks = a.stacks; writes = w })
+    pub array-seen : (w : ℕ) → w ≡ a.writes + 1 → memory_of {L = L} (record { cells = a.cells; base = a.base; results = a.results; arrays = ls; stacks = a.stacks; writes = w })
         ≡ with_write (with_content (memory_of a) p (HasArray m))
     array-seen w n =
         let o = memory_of a in
@@ -139,14 +139,14 @@ module _ {L : Type 0} (a : Inside L) (i : IsKept a) (p j : ℕ) (l : p < length 
     -- another number
 
     pub number-kept : c.held ≡ held_at a.cells.items p
-        → IsKept {L = L} (record { cells = changed; base = a.base; arrays = a.arrays; stacks = a.stacks; writes = a.writes })
+        → IsKept {L = L} (record { cells = changed; base = a.base; results = a.results; arrays = a.arrays; stacks = a.stacks; writes = a.writes })
     number-kept e = record {
       owned = owned.number-owned (length a.arrays) a.stacks.spare a.cells.items p c i.owned l e;
       counted = subst (AreCounted a.stacks.spare a.stacks.lists) (sym (contents-left e)) i.counted;
     }
 
     pub number-seen : (n : ℤ) → c.held ≡ held_at a.cells.items p → c.number ≡ n
-        → memory_of {L = L} (record { cells = changed; base = a.base; arrays = a.arrays; stacks = a.stacks; writes = a.writes }) ≡ with_number (memory_of a) p n
+        → memory_of {L = L} (record { cells = changed; base = a.base; results = a.results; arrays = a.arrays; stacks = a.stacks; writes = a.writes }) ≡ with_number (memory_of a) p n
     number-seen n e f =
         ap (λ ns. record (memory_of a) { numbers = ns; contents = contents_of (heap_of a) (set a.cells.items p c) }) (numbers-same n f)
         ∙ ap (λ xs. record (memory_of a) { numbers = set (numbers_of a.cells.items) p n; contents = xs }) (contents-left e)
@@ -162,7 +162,7 @@ module _ {L : Type 0} (a : Inside L) (i : IsKept a) (p j : ℕ) (l : p < length 
           ∙ contents-now (helds.Stack j) e
           ∙ ap (λ m. set (contents_of (heap_of a) a.cells.items) p (HasStack m)) z
 
-      pub open-kept : IsKept {L = L} (record { cells = changed; base = a.base; arrays = a.arrays; stacks = t; writes = a.writes })
+      pub open-kept : IsKept {L = L} (record { cells = changed; base = a.base; results = a.results; arrays = a.arrays; stacks = t; writes = a.writes })
       open-kept =
           let was = there helds.Nothing w in
           record {
@@ -173,7 +173,7 @@ module _ {L : Type 0} (a : Inside L) (i : IsKept a) (p j : ℕ) (l : p < length 
           }
 
       pub open-seen : c.number ≡ (cell_at a.cells.items p).number
-          → memory_of {L = L} (record { cells = changed; base = a.base; arrays = a.arrays; stacks = t; writes = a.writes }) ≡ opened (memory_of a) p
+          → memory_of {L = L} (record { cells = changed; base = a.base; results = a.results; arrays = a.arrays; stacks = t; writes = a.writes }) ≡ opened (memory_of a) p
       open-seen h =
           let m = memory_of a in
           let less : length t.spare ≡ length a.stacks.spare - 1 = omega (arith, ap length f, length-append t.spare (j ∷ [])) in
@@ -200,7 +200,7 @@ module _ {L : Type 0} (a : Inside L) (i : IsKept a) (p j : ℕ) (l : p < length 
       more : length t.spare ≡ length a.stacks.spare + 1
       more = omega (arith, ap (λ (t : Pooled). length t.spare) f, length-append a.stacks.spare (j ∷ []))
 
-      pub close-kept : IsKept {L = L} (record { cells = changed; base = a.base; arrays = a.arrays; stacks = t; writes = a.writes })
+      pub close-kept : IsKept {L = L} (record { cells = changed; base = a.base; results = a.results; arrays = a.arrays; stacks = t; writes = a.writes })
       close-kept =
           let was = there (helds.Stack j) w in
           record {
@@ -211,7 +211,7 @@ module _ {L : Type 0} (a : Inside L) (i : IsKept a) (p j : ℕ) (l : p < length 
           }
 
       close-state : c.number ≡ (cell_at a.cells.items p).number
-          → memory_of {L = L} (record { cells = changed; base = a.base; arrays = a.arrays; stacks = t; writes = a.writes })
+          → memory_of {L = L} (record { cells = changed; base = a.base; results = a.results; arrays = a.arrays; stacks = t; writes = a.writes })
           ≡ record (memory_of a) { contents = set (memory_of a).contents p Plain; spare = (memory_of a).spare + 1 }
       close-state h =
           let m = memory_of a in
@@ -226,11 +226,11 @@ module _ {L : Type 0} (a : Inside L) (i : IsKept a) (p j : ℕ) (l : p < length 
           ∙ ap (λ n. record m { contents = set m.contents p Plain; spare = n }) more
 
       pub close-seen : c.number ≡ (cell_at a.cells.items p).number
-          → memory_of {L = L} (record { cells = changed; base = a.base; arrays = a.arrays; stacks = t; writes = a.writes }) ≡ closed (memory_of a) p
+          → memory_of {L = L} (record { cells = changed; base = a.base; results = a.results; arrays = a.arrays; stacks = t; writes = a.writes }) ≡ closed (memory_of a) p
       close-seen h = close-state h ∙ sym (ap (λ x. closed_from x (memory_of a) p) (there (helds.Stack j) w))
 
       pub give-seen : c.number ≡ (cell_at a.cells.items p).number
-          → memory_of {L = L} (record { cells = changed; base = a.base; arrays = a.arrays; stacks = t; writes = a.writes }) ≡ released (memory_of a) p
+          → memory_of {L = L} (record { cells = changed; base = a.base; results = a.results; arrays = a.arrays; stacks = t; writes = a.writes }) ≡ released (memory_of a) p
       give-seen h = close-state h ∙ sym (ap (λ x. released_from x (memory_of a) p) (there (helds.Stack j) w))
 
     -- a new array
@@ -249,7 +249,7 @@ module _ {L : Type 0} (a : Inside L) (i : IsKept a) (p j : ℕ) (l : p < length 
             (λ k n. ap (λ ls. list_of ls k) f ∙ list-front a.arrays m k (owned.array-known (length a.arrays) a.stacks.spare a.cells.items k i.owned n))
             (λ k n. refl))
 
-        pub put-kept : IsKept {L = L} (record { cells = changed; base = a.base; arrays = ls; stacks = a.stacks; writes = a.writes })
+        pub put-kept : IsKept {L = L} (record { cells = changed; base = a.base; results = a.results; arrays = ls; stacks = a.stacks; writes = a.writes })
         put-kept =
             let was = there helds.Nothing w in
             let long : suc (length a.arrays) ≡ length ls = omega (arith, ap length f, length-append a.arrays (m ∷ [])) in
@@ -263,7 +263,7 @@ module _ {L : Type 0} (a : Inside L) (i : IsKept a) (p j : ℕ) (l : p < length 
             }
 
         pub put-seen : c.number ≡ (cell_at a.cells.items p).number
-            → memory_of {L = L} (record { cells = changed; base = a.base; arrays = ls; stacks = a.stacks; writes = a.writes })
+            → memory_of {L = L} (record { cells = changed; base = a.base; results = a.results; arrays = ls; stacks = a.stacks; writes = a.writes })
             ≡ with_content (memory_of a) p (HasArray m)
         put-seen h =
             let o = memory_of a in
@@ -289,7 +289,7 @@ module _ {L : Type 0} (a : Inside L) (i : IsKept a) (p j : ℕ) (l : p < length 
           (λ n m. refl)
           ∙ contents-now helds.Nothing e
 
-      pub free-kept : IsKept {L = L} (record { cells = changed; base = a.base; arrays = ls; stacks = a.stacks; writes = a.writes })
+      pub free-kept : IsKept {L = L} (record { cells = changed; base = a.base; results = a.results; arrays = ls; stacks = a.stacks; writes = a.writes })
       free-kept =
           let was = there (helds.Array j) w in
           record {
@@ -300,7 +300,7 @@ module _ {L : Type 0} (a : Inside L) (i : IsKept a) (p j : ℕ) (l : p < length 
           }
 
       pub free-seen : c.number ≡ (cell_at a.cells.items p).number
-          → memory_of {L = L} (record { cells = changed; base = a.base; arrays = ls; stacks = a.stacks; writes = a.writes }) ≡ released (memory_of a) p
+          → memory_of {L = L} (record { cells = changed; base = a.base; results = a.results; arrays = ls; stacks = a.stacks; writes = a.writes }) ≡ released (memory_of a) p
       free-seen h =
           let o = memory_of a in
           ap (λ ns. record o { numbers = ns; contents = contents_of (record { arrays = ls; stacks = a.stacks.lists }) (set a.cells.items p c) })
@@ -344,7 +344,7 @@ module _ {L : Type 0} (a : Inside L) (i : IsKept a) (from to : ℕ) (l : from < 
       (ap f (content-here (heap_of a) a.cells.items to n) ∙ z (content_in (heap_of a) (held_at a.cells.items to)) b)
 
   pub carry-kept : IsKept {L = L}
-      (record { cells = with_item (with_item a.cells to c) from left; base = a.base; arrays = a.arrays; stacks = a.stacks; writes = a.writes })
+      (record { cells = with_item (with_item a.cells to c) from left; base = a.base; results = a.results; arrays = a.arrays; stacks = a.stacks; writes = a.writes })
   carry-kept = record {
     owned = owned.same-owned (length a.arrays) a.stacks.spare a.cells.items carried_cells i.owned
         (λ j. same-amount (λ (c : Cell). array_times j c.held) (bare-array (heap_of a) left.held j r) (bare-array (heap_of a) (held_at a.cells.items to) j b))
@@ -359,6 +359,7 @@ module _ {L : Type 0} (a : Inside L) (i : IsKept a) (from to : ℕ) (l : from < 
       → memory_of {L = L} (record {
         cells = with_item (with_item a.cells to c) from left;
         base = a.base;
+        results = a.results;
         arrays = a.arrays;
         stacks = a.stacks;
         writes =
@@ -379,7 +380,7 @@ module _ {L : Type 0} (a : Inside L) (i : IsKept a) (n : ℕ) (v : Vec Cell) (e 
   reach-contents : contents_of (heap_of a) v.items ≡ contents_of (heap_of a) a.cells.items ++ replicate (n - length a.cells.items) Plain
   reach-contents = ap (contents_of (heap_of a)) e ∙ contents-more (heap_of a) a.cells.items (n - length a.cells.items)
 
-  pub reach-kept : IsKept {L = L} (record { cells = v; base = a.base; arrays = a.arrays; stacks = a.stacks; writes = a.writes })
+  pub reach-kept : IsKept {L = L} (record { cells = v; base = a.base; results = a.results; arrays = a.arrays; stacks = a.stacks; writes = a.writes })
   reach-kept =
       let m = n - length a.cells.items in
       record {
@@ -395,7 +396,7 @@ module _ {L : Type 0} (a : Inside L) (i : IsKept a) (n : ℕ) (v : Vec Cell) (e 
       }
 
   pub reach-seen : vec_capacity v ≡ vec_capacity a.cells
-      → memory_of {L = L} (record { cells = v; base = a.base; arrays = a.arrays; stacks = a.stacks; writes = a.writes }) ≡ reached (memory_of a) n
+      → memory_of {L = L} (record { cells = v; base = a.base; results = a.results; arrays = a.arrays; stacks = a.stacks; writes = a.writes }) ≡ reached (memory_of a) n
   reach-seen r =
       let m = memory_of a in
       let xs = contents_of (heap_of a) a.cells.items in

@@ -71,6 +71,7 @@ memory_of a = record {
   numbers = numbers_of a.cells.items;
   contents = contents_of (heap_of a) a.cells.items;
   base = a.base;
+  results = a.results;
   spare = length a.stacks.spare;
   room = vec_capacity a.cells;
   writes = a.writes;

@@ -21,6 +21,8 @@ pub record MemoryState : Type 0 where
   pub contents : List Content
   -- where the frame in sight begins
   pub base : ℕ
+  -- from which place on cells are for results: those before it are for names
+  pub results : ℕ
   -- how many stacks more may live
   pub spare : ℕ
   -- for how many cells the memory was taken
@@ -175,7 +177,7 @@ reached m n = record m {
 
 -- no cell, with room for so many
 abbrev pub no_cells : ℕ → MemoryState
-no_cells n = record { numbers = []; contents = []; base = 0; spare = live_stack_limit; room = n; writes = 0 }
+no_cells n = record { numbers = []; contents = []; base = 0; results = 0; spare = live_stack_limit; room = n; writes = 0 }
 
 -- ---- as values of contracts
 
@@ -199,8 +201,16 @@ content_code = code_by (ℕ × List ℤ) (coded× coded_ℕ (coded_list coded_�
 
 abbrev pub memory_code : Coded MemoryState
 memory_code =
-    code_by (List ℤ × (List Content × (ℕ × (ℕ × (ℕ × ℕ)))))
-    (coded× (coded_list coded_ℤ) (coded× (coded_list content_code) (coded× coded_ℕ (coded× coded_ℕ (coded× coded_ℕ coded_ℕ)))))
-    (λ m. (m.numbers, (m.contents, (m.base, (m.spare, (m.room, m.writes))))))
-    (λ p. record { numbers = p.0; contents = p.1.0; base = p.1.1.0; spare = p.1.1.1.0; room = p.1.1.1.1.0; writes = p.1.1.1.1.1 })
+    code_by (List ℤ × (List Content × (ℕ × (ℕ × (ℕ × (ℕ × ℕ))))))
+    (coded× (coded_list coded_ℤ) (coded× (coded_list content_code) (coded× coded_ℕ (coded× coded_ℕ (coded× coded_ℕ (coded× coded_ℕ coded_ℕ))))))
+    (λ m. (m.numbers, (m.contents, (m.base, (m.results, (m.spare, (m.room, m.writes)))))))
+    (λ p. record {
+      numbers = p.0;
+      contents = p.1.0;
+      base = p.1.1.0;
+      results = p.1.1.1.0;
+      spare = p.1.1.1.1.0;
+      room = p.1.1.1.1.1.0;
+      writes = p.1.1.1.1.1.1;
+    })
     (λ _. refl)

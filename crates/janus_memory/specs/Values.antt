@@ -1,19 +1,10 @@
 -- How values are seen, and what is read.
 use Rattle.std.specs.Prelude.{ℤ, Option, Some, None}
 use Rattle.janus_meaning.specs.Fault.{Fault, Res, Fine, Bad}
-use Rattle.janus_meaning.specs.Store.{Val, Num, Arr, Stk, Lent}
+use Rattle.janus_meaning.specs.Store.{Val, Num, Arr, Stk}
 use Rattle.janus_memory.specs.Stacks.{held}
-use Rattle.janus_memory.specs.declared.cell.Kind.{Kind}
-use Rattle.janus_memory.specs.declared.cell.Kind.TheVariants as kinds
 use Rattle.janus_memory.specs.declared.value.ValueView.{ValueView}
 use Rattle.janus_memory.specs.declared.value.ValueView.TheVariants as views
-
--- the kind of a value
-abbrev pub kind_of : Val → Kind
-kind_of (Num n) = kinds.Number
-kind_of (Arr l) = kinds.Array
-kind_of (Stk l) = kinds.Stack
-kind_of Lent = kinds.Lent
 
 -- what a lent value shows
 abbrev pub shown : ValueView → Val

@@ -1,18 +1,5 @@
 //! A cell.
 
-/// What a value is.
-#[derive(Clone, Copy)]
-pub enum Kind {
-    /// A number.
-    Number,
-    /// An array.
-    Array,
-    /// A stack.
-    Stack,
-    /// Nothing: it is lent to a call.
-    Lent,
-}
-
 /// What a cell has beside its number.
 #[derive(Clone, Copy)]
 pub(crate) enum Held {

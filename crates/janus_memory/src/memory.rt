@@ -9,10 +9,11 @@ ghost use Rattle.janus_meaning.specs.Value.{first, is_none};
 ghost use Rattle.janus_memory.specs.Memory.{Plain, HasArray, HasStack, Gone, IsBare, IsHere, place, number_at, content_at, val_at, array_of, stack_of};
 ghost use Rattle.janus_memory.specs.Memory.{with_number, with_content, with_write, element_set, pushed, opened, closed, released, carried, reached, no_cells};
 ghost use Rattle.janus_memory.specs.Memory.{stacks_among, values_among};
-ghost use Rattle.janus_memory.specs.Values.{kind_of, shown, read_or};
+ghost use Rattle.janus_memory.specs.Values.{shown, read_or};
 
 use crate::arrays::Arrays;
-use crate::cell::{Cell, Held, Kind, LENT, PLAIN};
+use crate::cell::{Cell, Held, LENT, PLAIN};
+use crate::moves::Moves;
 use crate::stack_view;
 use crate::stacks::Stacks;
 use crate::value::ValueView;
@@ -29,6 +30,8 @@ pub struct Memory<L: Ledger> {
     cells: Vec<Cell>,
     /// Where the frame in sight begins.
     base: usize,
+    /// From which place on cells are for results. Those before it are for names.
+    results: usize,
     arrays: Arrays,
     stacks: Stacks,
     /// How often values were written.
@@ -51,7 +54,7 @@ impl<L: Ledger> Model for Memory<L> {
 
 impl<L: Ledger> Memory<L> {
     /// No cells, with the memory of this many and of all stacks that may be, and no writes so far, which are counted in the ledger that is opened by
-    /// this blank; and a tally of that ledger, at 0.
+    /// this blank; with the permit to move its values, and a tally of that ledger, at 0.
     ///
     /// # Errors
     ///
@@ -60,25 +63,26 @@ impl<L: Ledger> Memory<L> {
         alloc: Global,
         room: usize,
         blank: Blank,
-    ) -> Result<(Memory<L>, Tally<L>), AllocError>
+    ) -> Result<(Memory<L>, Moves<L>, Tally<L>), AllocError>
         requires name { blank.name ≡ L.name }
         requires parts { blank.parts ≡ L.parts }
         requires two { 1 < L.parts }
         ensures empty { IfOk result (λ r. r.0 ≡ no_cells r.0.room) }
         ensures room { IfOk result (λ r. room ≤ r.0.room) }
-        ensures tally { IfOk result (λ r. r.1 ≡ 0) }
+        ensures tally { IfOk result (λ r. r.2 ≡ 0) }
     {
         let cells = Vec::with_capacity(alloc, room)?;
         let stacks = Stacks::new(alloc)?;
-        let (writes, tally) = Writes::open(blank);
+        let (writes, moves, tally) = Writes::open(blank);
         let memory = Memory {
             cells,
             base: 0,
+            results: 0,
             arrays: Arrays::new(alloc),
             stacks,
             writes,
         };
-        Ok((memory, tally))
+        Ok((memory, moves, tally))
     }
 
     /// Raises a tally of the memory's ledger, and changes nothing of the memory.
@@ -111,13 +115,23 @@ impl<L: Ledger> Memory<L> {
         self.cells[self.base + k].number
     }
 
-    /// Another number for a cell. What stands beside it stays, and it is no write.
+    /// Another number for a cell. What stands beside it stays.
     #[inline(always)]
-    pub fn keep(&mut self, k: usize, number: i32)
+    fn put(&mut self, k: usize, number: i32)
         requires { place self.old k < length self.old.numbers }
         ensures { self.new ≡ with_number self.old (place self.old k) number }
     {
         self.cells[self.base + k].number = number;
+    }
+
+    /// Another number for a cell that is for a result, which is no write. What stands beside it stays.
+    #[inline(always)]
+    pub fn keep(&mut self, k: usize, number: i32)
+        requires there { place self.old k < length self.old.numbers }
+        requires behind { self.old.results ≤ place self.old k }
+        ensures { self.new ≡ with_number self.old (place self.old k) number }
+    {
+        self.put(k, number);
     }
 
     /// Another number for a cell, as a write. What stands beside it stays.
@@ -127,7 +141,7 @@ impl<L: Ledger> Memory<L> {
         ensures { self.new ≡ with_write (with_number self.old (place self.old k) number) }
     {
         self.writes.add();
-        self.keep(k, number);
+        self.put(k, number);
     }
 
     /// The element at an index of a cell's array; none where the index is out of its range, or there is no array.
@@ -295,11 +309,12 @@ impl<L: Ledger> Memory<L> {
         self.base = base;
     }
 
-    /// How many cells there are.
-    pub fn len(&self) -> usize
-        ensures { result ≡ length self.now.numbers }
+    /// From this place on cells are for results, and those before it are for names.
+    #[inline(always)]
+    pub fn tell_results(&mut self, results: usize, _moves: &Moves<L>)
+        ensures { self.new ≡ record self.old { results = results } }
     {
-        self.cells.len()
+        self.results = results;
     }
 
     /// Takes the memory of this many cells. An error for want of memory leaves the cells.
@@ -329,20 +344,6 @@ impl<L: Ledger> Memory<L> {
         reach(&mut self.cells, count);
     }
 
-    /// What the value of a cell is.
-    #[inline(always)]
-    pub fn kind(&self, at: usize) -> Kind
-        requires { at < length self.now.numbers }
-        ensures { result ≡ kind_of (val_at self.now at) }
-    {
-        match self.cells[at].held {
-            Held::Nothing => Kind::Number,
-            Held::Array(_) => Kind::Array,
-            Held::Stack(_) => Kind::Stack,
-            Held::Lent => Kind::Lent,
-        }
-    }
-
     /// The value of a cell, lent.
     pub fn view(&self, at: usize) -> ValueView<'_>
         requires there { at < length self.now.numbers }
@@ -359,8 +360,22 @@ impl<L: Ledger> Memory<L> {
         }
     }
 
-    /// Gives a plain cell an array. An error for want of memory leaves the cells.
-    pub fn put_array(&mut self, at: usize, items: Vec<i32>) -> Result<(), AllocError>
+    /// Lets a cell of the frame in sight begin with a number. It is no write.
+    #[inline(always)]
+    pub fn put_number(&mut self, k: usize, number: i32, _moves: &Moves<L>)
+        requires { place self.old k < length self.old.numbers }
+        ensures { self.new ≡ with_number self.old (place self.old k) number }
+    {
+        self.put(k, number);
+    }
+
+    /// Gives a plain cell an array. An error for want of memory leaves the cells. It is no write.
+    pub fn put_array(
+        &mut self,
+        at: usize,
+        items: Vec<i32>,
+        _moves: &Moves<L>,
+    ) -> Result<(), AllocError>
         requires there { at < length self.old.numbers }
         requires plain { content_at self.old at ≡ Plain }
         ensures ok { OnOk result (self.new ≡ with_content self.old at (HasArray items.items)) }
@@ -371,8 +386,8 @@ impl<L: Ledger> Memory<L> {
         Ok(())
     }
 
-    /// Lets the array of a cell go, or takes its empty stack away: it is plain then. Any other cell is left.
-    pub fn release(&mut self, at: usize)
+    /// Lets the array of a cell go, or takes its empty stack away: it is plain then. Any other cell is left. It is no write.
+    pub fn release(&mut self, at: usize, _moves: &Moves<L>)
         requires there { at < length self.old.numbers }
         requires empty { stack_of (content_at self.old at) ≡ [] }
         ensures { self.new ≡ released self.old at }
@@ -390,9 +405,9 @@ impl<L: Ledger> Memory<L> {
         }
     }
 
-    /// Moves what a cell has to another, which has neither an array nor a stack. The first is lent then.
+    /// Moves what a cell has to another, which has neither an array nor a stack. The first is lent then. It is no write.
     #[inline(always)]
-    pub fn lend(&mut self, from: usize, to: usize)
+    pub fn lend(&mut self, from: usize, to: usize, _moves: &Moves<L>)
         requires from { from < length self.old.numbers }
         requires to { to < length self.old.numbers }
         requires apart { from ≢ to }
@@ -404,9 +419,9 @@ impl<L: Ledger> Memory<L> {
         self.cells[from] = LENT;
     }
 
-    /// Moves what a cell has to another, which has neither an array nor a stack. The first is plain then.
+    /// Moves what a cell has to another, which has neither an array nor a stack. The first is plain then. It is no write.
     #[inline(always)]
-    pub fn give_back(&mut self, from: usize, to: usize)
+    pub fn give_back(&mut self, from: usize, to: usize, _moves: &Moves<L>)
         requires from { from < length self.old.numbers }
         requires to { to < length self.old.numbers }
         requires apart { from ≢ to }

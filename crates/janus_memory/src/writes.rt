@@ -2,6 +2,7 @@
 
 ghost use Rattle.std.specs.Prelude.{◌≡◌, ℕ, ◌+◌, ◌<◌};
 
+use crate::moves::Moves;
 use std::marker::Model;
 use std::sync::ledger::{Blank, Book, Ledger, Share};
 
@@ -37,17 +38,22 @@ impl<L: Ledger> Model for Tally<L> {
 }
 
 impl<L: Ledger> Writes<L> {
-    /// A count, of no writes so far, and a tally at 0.
-    pub(crate) fn open(blank: Blank) -> (Writes<L>, Tally<L>)
+    /// A count, of no writes so far, the permit to change values without one, and a tally at 0.
+    pub(crate) fn open(blank: Blank) -> (Writes<L>, Moves<L>, Tally<L>)
         requires name { blank.name ≡ L.name }
         requires parts { blank.parts ≡ L.parts }
         requires two { 1 < L.parts }
         ensures writes { result.0 ≡ 0 }
-        ensures tally { result.1 ≡ 0 }
+        ensures tally { result.2 ≡ 0 }
     {
         let (book, mut share) = blank.open::<L>();
         let other = share.split_off(1, 0);
-        (Writes { book, share }, Tally { share: other })
+        let none = share.empty();
+        (
+            Writes { book, share },
+            Moves::new(none),
+            Tally { share: other },
+        )
     }
 
     /// One write more.

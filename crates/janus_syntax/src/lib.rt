@@ -37,6 +37,10 @@
 //!
 //! A cell here has declarations of numbers, arrays and stacks, then assignments, swaps, `push`, `pop`, `if`, loops, locals, `call`,
 //! `uncall` and `skip`, and then procedures; or it is a program of procedures, one of which is `main`.
+//!
+//! A refusal stands at a bad token or a number too large before all else; then at the first token with which no text goes on, or at the end
+//! of a text that only begins one; at the token that opens a 65th construct; at the 257th operator of an expression; or at a kind or a name
+//! behind `delocal` that isn't that of its `local`.
 #![tactic(auto)]
 
 mod call;

@@ -11,6 +11,8 @@
 //!
 //! Frames and requests are those of the Jupyter messaging page (version 5.4, with its wire protocol), the connection file that of
 //! Jupyter's page on kernels. JSON is read by `serde_json`.
+//!
+//! Memory is asked for only once the signature fits.
 #![tactic(auto)]
 
 mod comm;

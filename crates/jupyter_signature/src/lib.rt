@@ -4,6 +4,9 @@
 //! and that `is_signed` tells whether a signature is that of the parts. `sign` takes memory for the text alone, and `is_signed` none.
 //!
 //! HMAC is that of RFC 2104 over SHA-256 of FIPS 180-4, the signature that of the Jupyter messaging page ("The Wire Protocol").
+//!
+//! A key has beside its octets the two hashers with which HMAC begins under it, so that no message hashes the key. That it has is no
+//! clause's: the clauses speak of its octets alone.
 #![tactic(auto)]
 
 mod key;

@@ -9,6 +9,9 @@
 //!
 //! The definitions are in specs/: `Views` (what each seat knows), `Rule` (what holds between any two steps), `Steps` (the kinds of step),
 //! `Seats` (what contracts see), `Laws`; `Plays` puts the steps in the terms of the base, `atomic_table`.
+//!
+//! By the rule of the words a ring that came before the look is heard; of the look itself this is tested. A ring takes no handle with which
+//! it could wait, though no clause rules out that it spins.
 #![tactic(auto)]
 
 ghost use Rattle.kernel_bell.specs.Laws.{StepsKeepTheRule, AskedIsExact, NoRingIsEarly};

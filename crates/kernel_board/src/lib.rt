@@ -13,6 +13,8 @@
 //!
 //! The definitions are in specs/: `Frames`, `Kept` (what is kept of a broadcast), `Log`
 //! (which broadcasts are kept), `Reads` (what a read answers), `Laws` (both, over the whole list of broadcasts), `Fault`.
+//!
+//! So an answer of `read_from` that has no broadcast may be a read at any place.
 #![tactic(auto)]
 
 ghost use Rattle.kernel_board.specs.Laws.{LogIsOfAll, LaggedIsExact, ReadersMissNothing};

@@ -14,6 +14,10 @@
 //! - what all octets tell: `Reading`, and its laws in `Laws`;
 //! - what this end sends: `Opening`, `Subscribing`; `Pings`, as a partner sends them;
 //! - how the code keeps it: `Table` (counts of subscriptions), `Later` (a command), `Brought` and `Intake` (what frames of a piece bring), `Connection`.
+//!
+//! Where nothing of the stream is left behind a call, there is memory for 131,072 octets of it at most, also where memory ran out. A piece
+//! leaves memory for what there was, or for four times the octets that weren't given before, for twice as many frames as there are of these
+//! octets and of held frames, and for an event an octet and one more. The prefixes that are kept are those that are still subscribed to.
 #![tactic(auto)]
 
 ghost use Rattle.zmtp_peer.specs.Laws.{OctetsAreRead, OctetsHaveOneReading, RefusalsStay, NoCutMatters, FoldsGoOn, PartnersAreReady, ReadyComesFirst};

@@ -7,6 +7,10 @@
 //!
 //! The definitions, in specs/, are those of RFC 23 (ZMTP 3.0), "Formal Grammar" (greeting, command, message), with the
 //! mechanism NULL and with this project's limits on the size of a message, and of RFC 37 (ZMTP 3.1): the minor version, and PONG.
+//!
+//! A piece that came leaves memory for what there was, or for four times the octets that aren't given; a size that a header tells takes
+//! none. Where all was given, `settle` leaves 131,072 octets at most. Of what is kept as a piece comes, less than half was given already.
+//! `next` wants memory only where a whole frame comes next. That no message past a limit goes to a writer is no clause's.
 #![tactic(auto)]
 
 ghost use Rattle.zmtp_wire.specs.Laws.{EveryStreamIsRead, StreamsHaveOneReading, ReadingsGoOn, FaultsStay, FramesAreReadBack, MessagesAreReadBack};

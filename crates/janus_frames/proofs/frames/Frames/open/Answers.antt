@@ -46,7 +46,7 @@ invariant_of-self g c =
     let at : r.base + (t - c.base.result) ≡ t = omega (arith, o, c.base.ensures, ap (λ (m : MemoryState). m.base) c.reach.ensures) in
     let wide = subst (λ (r : MemoryState). length r.contents ≡ length r.numbers) c.reach.ensures c.law-2.ensures.contents in
     let z : to_z w32 (of_z w32 c.args.number) ≡ c.args.number = to_z-of_z w32 c.args.number c.ranges.number in
-    let new : c.keep.new.self ≡ with_number (reached m (t + 1)) t c.args.number = c.keep.ensures
+    let new : c.put_number.new.self ≡ with_number (reached m (t + 1)) t c.args.number = c.put_number.ensures
     ∙ ap (λ p. with_number r p (to_z w32 (of_z w32 c.args.number))) at
     ∙ ap (λ r. with_number r t (to_z w32 (of_z w32 c.args.number))) c.reach.ensures ∙ ap (with_number (reached m (t + 1)) t) z in
     record {
@@ -67,7 +67,7 @@ returns g c =
     let at : r.base + (t - c.base.result) ≡ t = omega (arith, o, c.base.ensures, ap (λ (m : MemoryState). m.base) c.reach.ensures) in
     let wide = subst (λ (r : MemoryState). length r.contents ≡ length r.numbers) c.reach.ensures c.law-2.ensures.contents in
     let z : to_z w32 (of_z w32 c.args.number) ≡ c.args.number = to_z-of_z w32 c.args.number c.ranges.number in
-    let new : c.keep.new.self ≡ with_number (reached m (t + 1)) t c.args.number = c.keep.ensures
+    let new : c.put_number.new.self ≡ with_number (reached m (t + 1)) t c.args.number = c.put_number.ensures
     ∙ ap (λ p. with_number r p (to_z w32 (of_z w32 c.args.number))) at
     ∙ ap (λ r. with_number r t (to_z w32 (of_z w32 c.args.number))) c.reach.ensures ∙ ap (with_number (reached m (t + 1)) t) z in
     ap (λ n. frames_in n (t + 1) cs) new ∙ opening.more-state m t cs i (set (reached m (t + 1)).numbers t c.args.number) (reached m

@@ -5,7 +5,7 @@ use Rattle.janus_memory.specs.declared.cell.Cell.{Cell}
 use Rattle.janus_memory.proofs.Changing as changing
 use Rattle.janus_memory.proofs.Cells.{read-cell}
 use Rattle.janus_memory.proofs.Reading as reading
-use Rattle.janus_memory.proofs.memory.Memory.keep.Goals as goal
+use Rattle.janus_memory.proofs.memory.Memory.put.Goals as goal
 
 pub invariant_of-self : goal.invariant_of-self
 invariant_of-self g c =
