@@ -34,10 +34,13 @@ mod transcript;
 mod words;
 
 pub use choice::Choice;
+pub use command::Command;
 pub use command_line::{program, without_output};
 pub use fault::{RunFault, status};
 pub use input::INPUT_LIMIT;
 pub use kernel_text::WriteFailed;
-pub use output::send_run_fault;
+pub use lines::{is_blank, is_command_line};
+pub use output::{send_outcome, send_post_fault, send_run_fault, send_value};
+pub use serve::serve;
 pub use transcript::run;
 pub use words::{choice_of, steps_of, unread_words_status, words_status};

@@ -2,7 +2,7 @@
 
 ghost use Rattle.std.specs.Prelude.{◌≡◌, ◌<◌, ◌≤◌, ◌+◌, ℕ, ℤ, List, [], ◌∷◌, length, reverse, IfOk, OnOk, OnErr, IsTrue, ◌↔◌};
 ghost use Rattle.std.specs.Prelude.{IfSome, None, true, false, ◌^◌};
-ghost use Rattle.janus_meaning.specs.Fault.{Fine};
+ghost use Rattle.janus_meaning.specs.Fault.{Fine, TopEmpty};
 ghost use Rattle.janus_meaning.specs.Limit.{live_stack_limit, value_limit};
 ghost use Rattle.janus_meaning.specs.Store.{Val, Slot, Num, Arr, Stk, look, element, set_element};
 ghost use Rattle.janus_meaning.specs.Value.{first};
@@ -13,7 +13,7 @@ ghost use Rattle.janus_row.specs.Rows.{IsRow, IsBody, instruction_at, body_at, s
 ghost use Rattle.janus_row.specs.Slices.{IsWrittenOnce};
 ghost use Rattle.janus_row.specs.Sound.{World};
 ghost use Rattle.janus_slots.specs.Slots.{slot};
-ghost use Rattle.janus_memory.specs.Values.{shown};
+ghost use Rattle.janus_memory.specs.Values.{shown, read_or};
 ghost use Rattle.janus_frames.specs.Cells.{has, from};
 ghost use Rattle.janus_frames.specs.Calls.{CanLend, Enters, AreAlone, Returns, given_back, own_names, names_lent, slots_of, names_of};
 ghost use Rattle.janus_frames.specs.FramesState.{no_frames, names_there, stacks_there, values_there, with_names, HasShape};
@@ -128,6 +128,15 @@ impl<L: Ledger> Frames<L> {
     {
         self.memory.law();
         self.top - self.memory.base()
+    }
+
+    /// The value on top of the k-th name's stack; none where it is empty.
+    #[inline(always)]
+    pub(crate) fn top(&self, k: usize) -> Option<i32>
+        requires { IsStack (look (slot k) self.now.slots) }
+        ensures { (l : List ℤ) → look (slot k) self.now.slots ≡ Fine (Stk l) → read_or TopEmpty result ≡ first l }
+    {
+        self.memory.top(k)
     }
 
     /// How many values the k-th name's stack has.

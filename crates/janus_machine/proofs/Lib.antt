@@ -15,6 +15,7 @@ pub mod Kept
 pub mod Leaving
 pub mod Levels
 pub mod Mirrors
+pub mod Written
 pub mod Moves
 pub mod Near
 pub mod OpenTotals
@@ -24,6 +25,7 @@ pub mod Pulls
 pub mod RowLaid
 pub mod RowsCross
 pub mod Seen
+pub mod Single
 pub mod Slotted
 pub mod Ticks
 pub mod Turned

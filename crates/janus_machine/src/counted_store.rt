@@ -7,7 +7,7 @@ use janus_frames::{Store, Tally};
 use std::alloc::{AllocError, Global};
 use std::sync::ledger::{Blank, Ledger};
 
-/// A store, and the count of the steps that were taken over it. Contracts alone see the count, it takes no octets, and only `slice` raises
+/// A store, and the count of the steps that were taken over it. Contracts alone see the count, it takes no octets, and only `step` and `slice` raise
 /// it. Of a ledger there is one store with one such count: neither can be had anew or put in the other one's place.
 #[derive(Drop)]
 pub struct CountedStore<L: Ledger> {

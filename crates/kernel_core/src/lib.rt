@@ -31,7 +31,7 @@ pub use crate::kernel::Kernel;
 pub use crate::minutes::Entry;
 pub use janus_syntax::SyntaxFault;
 pub use janus_syntax::token::Span;
-pub use kernel_history::{View, names_in_sight};
+pub use kernel_history::{OpenCell, View, names_in_sight};
 pub use kernel_machine::{
     Begun, CellText, CheckFault, Event, Extent, Fault, Job, MINUTES_LIMIT, Outcome, Phase,
     PostFault, QUEUE_LIMIT, Refusal, STEP_LIMIT, STEPS_OF_A_SLICE, Sliced, Told, TravelEnd,

@@ -27,7 +27,7 @@ use Rattle.janus_names.specs.Numbers.{GoOn}
 use Rattle.janus_slots.specs.Slots as slots
 use Rattle.janus_slots.specs.Slots.{names_in}
 use Rattle.janus_slots.specs.Law.{AreListed}
-use Rattle.janus_frames.specs.StoreState.{StoreState, IsWhole, shown_store}
+use Rattle.kernel_loader.specs.StoreState.{StoreState, IsWhole, shown_store}
 use Rattle.kernel_loader.specs.Bodies.{AreBelow, AreDefined, Define}
 use Rattle.kernel_loader.specs.Procedures.{kept_in}
 use Rattle.kernel_loader.proofs.BodiesInEffect.{forgotten_still_defined}

@@ -18,7 +18,7 @@
 -- of all three            `HasIndex` (Index): each entry of the index is the body that the entered cell defines, where it was posted or a move goes
 --                         down to it, else the one of the nearest node that defines its name from the position up to the root, or none
 use Rattle.std.specs.Prelude.{◌≡◌, ℕ, ◌+◌, ◌<◌, ◌≤◌, List, length, slice_index, take}
-use Rattle.janus_frames.specs.StoreState.{IsWhole}
+use Rattle.kernel_loader.specs.StoreState.{IsWhole}
 use Rattle.janus_meaning.specs.Syntax.{Name}
 use Rattle.janus_meaning.specs.World.{World}
 use Rattle.janus_slots.specs.Slots as slots

@@ -8,8 +8,9 @@ pub mod Index
 pub mod TableNames
 pub mod Standing
 pub mod Kept
+pub mod OpenCell
 pub mod Came
 -- Of janus_frames, given again.
-pub use Rattle.janus_frames.specs.StoreState
+pub use Rattle.kernel_loader.specs.StoreState
 -- Of kernel_loader, given again.
 pub use Rattle.kernel_loader.specs.Defined

@@ -11,7 +11,7 @@ ghost use Rattle.janus_meaning.specs.World.{entered};
 ghost use Rattle.janus_names.specs.Numbers.{GoOn};
 ghost use Rattle.janus_slots.specs.Slots.{names_in};
 ghost use Rattle.janus_slots.specs.Law.{AreListed};
-ghost use Rattle.janus_frames.specs.StoreState.{IsWhole, shown_store};
+ghost use Rattle.kernel_loader.specs.StoreState.{IsWhole, shown_store};
 ghost use Rattle.kernel_loader.specs.Procedures.{kept_in};
 ghost use Rattle.kernel_machine.specs.Text.{Accepts, Refuses};
 ghost use Rattle.kernel_loader.specs.Program.{cell_of_program, procedures_of, IsReady};
@@ -26,10 +26,12 @@ ghost use Rattle.kernel_history.specs.Bodies.{NodesAreReady, AreInOrder};
 ghost use Rattle.kernel_history.specs.TableNames.{AreItsOwn};
 ghost use Rattle.kernel_history.specs.Standing.{shown_here, StandsAt};
 ghost use Rattle.kernel_history.specs.Kept.{HasPath, Kept, IsKept};
+ghost use Rattle.kernel_history.specs.OpenCell.{IsOpenCell};
 
 use crate::defined::procedures_here;
 use crate::extent::extent_of;
 use crate::job::{Entered, Open, Stage, Work};
+use crate::open_cell::OpenCell;
 use crate::settle::{finished, slice_job};
 use crate::tree::{HistoryTree, below, can_go_down, can_go_up, find_way, is_full};
 use crate::view::View;
@@ -333,5 +335,28 @@ impl<L: Ledger> History<L> {
         ensures counted { StepsOnSlice self.old.state m asked self.old.steps self.new.steps }
     {
         slice_job(&mut self.tree, &mut self.runner, &mut self.job, m, asked)
+    }
+
+    /// Takes the posted cell out that is open and goes on; else all is let go.
+    pub fn into_open_cell(self) -> Option<OpenCell<L>>
+        ensures { IfSome result (IsOpenCell self.state) }
+    {
+        let History { tree, runner, job } = self;
+        let Open::Inside(entered) = job else {
+            return None;
+        };
+        let Entered {
+            work,
+            count: _,
+            heading,
+        } = entered;
+        match (work, heading) {
+            (Work::Cell(program), Heading::GoesOn) => Some(OpenCell {
+                runner,
+                program,
+                tree,
+            }),
+            _ => None,
+        }
     }
 }

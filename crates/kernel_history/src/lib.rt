@@ -11,6 +11,7 @@
 //!
 //! - `tree`: the tree of cells with the position, and what is asked of it; `job`: the open job.
 //! - `history`: the tree, the runner and the open job in one, and how jobs begin. `settle`: a slice and its parts, and what comes at the end of a cell.
+//! - `open_cell`: a posted cell that is open, taken out of its history, to be walked through.
 //! - `defined`: the procedures of a world; `view`: the shown world, lent; `extent`: how far an undo and a redo can go.
 //!
 //! The definitions, in specs/, in reading order:
@@ -20,8 +21,8 @@
 //! - `Bodies`: which program a node has and a job runs, which bodies are defined where, and how many are kept.
 //! - `Index`: what the index of bodies tells of the tree.
 //! - `TableNames`: which names of procedures stand in the runner's table. `Standing`: where the runner stands.
-//! - `Kept`: what a history keeps of its fields, with a map of it, what a slice leaves, and where a cell has come to its end. `Came`: that the cursor of a slice that
-//!   ends a cell came there by steps.
+//! - `Kept`: what a history keeps of its fields, with a map of it, what a slice leaves, and where a cell has come to its end. `Came`: that the
+//!   cursor of a slice that ends a cell came there by steps.
 //!
 //! It gives again what `kernel_core` cites of the layers below: the store, the procedures that are lent, and the names in sight.
 //!
@@ -34,11 +35,14 @@ mod defined;
 mod extent;
 mod history;
 mod job;
+mod open_cell;
 mod settle;
 mod tree;
 mod view;
 
 pub use crate::history::History;
 pub use crate::job::Stage;
+pub use crate::open_cell::OpenCell;
+pub use crate::tree::HistoryTree;
 pub use crate::view::View;
 pub use kernel_loader::{Store, names_in_sight};

@@ -9,7 +9,7 @@ ghost use Rattle.kernel_machine.specs.Legal.{IsLegal, IsPossibleWork};
 ghost use Rattle.kernel_machine.specs.Slices.{finished as the_finished, turned as the_turned, Backs, cells, Arrives, Goes, IsSlice};
 ghost use Rattle.janus_meaning.specs.Writes.{IsWritten};
 ghost use Rattle.kernel_machine.specs.StepsOfSlices.{steps_back, WritesOn, WritesOnSlice, StepsOn, StepsOnSlice};
-ghost use Rattle.janus_frames.specs.StoreState.{IsWhole};
+ghost use Rattle.kernel_loader.specs.StoreState.{IsWhole};
 ghost use Rattle.kernel_loader.specs.Runner.{Is, Between, KeepsCounts, writes_of, steps_of};
 ghost use Rattle.kernel_history.specs.Bodies.{IsProgramOf, NodesAreReady, KeepsNoOther};
 ghost use Rattle.kernel_history.specs.TableNames.{AreOfNodes};

@@ -2,8 +2,8 @@
 ghost use Rattle.std.specs.Prelude.{◌≡◌, ◌<◌, ◌↔◌, IsTrue, IfOk, Some, slice_get};
 ghost use Rattle.janus_meaning.specs.Store.{look};
 ghost use Rattle.janus_meaning.specs.World.{size_of, listed};
-ghost use Rattle.janus_frames.specs.StoreState.{shown_store};
-ghost use Rattle.janus_frames.specs.Values.{found};
+ghost use Rattle.kernel_loader.specs.StoreState.{shown_store};
+ghost use Rattle.kernel_loader.specs.FrameValues.{found};
 ghost use Rattle.kernel_loader.specs.Values.{shown};
 ghost use Rattle.kernel_loader.specs.Defined.{in_a_row};
 ghost use Rattle.kernel_machine.specs.State.{procedures_at};
@@ -15,7 +15,7 @@ ghost use Rattle.kernel_loader.specs.Runner.{world_of};
 use crate::defined::{all_procedures, own_procedures};
 use crate::job::Open;
 use crate::tree::HistoryTree;
-use janus_frames::ValueView;
+use kernel_loader::ValueView;
 use janus_syntax::tree::Procedure;
 use kernel_loader::{Runner, Store};
 use std::alloc::{AllocError, Global};
@@ -34,7 +34,7 @@ pub struct View<'a, L: Ledger> {
 impl<'a, L: Ledger> Model for View<'a, L> {
     ghost use Rattle.janus_meaning.specs.World.{World};
     ghost use Rattle.janus_meaning.specs.Codes.{world_code};
-    ghost use Rattle.janus_frames.specs.StoreState.{shown_store};
+    ghost use Rattle.kernel_loader.specs.StoreState.{shown_store};
     ghost use Rattle.kernel_history.specs.Fields.{past_of};
     ghost use Rattle.kernel_machine.specs.Legal.{IsLegal};
     ghost use Rattle.kernel_history.specs.Bodies.{over_here};

@@ -18,7 +18,7 @@ use Rattle.janus_code.specs.Slotted.{all_slots}
 use Rattle.janus_code.specs.declared.code.Symbol.{Symbol}
 use Rattle.janus_code.specs.declared.code.FlatProcedure as flat
 use Rattle.janus_code.proofs.Slotting.{are_all}
-use Rattle.janus_frames.specs.Cells.{parameters}
+use Rattle.kernel_runner.specs.Cells.{parameters}
 use Rattle.kernel_runner.specs.Bodies.{IsBody, IsBodyAt, AreBodiesFrom}
 use Rattle.kernel_runner.specs.Places.{block_in, names_under}
 use Rattle.kernel_runner.specs.direction.Direction.TheVariants.{Forward}

@@ -17,7 +17,7 @@ use Rattle.janus_check.specs.Names.{Known, heads_in}
 use Rattle.janus_check.specs.WellFormed.{IsWellFormed, IsWellFormedOver}
 use Rattle.janus_check.proofs.SameHeads.{formed_same}
 use Rattle.janus_code.specs.Slotted.{HasEntries}
-use Rattle.janus_frames.specs.StoreState.{StoreState, IsWhole, shown_store}
+use Rattle.kernel_runner.specs.StoreState.{StoreState, IsWhole, shown_store}
 use Rattle.kernel_runner.specs.Bodies.{AreBelow, IsBodyAt, AreBodies, AreBodiesFrom, AreDefined}
 use Rattle.kernel_runner.specs.Procedures.{kept_in}
 use Rattle.kernel_runner.specs.Places.{block_in, names_under}

@@ -17,7 +17,7 @@ use Rattle.janus_check.specs.Names.{shape_in, heads_in}
 use Rattle.janus_check.specs.Checked.{cell_in, known_in, names_seen, heads_called}
 use Rattle.janus_check.specs.declared.checked.Checked.{Checked}
 use Rattle.janus_code.specs.Slotted.{HasEntries}
-use Rattle.janus_frames.specs.StoreState.{shown_store}
+use Rattle.kernel_runner.specs.StoreState.{shown_store}
 use Rattle.kernel_machine.specs.Language.{IsSound}
 use Rattle.kernel_runner.specs.Runner.{ShownWorld}
 use Rattle.kernel_runner.specs.declared.runner.Runner.{Runner}

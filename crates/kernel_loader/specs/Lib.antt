@@ -17,3 +17,6 @@ pub use Rattle.kernel_runner.specs.Bodies
 pub use Rattle.kernel_runner.specs.linked_procedure
 pub use Rattle.kernel_runner.specs.procedures
 pub use Rattle.kernel_runner.specs.LinkedProcedure
+-- Of janus_frames, given again.
+pub use Rattle.kernel_runner.specs.StoreState
+pub use Rattle.kernel_runner.specs.FrameValues

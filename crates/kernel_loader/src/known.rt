@@ -5,7 +5,7 @@ ghost use Rattle.janus_meaning.specs.FormedWorld.{HaveValues};
 ghost use Rattle.janus_syntax.specs.Tree.{procedure_view};
 ghost use Rattle.janus_syntax.specs.View.{plain_procedure};
 ghost use Rattle.janus_check.specs.Names.{shape_in, heads_in};
-ghost use Rattle.janus_frames.specs.StoreState.{shown_store};
+ghost use Rattle.kernel_runner.specs.StoreState.{shown_store};
 ghost use Rattle.kernel_loader.specs.Defined.{in_a_row};
 ghost use Rattle.kernel_loader.specs.Known.{FindTheSame, IsFoundBehind};
 

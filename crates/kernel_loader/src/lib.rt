@@ -28,4 +28,6 @@ mod sight;
 
 pub use crate::loader::load;
 pub use crate::sight::names_in_sight;
-pub use kernel_runner::{Book, CountedStore, Cursor, Procedures, Program, Runner, Store, slice};
+pub use kernel_runner::{
+    Book, CountedStore, Cursor, Procedures, Program, Runner, Store, ValueView, slice,
+};

@@ -8,7 +8,7 @@ ghost use Rattle.janus_slots.specs.Law.{AreListed};
 ghost use Rattle.janus_syntax.specs.View.{plain_cell};
 ghost use Rattle.janus_check.specs.Checked.{cell_in, known_in, names_seen, heads_called};
 ghost use Rattle.janus_code.specs.Slotted.{HasEntries};
-ghost use Rattle.janus_frames.specs.StoreState.{shown_store};
+ghost use Rattle.kernel_runner.specs.StoreState.{shown_store};
 ghost use Rattle.kernel_runner.specs.Places.{block_in as block_of_book, names_under};
 ghost use Rattle.kernel_runner.specs.Procedures.{kept_in};
 ghost use Rattle.kernel_runner.specs.direction.Direction.TheVariants.{Forward};

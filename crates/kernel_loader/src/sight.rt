@@ -3,12 +3,12 @@ ghost use Rattle.std.specs.Prelude.{◌≡◌, [], ◌∷◌, ◌++◌, None, If
 ghost use Rattle.janus_meaning.specs.Shape.{AreDistinct, shape_of, kind_at};
 ghost use Rattle.janus_meaning.specs.FormedWorld.{HaveValues};
 ghost use Rattle.janus_check.specs.Names.{shape_in};
-ghost use Rattle.janus_frames.specs.StoreState.{shown_store};
+ghost use Rattle.kernel_runner.specs.StoreState.{shown_store};
 ghost use Rattle.kernel_runner.specs.Values.{shown};
 ghost use Rattle.kernel_loader.specs.Kinds.{kind_in};
 
 use janus_check::{Env, Kind};
-use janus_frames::ValueView;
+use kernel_runner::ValueView;
 use kernel_runner::Store;
 use std::alloc::{AllocError, Global};
 use std::sync::ledger::Ledger;

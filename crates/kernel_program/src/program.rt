@@ -226,8 +226,8 @@ pub fn refuse_unread_words<E: Write>(kind: ErrorKind, err: &mut E) -> u8
 /// The program `janus-kernel`, over how long connections have, the words of its command line, of which the first is its name, and its two output
 /// streams: it serves the sockets of the connection file until a shutdown, and answers its status. 0 after a shutdown, for help and for the version;
 /// 2 for wrong words or a wrong connection file, 3 where a socket can't be bound, 1 where there is no memory at the start, each with a line to the
-/// errors. A line there also tells that the sockets are not of the loopback, and one that other users can read the connection file. A fault of the two streams is
-/// passed over.
+/// errors. A line there also tells that the sockets are not of the loopback, and one that other users can read the connection file. A fault of the two
+/// streams is passed over.
 pub fn kernel_main<R, S: AsStr, O: Write, E: Write>(
     rt: &R,
     alloc: Global,

@@ -18,8 +18,8 @@ use Rattle.janus_meaning.specs.Stepping.{Frame, Place, BeforeBlock, AfterBlock, 
 use Rattle.janus_meaning.specs.World.{World, Cell, entered, declare, define, stacks_in, size_of}
 use Rattle.janus_meaning.proofs.Worlds.{worlds_reverse, entered_is_good}
 use Rattle.janus_meaning.proofs.FormedWorlds.{shape_declared, entered_formed}
-use Rattle.janus_frames.specs.Calls.{Caller, stacks_lent, own_names}
-use Rattle.janus_frames.specs.StoreState.{StoreState, IsWhole, shown_store, live_stacks}
+use Rattle.janus_machine.specs.FrameCalls.{Caller, stacks_lent, own_names}
+use Rattle.janus_machine.specs.StoreState.{StoreState, IsWhole, shown_store, live_stacks}
 use Rattle.janus_machine.specs.LinearOpen.{locals_in}
 use Rattle.janus_machine.specs.Within.{within}
 use Rattle.janus_machine.specs.Bodies.{AreDefined, AreBodiesFrom, Define, onto}

@@ -1,7 +1,7 @@
 -- What a runner counts.
 use Rattle.std.proofs.Common.{◌≡◌, ℕ, sym, ap, subst}
 use Rattle.janus_meaning.specs.Writes.{IsWritten}
-use Rattle.janus_frames.specs.StoreState.{StoreState}
+use Rattle.janus_machine.specs.StoreState.{StoreState}
 use Rattle.janus_machine.specs.CountedStore.{steps_in}
 use Rattle.janus_machine.specs.declared.counted_store.CountedStore.{CountedStore}
 use Rattle.janus_machine.specs.Steps.{TakesSafeSteps}

@@ -18,8 +18,8 @@ use Rattle.janus_syntax.specs.declared.tree.Declaration as Tree
 use Rattle.janus_names.specs.Numbers.{IsUnmet}
 use Rattle.janus_slots.specs.Slots.{slot, names_in, in_slots, under_names}
 use Rattle.janus_slots.proofs.Whole.{names_size, stacks_same}
-use Rattle.janus_frames.specs.StoreState.{StoreState, state_of, IsWhole, Declares, shown_store}
-use Rattle.janus_frames.specs.Stores.{IsFirstOnTop, rest_of}
+use Rattle.janus_machine.specs.StoreState.{StoreState, state_of, IsWhole, Declares, shown_store}
+use Rattle.janus_machine.specs.Stores.{IsFirstOnTop, rest_of}
 use Rattle.kernel_runner.specs.Declarable.{HasStackRoom}
 use Rattle.kernel_runner.specs.Runner.{Becomes}
 use Rattle.kernel_runner.proofs.Slotted.{whole_in_sight}

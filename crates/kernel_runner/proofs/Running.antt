@@ -13,8 +13,8 @@ use Rattle.janus_meaning.specs.Limit.{step_limit}
 use Rattle.janus_meaning.proofs.Worlds.{worlds_start_and_end}
 use Rattle.janus_slots.specs.Slots.{names_in, in_slots, under_names, outside_in, procedures_in}
 use Rattle.janus_slots.proofs.Whole.{names_size, size_same, twice_same, under_named}
-use Rattle.janus_frames.specs.Calls.{Caller, given_back}
-use Rattle.janus_frames.specs.StoreState.{IsWhole, declared_store, shown_store}
+use Rattle.janus_machine.specs.FrameCalls.{Caller, given_back}
+use Rattle.janus_machine.specs.StoreState.{IsWhole, declared_store, shown_store}
 use Rattle.janus_machine.specs.Open.{Agrees}
 use Rattle.janus_machine.specs.Nested.{AreOpenCalls}
 use Rattle.janus_machine.specs.Cursors.{place_of, has_ended, IsStanding}

@@ -11,8 +11,8 @@ use Rattle.janus_meaning.specs.Limit.{IsWithin}
 use Rattle.janus_meaning.proofs.Worlds.{oldest_whole}
 use Rattle.janus_slots.specs.Slots.{names_in, in_slots, under_names, outside_in}
 use Rattle.janus_slots.proofs.Whole.{each_same, held_same, under_same, under_named, under_slots}
-use Rattle.janus_frames.specs.Calls.{Caller, given_back}
-use Rattle.janus_frames.specs.StoreState.{StoreState, IsWhole, declared_store, shown_store}
+use Rattle.janus_machine.specs.FrameCalls.{Caller, given_back}
+use Rattle.janus_machine.specs.StoreState.{StoreState, IsWhole, declared_store, shown_store}
 
 pub good_slots : (entries : List Name) (w : World) → IsGoodWorld w → IsGood (outside_in entries (around w)) (in_slots w.store)
 good_slots entries w h = (

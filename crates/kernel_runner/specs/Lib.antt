@@ -14,3 +14,7 @@ pub use Rattle.janus_machine.specs.LinkedProcedure
 pub use Rattle.janus_machine.specs.Places
 pub use Rattle.janus_machine.specs.declared.linked_code
 pub use Rattle.janus_machine.specs.declared.direction
+-- Of janus_frames, given again.
+pub use Rattle.janus_machine.specs.StoreState
+pub use Rattle.janus_machine.specs.Cells
+pub use Rattle.janus_machine.specs.FrameValues

@@ -8,7 +8,7 @@ use Rattle.janus_meaning.specs.Cells.{IsGoodWorld}
 use Rattle.janus_meaning.specs.Limit.{step_limit}
 use Rattle.janus_slots.specs.Slots.{names_in, in_slots, block_in, procedures_in}
 use Rattle.janus_slots.specs.Law.{AreListed}
-use Rattle.janus_frames.specs.StoreState.{StoreState, IsWhole, shown_store}
+use Rattle.janus_machine.specs.StoreState.{StoreState, IsWhole, shown_store}
 use Rattle.janus_machine.specs.Open.{Agrees}
 use Rattle.janus_machine.specs.Bodies.{AreBelow, Define}
 use Rattle.janus_machine.specs.Cursor as cursors

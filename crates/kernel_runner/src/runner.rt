@@ -11,7 +11,7 @@ ghost use Rattle.janus_syntax.specs.Tree.{declaration_view, declarations_view};
 ghost use Rattle.janus_syntax.specs.View.{plain_declaration};
 ghost use Rattle.kernel_runner.specs.Program.{cell_of_program};
 ghost use Rattle.janus_names.specs.Numbers.{IsUnmet};
-ghost use Rattle.janus_frames.specs.StoreState.{IsWhole, shown_store};
+ghost use Rattle.janus_machine.specs.StoreState.{IsWhole, shown_store};
 ghost use Rattle.janus_machine.specs.Procedures.{kept_in};
 ghost use Rattle.janus_machine.specs.Bodies.{AreDefined, AreBelow};
 ghost use Rattle.janus_meaning.specs.Writes.{IsWritten};

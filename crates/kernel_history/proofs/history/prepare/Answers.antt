@@ -5,7 +5,7 @@ use Rattle.janus_meaning.specs.World.{World, declare}
 use Rattle.kernel_machine.specs.State.{here}
 use Rattle.kernel_machine.specs.Text.{Accepts, Refuses}
 use Rattle.janus_slots.specs.Slots.{names_in}
-use Rattle.janus_frames.specs.StoreState.{StoreState}
+use Rattle.kernel_loader.specs.StoreState.{StoreState}
 use Rattle.kernel_loader.specs.Program.{IsReady, cell_of_program, declarations_of}
 use Rattle.kernel_loader.specs.Runner.{world_of}
 use Rattle.kernel_loader.specs.Defined.{in_a_row}

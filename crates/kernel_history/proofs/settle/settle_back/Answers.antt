@@ -1,6 +1,6 @@
 use Rattle.std.proofs.Common.{List, take, refl, sym, ap, ◌∙◌, subst}
 use Rattle.janus_meaning.specs.Syntax.{Name}
-use Rattle.janus_frames.specs.StoreState.{StoreState, IsWhole}
+use Rattle.kernel_loader.specs.StoreState.{StoreState, IsWhole}
 use Rattle.kernel_loader.proofs.Unlisted.{shows_less}
 use Rattle.kernel_history.specs.Fields.{past_of, work_of}
 use Rattle.kernel_history.specs.Bodies.{bodies_at}

@@ -7,7 +7,7 @@ use Rattle.janus_syntax.specs.View.{plain_cell}
 use Rattle.janus_check.specs.Checked.{known_in}
 use Rattle.janus_check.specs.Names.{Known}
 use Rattle.kernel_machine.specs.Text.{Accepts, Refuses}
-use Rattle.janus_frames.specs.StoreState.{shown_store}
+use Rattle.kernel_runner.specs.StoreState.{shown_store}
 use Rattle.kernel_runner.specs.Program.{IsReady}
 use Rattle.kernel_runner.specs.Runner.{ShownWorld, world_of, over}
 use Rattle.kernel_runner.specs.declared.program.Program.{Program}

@@ -5,7 +5,7 @@ use Rattle.janus_meaning.specs.World.{size_of}
 use Rattle.janus_check.specs.Names as names
 use Rattle.janus_check.specs.declared.env.Kind.{Kind}
 use Rattle.janus_check.specs.declared.env.Kind.TheVariants.{Number}
-use Rattle.janus_frames.specs.StoreState.{shown_store}
+use Rattle.kernel_runner.specs.StoreState.{shown_store}
 use Rattle.kernel_runner.specs.Values.{shown}
 use Rattle.kernel_loader.specs.Kinds.{kind_in}
 use Rattle.kernel_loader.proofs.Entries.{entries, entries_shape, entries_count, entry_new, entry_read, taken_more, taken_all}

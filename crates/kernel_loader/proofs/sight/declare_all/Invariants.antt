@@ -1,5 +1,5 @@
 use Rattle.std.proofs.Common.{◌≡◌, take}
-use Rattle.janus_frames.specs.StoreState.{shown_store}
+use Rattle.kernel_runner.specs.StoreState.{shown_store}
 use Rattle.kernel_loader.proofs.Entries.{entries}
 use Rattle.kernel_loader.proofs.sight.declare_all.Given as goal
 

@@ -3,7 +3,7 @@ use Rattle.janus_meaning.specs.Syntax.{Name}
 use Rattle.janus_meaning.specs.Store.{Store}
 use Rattle.janus_names.specs.Numbers.{IsUnmet}
 use Rattle.janus_slots.specs.Slots.{names_in}
-use Rattle.janus_frames.specs.StoreState.{shown_store}
+use Rattle.janus_machine.specs.StoreState.{shown_store}
 use Rattle.janus_meaning.specs.World.{Declaration, DeclareInt, declare, declare_one, declared_name}
 use Rattle.kernel_runner.specs.Declarable.{HasStackRoom}
 use Rattle.janus_syntax.specs.Tree.{declaration_view, declarations_view}

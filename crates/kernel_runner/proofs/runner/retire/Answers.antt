@@ -1,8 +1,8 @@
 use Rattle.std.proofs.Common.{◌≡◌, ℕ, ◌+◌, ◌<◌, length, sym, ap, ◌∙◌, subst, arith, add-one}
 use Rattle.janus_meaning.specs.Store.{Store}
 use Rattle.janus_meaning.specs.World.{dropped, declare}
-use Rattle.janus_frames.specs.StoreState.{shown_store}
-use Rattle.janus_frames.specs.Stores.{IsFirstOnTop, rest_of}
+use Rattle.janus_machine.specs.StoreState.{shown_store}
+use Rattle.janus_machine.specs.Stores.{IsFirstOnTop, rest_of}
 use Rattle.kernel_runner.proofs.Declaring.{dropped_more, dropped_all, first_on_top, first_in_slots, becomes_then, becomes_rest, becomes_same}
 use Rattle.kernel_runner.proofs.Slotted.{whole_is}
 use Rattle.kernel_runner.proofs.runner.retire.Goals as goal

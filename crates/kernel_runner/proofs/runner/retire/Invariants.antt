@@ -1,5 +1,5 @@
 use Rattle.janus_meaning.specs.World.{dropped}
-use Rattle.janus_frames.specs.StoreState.{shown_store}
+use Rattle.janus_machine.specs.StoreState.{shown_store}
 use Rattle.kernel_runner.specs.Runner.{Becomes}
 use Rattle.kernel_runner.proofs.runner.retire.Given as goal
 

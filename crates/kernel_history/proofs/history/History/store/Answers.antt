@@ -1,5 +1,5 @@
 use Rattle.std.proofs.Common.{◌≡◌, ◌∙◌, sym, subst}
-use Rattle.janus_frames.specs.StoreState.{shown_store}
+use Rattle.kernel_loader.specs.StoreState.{shown_store}
 use Rattle.kernel_machine.specs.State as state
 use Rattle.kernel_machine.specs.State.{here}
 use Rattle.kernel_history.specs.CountedState.{CountedState}

@@ -4,7 +4,7 @@ use Rattle.janus_meaning.specs.Syntax.{Proc}
 use Rattle.janus_meaning.specs.World.{declare}
 use Rattle.janus_syntax.specs.Tree.{procedure_view, procedures_view}
 use Rattle.janus_syntax.specs.View.{plain_procedure}
-use Rattle.janus_frames.specs.StoreState.{shown_store}
+use Rattle.janus_machine.specs.StoreState.{shown_store}
 use Rattle.janus_machine.specs.Bodies.{AreDefined, onto}
 use Rattle.kernel_runner.specs.Program.{procedures_of}
 use Rattle.kernel_runner.proofs.Borders.{entered_here}

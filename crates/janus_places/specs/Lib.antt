@@ -1,0 +1,3 @@
+pub mod Spots
+pub mod Standing
+pub mod Table

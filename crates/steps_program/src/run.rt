@@ -1,0 +1,202 @@
+//! All of it over a file's text.
+
+use crate::command::Command;
+use crate::output::send_where;
+use crate::source::{Source, Stray, count_cells, run_before};
+use crate::talk::obey;
+use kernel_core::{Begun, CellText, Job, Kernel};
+use kernel_text::{WriteFailed, send, send_outcome, send_post_fault};
+use std::alloc::Global;
+use std::io::{BufRead, Write};
+use std::marker::Brand;
+use std::sync::ledger::{Blank, Ledger};
+use steps_walk::Walk;
+use thiserror::Error;
+
+/// Why a run ends before its commands are obeyed.
+#[derive(Clone, Copy, Debug, Error)]
+pub enum RunFault {
+    /// The file has no cell of the number.
+    #[error("no such cell")]
+    NoCell,
+    /// The text of the cell, or of one before it, is refused.
+    #[error("refused")]
+    Refused,
+    #[error("no memory")]
+    Memory,
+    #[error("cannot read")]
+    Read,
+    #[error("cannot write")]
+    Write,
+}
+
+impl From<WriteFailed> for RunFault {
+    fn from(_: WriteFailed) -> RunFault {
+        RunFault::Write
+    }
+}
+
+impl From<Stray> for RunFault {
+    fn from(stray: Stray) -> RunFault {
+        match stray {
+            Stray::NoCell => RunFault::NoCell,
+            Stray::Memory => RunFault::Memory,
+            Stray::Write => RunFault::Write,
+        }
+    }
+}
+
+/// Walks through a cell of a file, by its number from 1, or through the last one: the cells before it are run, and then commands are read and obeyed until
+/// there are none, or `quit`.
+pub fn run<R: BufRead + Drop, W: Write>(
+    alloc: Global,
+    file: &str,
+    cell: Option<usize>,
+    reader: &mut R,
+    writer: &mut W,
+) -> Result<(), RunFault> {
+    run_counted::<Brand, R, W>(alloc, Blank::new(2), file, cell, reader, writer)
+}
+
+/// Does what [`run`] says. The blank opens the ledger of the kernel.
+fn run_counted<L: Ledger, R: BufRead + Drop, W: Write>(
+    alloc: Global,
+    blank: Blank,
+    file: &str,
+    cell: Option<usize>,
+    reader: &mut R,
+    writer: &mut W,
+) -> Result<(), RunFault>
+    requires name { blank.name ≡ L.name }
+    requires parts { blank.parts ≡ L.parts }
+    requires two { 1 < L.parts }
+{
+    let Ok(mut kernel) = Kernel::<L>::new(alloc, blank) else {
+        return Err(RunFault::Memory);
+    };
+    let number = match cell {
+        Some(number) => number,
+        None => count_cells(file),
+    };
+    let (source, mut sources) = match run_before(alloc, &mut kernel, file, number, writer) {
+        Ok(found) => found,
+        Err(stray) => {
+            kernel.discard();
+            return Err(RunFault::from(stray));
+        }
+    };
+    let walk = enter(alloc, kernel, source.text.as_str(), writer)?;
+    if sources.push(source).is_err() {
+        walk.discard();
+        return Err(RunFault::Memory);
+    }
+    walk_through(alloc, walk, sources.as_slice(), reader, writer)
+}
+
+/// Begins a cell, and takes it out of the kernel, to be walked through. Where its text is refused, that is told.
+fn enter<L: Ledger, W: Write>(
+    alloc: Global,
+    kernel: Kernel<L>,
+    text: &str,
+    writer: &mut W,
+) -> Result<Walk<L>, RunFault> {
+    let mut kernel = kernel;
+    if let Err(fault) = begin(alloc, &mut kernel, text, writer) {
+        kernel.discard();
+        return Err(fault);
+    }
+    let Some(open) = kernel.into_open_cell() else {
+        return Err(RunFault::Refused);
+    };
+    match Walk::of(alloc, open) {
+        Ok(walk) => Ok(walk),
+        Err(_) => Err(RunFault::Memory),
+    }
+}
+
+/// Posts a cell, and begins it.
+fn begin<L: Ledger, W: Write>(
+    alloc: Global,
+    kernel: &mut Kernel<L>,
+    text: &str,
+    writer: &mut W,
+) -> Result<(), RunFault> {
+    let Ok(text) = String::from_str(alloc, text) else {
+        return Err(RunFault::Memory);
+    };
+    let Ok(code) = CellText::new(alloc, text) else {
+        return Err(RunFault::Memory);
+    };
+    let job = Job::Cell {
+        code,
+        silent: false,
+        store: true,
+    };
+    if let Err(fault) = kernel.post(0, job) {
+        send_post_fault(writer, fault)?;
+        send(writer, b"\n")?;
+        return Err(RunFault::Refused);
+    }
+    match kernel.begin() {
+        Begun::Going => Ok(()),
+        Begun::Ended(outcome) => {
+            send_outcome(writer, &outcome)?;
+            send(writer, b"\n")?;
+            Err(RunFault::Refused)
+        }
+        Begun::Nothing => Err(RunFault::Refused),
+    }
+}
+
+/// Tells where the walk begins, and obeys.
+fn walk_through<L: Ledger, R: BufRead + Drop, W: Write>(
+    alloc: Global,
+    walk: Walk<L>,
+    sources: &[Source],
+    reader: &mut R,
+    writer: &mut W,
+) -> Result<(), RunFault> {
+    let mut walk = walk;
+    let told = send_where(writer, &walk, sources);
+    let ended = match told {
+        Ok(()) => obey_all(alloc, &mut walk, sources, reader, writer),
+        Err(_) => Err(RunFault::Write),
+    };
+    walk.discard();
+    ended
+}
+
+/// Writes all that was held back.
+fn flush<W: Write>(writer: &mut W) -> Result<(), RunFault> {
+    match writer.flush() {
+        Ok(()) => Ok(()),
+        Err(_) => Err(RunFault::Write),
+    }
+}
+
+/// Reads commands and obeys them, until there are none, or `quit`.
+fn obey_all<L: Ledger, R: BufRead + Drop, W: Write>(
+    alloc: Global,
+    walk: &mut Walk<L>,
+    sources: &[Source],
+    reader: &mut R,
+    writer: &mut W,
+) -> Result<(), RunFault> {
+    flush(writer)?;
+    let mut line = String::new(alloc);
+    for _ in 0..u64::MAX {
+        line.clear();
+        match reader.read_line(&mut line) {
+            Ok(0) => return Ok(()),
+            Ok(_) => {}
+            Err(_) => return Err(RunFault::Read),
+        }
+        let command = Command::read(line.as_str());
+        if let Command::Quit = command {
+            return Ok(());
+        }
+        obey(alloc, walk, sources, command, writer)?;
+        flush(writer)?;
+    }
+    Ok(())
+}

@@ -1,0 +1,2 @@
+pub mod FacingOn
+pub mod Standing

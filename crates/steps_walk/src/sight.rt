@@ -1,0 +1,103 @@
+//! The names in sight with their values.
+
+use crate::level::Level;
+use crate::walk::Walk;
+use janus_frames::ValueView;
+use janus_syntax::tree::Parameter;
+use std::alloc::{AllocError, Global};
+use std::sync::ledger::Ledger;
+
+/// The names that are in sight where a walk stands, the oldest first: outside of calls the declared ones, in a call its parameters, and then the locals.
+#[derive(Drop)]
+pub struct Sight {
+    pub names: Vec<String>,
+}
+
+impl Sight {
+    /// The slot of the newest of this name.
+    pub fn slot(&self, name: &str) -> Option<usize> {
+        for i in (0..self.names.len()).rev() {
+            if self.names[i].as_str() == name {
+                return Some(i);
+            }
+        }
+        None
+    }
+}
+
+/// The name of a parameter.
+fn name_of(parameter: &Parameter) -> &str {
+    match parameter {
+        Parameter::Int(name) | Parameter::Array(name) | Parameter::Stack(name) => {
+            name.text.as_str()
+        }
+    }
+}
+
+impl<L: Ledger> Walk<L> {
+    /// The names in sight at the innermost level; the only error is want of memory.
+    pub fn sight(&self, alloc: Global, level: &Level) -> Result<Sight, AllocError> {
+        let mut names = Vec::new(alloc);
+        match level.procedure {
+            None => self.add_declared(alloc, &mut names)?,
+            Some(procedure) => self.add_parameters(alloc, level.node, procedure, &mut names)?,
+        }
+        self.add_locals(alloc, level, &mut names)?;
+        Ok(Sight { names })
+    }
+
+    /// Adds the declared names.
+    fn add_declared(&self, alloc: Global, names: &mut Vec<String>) -> Result<(), AllocError> {
+        let texts = self.open.runner.counted.store.texts();
+        for i in 0..texts.len() {
+            names.push(String::from_str(alloc, texts.name(i))?)?;
+        }
+        Ok(())
+    }
+
+    /// Adds the parameters of a procedure: the first one stands on top.
+    fn add_parameters(
+        &self,
+        alloc: Global,
+        node: Option<usize>,
+        procedure: usize,
+        names: &mut Vec<String>,
+    ) -> Result<(), AllocError> {
+        let Some(procedure) = self.procedures_of(node).get(procedure) else {
+            return Ok(());
+        };
+        for i in (0..procedure.parameters.len()).rev() {
+            let name = name_of(&procedure.parameters[i]);
+            names.push(String::from_str(alloc, name)?)?;
+        }
+        Ok(())
+    }
+
+    /// Adds the locals that are open at a level.
+    fn add_locals(
+        &self,
+        alloc: Global,
+        level: &Level,
+        names: &mut Vec<String>,
+    ) -> Result<(), AllocError> {
+        let Some(table) = self.table(level) else {
+            return Ok(());
+        };
+        if level.at >= table.len() {
+            return Ok(());
+        }
+        let locals = table.locals(alloc, level.at)?;
+        for i in (0..locals.len()).rev() {
+            names.push(String::from_str(alloc, locals[i])?)?;
+        }
+        Ok(())
+    }
+
+    /// The value of the name in a slot, if one is in sight.
+    pub fn value(&self, slot: usize) -> Option<ValueView<'_>> {
+        if slot >= self.open.runner.counted.store.sight_len() {
+            return None;
+        }
+        Some(self.open.runner.counted.store.sight_entry(slot))
+    }
+}
