@@ -157,7 +157,7 @@ pub(crate) fn go_on<L: Ledger>(
     ensures walks { IsWalking walk.new }
     ensures moves { Moves walk.old walk.new }
 {
-    for _i in 0..u64::MAX {
+    for _ in 0..u64::MAX {
         if let Some(came) = step_on(alloc, walk, sources, goal) {
             return came;
         }
@@ -176,7 +176,7 @@ pub(crate) fn go_back<L: Ledger>(
     ensures walks { IsWalking walk.new }
     ensures moves { Moves walk.old walk.new }
 {
-    for _i in 0..walk.count() {
+    for _ in 0..walk.count() {
         walk.back(1);
         if let Some(came) = arrived(alloc, walk, sources, goal) {
             return came;

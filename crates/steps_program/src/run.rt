@@ -193,7 +193,7 @@ fn obey_all<L: Ledger, R: BufRead + Drop, W: Write>(
 {
     flush(writer)?;
     let mut line = String::new(alloc);
-    for _i in 0..u64::MAX {
+    for _ in 0..u64::MAX {
         line.clear();
         match reader.read_line(&mut line) {
             Ok(0) => return Ok(()),
