@@ -3,10 +3,10 @@
 use std::alloc::{AllocError, Global};
 use steps_walk::ValueView;
 
-/// A value that is kept; none where its name was not in sight.
+/// A value that is kept; it is absent where its name was not in sight.
 #[derive(Drop)]
 pub(crate) enum Kept {
-    None,
+    Absent,
     Number(i32),
     Array(Vec<i32>),
     Stack(Vec<i32>),
@@ -17,7 +17,7 @@ impl Kept {
     pub(crate) fn of(alloc: Global, value: Option<ValueView<'_>>) -> Result<Kept, AllocError> {
         let mut all = Vec::new(alloc);
         match value {
-            None => Ok(Kept::None),
+            None => Ok(Kept::Absent),
             Some(ValueView::Number(number)) => Ok(Kept::Number(number)),
             Some(ValueView::Array(items)) => {
                 for i in 0..items.len() {
@@ -37,7 +37,7 @@ impl Kept {
     /// Whether a value is this one.
     pub(crate) fn is(&self, value: Option<ValueView<'_>>) -> bool {
         match (self, value) {
-            (Kept::None, None) => true,
+            (Kept::Absent, None) => true,
             (Kept::Number(old), Some(ValueView::Number(new))) => *old == new,
             (Kept::Array(old), Some(ValueView::Array(new))) => are_same(old.as_slice(), new),
             (Kept::Stack(old), Some(ValueView::Stack(new))) => {

@@ -95,7 +95,7 @@ fn until<L: Ledger, W: Write>(
 }
 
 /// The value of a name in sight, kept; the only error is want of memory.
-fn kept<L: Ledger>(alloc: Global, walk: &Walk<L>, name: &str) -> Result<Kept, AllocError> {
+fn keep_value<L: Ledger>(alloc: Global, walk: &Walk<L>, name: &str) -> Result<Kept, AllocError> {
     Kept::of(alloc, value_of(alloc, walk, name)?)
 }
 
@@ -112,7 +112,7 @@ fn watch<L: Ledger, W: Write>(
     ensures walks { IsWalking walk.new }
     ensures moves { Moves walk.old walk.new }
 {
-    match kept(alloc, walk, name) {
+    match keep_value(alloc, walk, name) {
         Ok(old) => {
             let goal = Goal::Changes(name, walk.open_calls(), old);
             go(alloc, walk, sources, goal, is_onward, writer)

@@ -28,7 +28,7 @@ pub struct Walk<L: Ledger> {
 }
 
 /// The places of the cells from the position of a tree up to its root; the only error is want of memory.
-fn before(alloc: Global, tree: &HistoryTree) -> Result<Vec<Before>, AllocError> {
+fn cells_before(alloc: Global, tree: &HistoryTree) -> Result<Vec<Before>, AllocError> {
     let mut all = Vec::new(alloc);
     let mut node = tree.position;
     // A parent's number is smaller.
@@ -56,7 +56,7 @@ impl<L: Ledger> Walk<L> {
         ensures table { IfOk result HasTable }
     {
         let tables = CellTables::of(alloc, &open.program.cell)?;
-        let before = before(alloc, &open.tree)?;
+        let before = cells_before(alloc, &open.tree)?;
         Ok(Walk {
             open,
             tables,
