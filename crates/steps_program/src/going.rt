@@ -104,12 +104,12 @@ fn is_there<L: Ledger>(
         Goal::Next(depth) => Ok(walk.open_calls() <= *depth && is_stop(walk)),
         Goal::Fewer(depth) => Ok(walk.open_calls() < *depth),
         Goal::Line(line) => Ok(is_on_line(walk, sources, *line)),
-        Goal::Holds(exp) => holds(alloc, walk, exp),
+        Goal::Holds(exp) => holds(alloc, walk, *exp),
         Goal::Changes(name, depth, old) => {
             if walk.open_calls() != *depth {
                 return Ok(false);
             }
-            Ok(!old.is(value_of(alloc, walk, name)?))
+            Ok(!old.is(value_of(alloc, walk, *name)?))
         }
     }
 }

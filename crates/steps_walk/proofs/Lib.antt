@@ -1,3 +1,4 @@
 pub mod FacingOn
 pub mod Standing
 pub mod Moving
+pub mod Sights

@@ -36,7 +36,7 @@ IsWalking w = IsInside (runner_of w) (program_of w) false
 
 -- the walk with another runner
 abbrev pub with_runner : {L : Type 0} → Walk L → Runner L → Walk L
-with_runner w r = record { open = record { runner = r; program = w.open.program; tree = w.open.tree }; tables = w.tables; before = w.before }
+with_runner w r = record { «open» = record { runner = r; program = w.open.program; tree = w.open.tree }; tables = w.tables; before = w.before }
 
 -- It has moved in its run, and nothing else of it is changed: wherever it stood, it stands in the run of the same code from the same world, behind some
 -- number of its steps.

@@ -15,8 +15,9 @@
 //! open cell, and its steps), `level` (where it stands, in the cell and in the open calls), `sight` (the names in sight with their values), `evaluation` (an
 //! expression over them).
 //!
-//! The definitions, in specs/, in reading order: `Walking` (what steps back do to where a runner stands), `Where` (what is told of where it stands), `Walk`
-//! (what contracts see of a walk, and how it moves), `Standing` (what is told of where it stands), `Sights` (which of the names in sight one stands for).
+//! The definitions, in specs/, in reading order: `Walking` (what steps back do to where a runner stands), `Where` (what stands in the text at the place to
+//! which steps have led), `Walk` (what contracts see of a walk, and how it moves), `Standing` (what is told of where it stands), `Sights` (which of the names
+//! in sight one stands for).
 //!
 //! It gives again what programs over it cite of the layers below: parts of statements, places of texts, expressions, values and how steps end.
 #![tactic(auto)]
