@@ -16,3 +16,5 @@ pub mod Gathering
 pub mod Determined
 pub mod OpenJob
 pub mod CommandLine
+-- Of kernel_core, given again.
+pub use Rattle.kernel_core.specs.State

@@ -1,14 +1,14 @@
 //! How far a command goes.
+ghost use Rattle.steps_walk.specs.Walk.{IsWalking, Moves};
+ghost use Rattle.steps_program.specs.Obeyed.{GoesOn};
 
+use crate::kept::Kept;
 use crate::output::place_of;
 use crate::source::{Source, source_of};
-use janus_memory::ValueView;
-use janus_syntax::tree::Exp;
-use kernel_machine::Progress;
-use kernel_text::Fault;
+use cells_program::Fault;
 use std::alloc::{AllocError, Global};
 use std::sync::ledger::Ledger;
-use steps_walk::{Walk, number_of};
+use steps_walk::{Exp, Level, Progress, Spot, ValueView, Walk, number_of};
 
 /// Where a command has led.
 #[derive(Clone, Copy)]
@@ -25,8 +25,8 @@ pub(crate) enum Came {
     Memory,
 }
 
-/// How far a command goes on.
-#[derive(Clone, Copy)]
+/// How far a command goes.
+#[derive(Drop)]
 pub(crate) enum Goal<'a> {
     /// To the next statement or test with at most so many open calls.
     Next(usize),
@@ -37,54 +37,60 @@ pub(crate) enum Goal<'a> {
     /// Until an expression over the names in sight holds.
     Holds(&'a Exp),
     /// Until the value of a name, where so many calls are open, is another one than this.
-    Changes(&'a str, usize, u64),
+    Changes(&'a str, usize, Kept),
 }
 
-/// A number of a value by which a change of it is seen.
-fn mark_of(value: ValueView<'_>) -> u64 {
-    match value {
-        ValueView::Number(number) => mixed(1, number),
-        ValueView::Array(items) => {
-            let mut mark = 2;
-            for item in items {
-                mark = mixed(mark, *item);
-            }
-            mark
-        }
-        ValueView::Stack(values) => {
-            let mut mark = mixed(3, values.len() as i32);
-            for value in values {
-                mark = mixed(mark, value);
-            }
-            mark
-        }
-    }
-}
-
-/// A mark with one number more.
-fn mixed(mark: u64, number: i32) -> u64 {
-    (mark ^ (number as u32 as u64))
-        .wrapping_mul(1_099_511_628_211)
-        .rotate_left(23)
-}
-
-/// The mark of the value of a name; 0 where it is not in sight.
-pub(crate) fn mark<L: Ledger>(
+/// The value of a name in sight; the only error is want of memory.
+pub(crate) fn value_of<'a, L: Ledger>(
     alloc: Global,
-    walk: &Walk<L>,
+    walk: &'a Walk<L>,
     name: &str,
-) -> Result<u64, AllocError> {
-    let Some(level) = walk.here() else {
-        return Ok(0);
+) -> Result<Option<ValueView<'a>>, AllocError> {
+    let Some((level, _)) = walk.stand() else {
+        return Ok(None);
     };
     let sight = walk.sight(alloc, &level)?;
-    let Some(slot) = sight.slot(name) else {
-        return Ok(0);
-    };
-    match walk.value(slot) {
-        Some(value) => Ok(mark_of(value)),
-        None => Ok(0),
+    match sight.slot(name) {
+        Some(slot) => Ok(walk.value(slot)),
+        None => Ok(None),
     }
+}
+
+/// Whether an expression over the names in sight holds; the only error is want of memory.
+fn holds<L: Ledger>(alloc: Global, walk: &Walk<L>, exp: &Exp) -> Result<bool, AllocError> {
+    let Some((level, _)) = walk.stand() else {
+        return Ok(false);
+    };
+    let sight = walk.sight(alloc, &level)?;
+    match number_of(walk, &sight, exp) {
+        Ok(number) => Ok(number != 0),
+        Err(_) => Ok(false),
+    }
+}
+
+/// Whether the next step begins a statement or makes one of its tests.
+fn is_stop<L: Ledger>(walk: &Walk<L>) -> bool {
+    match walk.stand() {
+        Some((level, spot)) => spot.is_stop(level.inverse),
+        None => true,
+    }
+}
+
+/// Whether such a step stands on a line of the file.
+fn is_on_line<L: Ledger>(walk: &Walk<L>, sources: &[Source], line: usize) -> bool {
+    match walk.stand() {
+        Some((level, spot)) => {
+            spot.is_stop(level.inverse) && line_at(sources, &level, spot) == Some(line)
+        }
+        None => false,
+    }
+}
+
+/// The line of the file on which a spot stands.
+fn line_at(sources: &[Source], level: &Level, spot: Spot) -> Option<usize> {
+    let source = source_of(sources, level.node)?;
+    let place = place_of(source, spot)?;
+    Some(place.line)
 }
 
 /// Whether the walk stands where a command goes; the only error is want of memory.
@@ -92,56 +98,51 @@ fn is_there<L: Ledger>(
     alloc: Global,
     walk: &Walk<L>,
     sources: &[Source],
-    goal: Goal<'_>,
+    goal: &Goal<'_>,
 ) -> Result<bool, AllocError> {
     match goal {
-        Goal::Next(depth) => {
-            if walk.open_calls() > depth {
-                return Ok(false);
-            }
-            let Some(level) = walk.here() else {
-                return Ok(true);
-            };
-            match walk.spot(&level) {
-                Some(spot) => Ok(spot.is_stop(level.inverse)),
-                None => Ok(true),
-            }
-        }
-        Goal::Fewer(depth) => Ok(walk.open_calls() < depth),
-        Goal::Line(line) => {
-            let Some(level) = walk.here() else {
-                return Ok(false);
-            };
-            let Some(spot) = walk.spot(&level) else {
-                return Ok(false);
-            };
-            if !spot.is_stop(level.inverse) {
-                return Ok(false);
-            }
-            let Some(source) = source_of(sources, level.node) else {
-                return Ok(false);
-            };
-            match place_of(source, spot) {
-                Some(place) => Ok(place.line == line),
-                None => Ok(false),
-            }
-        }
-        Goal::Holds(exp) => {
-            let Some(level) = walk.here() else {
-                return Ok(false);
-            };
-            let sight = walk.sight(alloc, &level)?;
-            match number_of(walk, &sight, exp) {
-                Ok(number) => Ok(number != 0),
-                Err(_) => Ok(false),
-            }
-        }
+        Goal::Next(depth) => Ok(walk.open_calls() <= *depth && is_stop(walk)),
+        Goal::Fewer(depth) => Ok(walk.open_calls() < *depth),
+        Goal::Line(line) => Ok(is_on_line(walk, sources, *line)),
+        Goal::Holds(exp) => holds(alloc, walk, exp),
         Goal::Changes(name, depth, old) => {
-            if walk.open_calls() != depth {
+            if walk.open_calls() != *depth {
                 return Ok(false);
             }
-            Ok(mark(alloc, walk, name)? != old)
+            Ok(!old.is(value_of(alloc, walk, name)?))
         }
+    }
+}
+
+/// Where the walk has come, if the command goes no further.
+fn arrived<L: Ledger>(
+    alloc: Global,
+    walk: &Walk<L>,
+    sources: &[Source],
+    goal: &Goal<'_>,
+) -> Option<Came> {
+    match is_there(alloc, walk, sources, goal) {
+        Ok(true) => Some(Came::There),
+        Ok(false) => None,
+        Err(_) => Some(Came::Memory),
+    }
+}
+
+/// Takes a step on, and tells where that has led, if the command goes no further.
+fn step_on<L: Ledger>(
+    alloc: Global,
+    walk: &mut Walk<L>,
+    sources: &[Source],
+    goal: &Goal<'_>,
+) -> Option<Came>
+    requires { IsWalking walk.old }
+    ensures walks { IsWalking walk.new }
+    ensures moves { Moves walk.old walk.new }
+{
+    match walk.on(1) {
+        Progress::Ended(_) => Some(Came::End),
+        Progress::Stopped(_, fault) => Some(Came::Fault(fault)),
+        Progress::Went => arrived(alloc, walk, sources, goal),
     }
 }
 
@@ -150,18 +151,15 @@ pub(crate) fn go_on<L: Ledger>(
     alloc: Global,
     walk: &mut Walk<L>,
     sources: &[Source],
-    goal: Goal<'_>,
-) -> Came {
+    goal: &Goal<'_>,
+) -> Came
+    requires { IsWalking walk.old }
+    ensures walks { IsWalking walk.new }
+    ensures moves { Moves walk.old walk.new }
+{
     for _ in 0..u64::MAX {
-        match walk.on(1) {
-            Progress::Ended(_) => return Came::End,
-            Progress::Stopped(_, fault) => return Came::Fault(fault),
-            Progress::Went => {}
-        }
-        match is_there(alloc, walk, sources, goal) {
-            Ok(true) => return Came::There,
-            Ok(false) => {}
-            Err(_) => return Came::Memory,
+        if let Some(came) = step_on(alloc, walk, sources, goal) {
+            return came;
         }
     }
     Came::There
@@ -172,21 +170,28 @@ pub(crate) fn go_back<L: Ledger>(
     alloc: Global,
     walk: &mut Walk<L>,
     sources: &[Source],
-    goal: Goal<'_>,
-) -> Came {
-    while walk.count() > 0 {
+    goal: &Goal<'_>,
+) -> Came
+    requires { IsWalking walk.old }
+    ensures walks { IsWalking walk.new }
+    ensures moves { Moves walk.old walk.new }
+{
+    for _ in 0..walk.count() {
         walk.back(1);
-        match is_there(alloc, walk, sources, goal) {
-            Ok(true) => return Came::There,
-            Ok(false) => {}
-            Err(_) => return Came::Memory,
+        if let Some(came) = arrived(alloc, walk, sources, goal) {
+            return came;
         }
     }
     Came::Start
 }
 
 /// Takes so many steps on.
-pub(crate) fn steps_on<L: Ledger>(walk: &mut Walk<L>, n: u64) -> Came {
+pub(crate) fn steps_on<L: Ledger>(walk: &mut Walk<L>, n: u64) -> Came
+    requires { IsWalking walk.old }
+    ensures walks { IsWalking walk.new }
+    ensures moves { Moves walk.old walk.new }
+    ensures goes { GoesOn n walk.old walk.new }
+{
     match walk.on(n) {
         Progress::Ended(_) => Came::End,
         Progress::Stopped(_, fault) => Came::Fault(fault),

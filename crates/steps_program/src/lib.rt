@@ -6,6 +6,7 @@
 
 mod command;
 mod going;
+mod kept;
 mod output;
 mod place;
 mod run;

@@ -2,13 +2,11 @@
 
 use crate::place::{Place, line_of, place_at};
 use crate::source::{Source, source_of};
-use janus_places::{Branch, Form, Part};
-use janus_syntax::{Span, TokenKind, tokens};
-use kernel_text::{WriteFailed, send, send_counted, send_value};
+use cells_program::{WriteFailed, send, send_counted, send_value};
 use std::alloc::Global;
 use std::io::Write;
 use std::sync::ledger::Ledger;
-use steps_walk::{Level, Sight, Spot, Walk};
+use steps_walk::{Branch, Form, Level, Part, Sight, Span, Spot, Token, TokenKind, Walk, tokens};
 
 /// A statement in a word.
 fn word_of(form: Form) -> &'static str {
@@ -117,10 +115,7 @@ pub(crate) fn send_where<L: Ledger, W: Write>(
     sources: &[Source],
 ) -> Result<(), WriteFailed> {
     send_counted(writer, "step ", walk.count())?;
-    let Some(level) = walk.here() else {
-        return send(writer, b"\n");
-    };
-    let Some(spot) = walk.spot(&level) else {
+    let Some((level, spot)) = walk.stand() else {
         return send(writer, b"\n");
     };
     let Some(source) = source_of(sources, level.node) else {
@@ -188,17 +183,16 @@ fn send_call<L: Ledger, W: Write>(
 }
 
 /// Writes a name in sight with its value.
-pub(crate) fn send_slot<L: Ledger, W: Write>(
+fn send_slot<L: Ledger, W: Write>(
     writer: &mut W,
     walk: &Walk<L>,
     sight: &Sight,
     slot: usize,
 ) -> Result<(), WriteFailed> {
-    let Some(value) = walk.value(slot) else {
-        return Ok(());
-    };
-    send_value(writer, sight.names[slot].as_str(), value)?;
-    send(writer, b"\n")
+    match (sight.names.get(slot), walk.value(slot)) {
+        (Some(name), Some(value)) => send_value(writer, name.as_str(), value),
+        _ => Ok(()),
+    }
 }
 
 /// Writes the names in sight with their values, the oldest first.
@@ -211,6 +205,26 @@ pub(crate) fn send_sight<L: Ledger, W: Write>(
         send_slot(writer, walk, sight, slot)?;
     }
     Ok(())
+}
+
+/// Whether a name stands among tokens.
+fn names(tokens: &[Token], name: &str) -> bool {
+    for token in tokens {
+        if let TokenKind::Name(text) = &token.kind {
+            if text.as_str() == name {
+                return true;
+            }
+        }
+    }
+    false
+}
+
+/// Whether the newest of its name stands in a slot, and the name among tokens.
+fn is_read(tokens: &[Token], sight: &Sight, slot: usize) -> bool {
+    match sight.names.get(slot) {
+        Some(name) => sight.slot(name.as_str()) == Some(slot) && names(tokens, name.as_str()),
+        None => false,
+    }
 }
 
 /// Writes those names in sight that stand in a part of a text, with their values.
@@ -229,16 +243,7 @@ pub(crate) fn send_read<L: Ledger, W: Write>(
         return Ok(());
     };
     for slot in 0..sight.names.len() {
-        let name = sight.names[slot].as_str();
-        let mut stands = false;
-        for token in &tokens {
-            if let TokenKind::Name(text) = &token.kind {
-                if text.as_str() == name {
-                    stands = true;
-                }
-            }
-        }
-        if stands && sight.slot(name) == Some(slot) {
+        if is_read(tokens.as_slice(), sight, slot) {
             send(writer, b"  ")?;
             send_slot(writer, walk, sight, slot)?;
         }
@@ -249,35 +254,47 @@ pub(crate) fn send_read<L: Ledger, W: Write>(
 /// How many lines are listed before and behind the one of the next step.
 const AROUND: usize = 5;
 
+/// Whether a line is listed where the next step stands on this one.
+fn is_listed(number: usize, here: usize) -> bool {
+    here.saturating_sub(AROUND) <= number && number <= here.saturating_add(AROUND)
+}
+
+/// Writes a line with its number, and a mark where the next step stands on it.
+fn send_listed<W: Write>(
+    writer: &mut W,
+    number: usize,
+    here: usize,
+    line: &str,
+) -> Result<(), WriteFailed> {
+    let mark = if number == here { "> " } else { "  " };
+    send_counted(writer, mark, number as u64)?;
+    send(writer, b" ")?;
+    send(writer, line.as_bytes())?;
+    send(writer, b"\n")
+}
+
 /// Writes the lines round the one of the next step, with a mark at that one.
 pub(crate) fn send_list<L: Ledger, W: Write>(
     writer: &mut W,
     walk: &Walk<L>,
     sources: &[Source],
 ) -> Result<(), WriteFailed> {
-    let Some(level) = walk.here() else {
+    let Some((level, spot)) = walk.stand() else {
         return Ok(());
     };
     let Some(source) = source_of(sources, level.node) else {
         return Ok(());
     };
-    let here = match walk.spot(&level) {
-        Some(spot) => match place_of(source, spot) {
-            Some(place) => place.line,
-            None => 0,
-        },
-        None => 0,
+    let here = match place_of(source, spot) {
+        Some(place) => place.line,
+        None => source.first_line,
     };
     let mut number = source.first_line;
     for line in source.text.as_str().split('\n') {
-        if here == 0 || (number + AROUND >= here && number <= here + AROUND) {
-            let mark = if number == here { "> " } else { "  " };
-            send_counted(writer, mark, number as u64)?;
-            send(writer, b" ")?;
-            send(writer, line.as_bytes())?;
-            send(writer, b"\n")?;
+        if is_listed(number, here) {
+            send_listed(writer, number, here, line)?;
         }
-        number += 1;
+        number = number.saturating_add(1);
     }
     Ok(())
 }

@@ -7,6 +7,25 @@ pub(crate) struct Place {
     pub(crate) column: usize,
 }
 
+impl Place {
+    /// The place behind an octet that stands here. Of a character the first octet alone is counted.
+    fn behind(self, octet: u8) -> Place {
+        if octet == b'\n' {
+            return Place {
+                line: self.line.saturating_add(1),
+                column: 1,
+            };
+        }
+        if (128..=191).contains(&octet) {
+            return self;
+        }
+        Place {
+            line: self.line,
+            column: self.column.saturating_add(1),
+        }
+    }
+}
+
 /// The place of an octet of a text whose first line has this number in the file.
 pub(crate) fn place_at(text: &str, first_line: usize, at: usize) -> Place {
     let octets = text.as_bytes();
@@ -14,19 +33,11 @@ pub(crate) fn place_at(text: &str, first_line: usize, at: usize) -> Place {
         line: first_line,
         column: 1,
     };
-    let end = if at < octets.len() { at } else { octets.len() };
-    for octet in &octets[..end] {
-        if *octet == b'\n' {
-            place = Place {
-                line: place.line + 1,
-                column: 1,
-            };
-        } else if !(128..=191).contains(octet) {
-            place = Place {
-                line: place.line,
-                column: place.column + 1,
-            };
+    for i in 0..octets.len() {
+        if i >= at {
+            return place;
         }
+        place = place.behind(octets[i]);
     }
     place
 }
@@ -38,7 +49,7 @@ pub(crate) fn line_of(text: &str, first_line: usize, line: usize) -> Option<&str
         if number == line {
             return Some(part);
         }
-        number += 1;
+        number = number.saturating_add(1);
     }
     None
 }

@@ -1,11 +1,14 @@
 //! All of it over a file's text.
+ghost use Rattle.std.specs.Prelude.{◌≡◌, ◌<◌, IfOk};
+ghost use Rattle.steps_walk.specs.Walk.{IsWalking, Moves};
 
 use crate::command::Command;
 use crate::output::send_where;
 use crate::source::{Source, Stray, count_cells, run_before};
 use crate::talk::obey;
-use kernel_core::{Begun, CellText, Job, Kernel};
-use kernel_text::{WriteFailed, send, send_outcome, send_post_fault};
+use cells_program::{
+    Begun, CellText, Job, Kernel, WriteFailed, send_outcome, send_post_fault,
+};
 use std::alloc::Global;
 use std::io::{BufRead, Write};
 use std::marker::Brand;
@@ -99,7 +102,9 @@ fn enter<L: Ledger, W: Write>(
     kernel: Kernel<L>,
     text: &str,
     writer: &mut W,
-) -> Result<Walk<L>, RunFault> {
+) -> Result<Walk<L>, RunFault>
+    ensures { IfOk result IsWalking }
+{
     let mut kernel = kernel;
     if let Err(fault) = begin(alloc, &mut kernel, text, writer) {
         kernel.discard();
@@ -134,14 +139,12 @@ fn begin<L: Ledger, W: Write>(
     };
     if let Err(fault) = kernel.post(0, job) {
         send_post_fault(writer, fault)?;
-        send(writer, b"\n")?;
         return Err(RunFault::Refused);
     }
     match kernel.begin() {
         Begun::Going => Ok(()),
         Begun::Ended(outcome) => {
             send_outcome(writer, &outcome)?;
-            send(writer, b"\n")?;
             Err(RunFault::Refused)
         }
         Begun::Nothing => Err(RunFault::Refused),
@@ -155,7 +158,9 @@ fn walk_through<L: Ledger, R: BufRead + Drop, W: Write>(
     sources: &[Source],
     reader: &mut R,
     writer: &mut W,
-) -> Result<(), RunFault> {
+) -> Result<(), RunFault>
+    requires { IsWalking walk }
+{
     let mut walk = walk;
     let told = send_where(writer, &walk, sources);
     let ended = match told {
@@ -181,7 +186,11 @@ fn obey_all<L: Ledger, R: BufRead + Drop, W: Write>(
     sources: &[Source],
     reader: &mut R,
     writer: &mut W,
-) -> Result<(), RunFault> {
+) -> Result<(), RunFault>
+    requires { IsWalking walk.old }
+    ensures walks { IsWalking walk.new }
+    ensures moves { Moves walk.old walk.new }
+{
     flush(writer)?;
     let mut line = String::new(alloc);
     for _ in 0..u64::MAX {

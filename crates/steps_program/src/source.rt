@@ -1,8 +1,12 @@
 //! The cells of a file: those before the one that is walked through are run, and the lines between them obeyed.
 
-use cells_program::{Command, is_blank, is_command_line, send_outcome, send_post_fault, serve};
-use kernel_core::{CellText, Job, Kernel, Outcome};
-use kernel_text::{WriteFailed, send, send_counted};
+ghost use Rattle.std.specs.Prelude.{◌≡◌, []};
+ghost use Rattle.cells_program.specs.State.{Idle};
+
+use cells_program::{
+    CellText, Command, Job, Kernel, Outcome, WriteFailed, is_blank, is_command_line, send,
+    send_counted, send_outcome, send_post_fault, serve,
+};
 use std::alloc::{AllocError, Global};
 use std::io::Write;
 use std::sync::ledger::Ledger;
@@ -63,7 +67,7 @@ impl Reading {
     fn take(&mut self, alloc: Global) -> Source {
         let text = std::mem::replace(&mut self.gathered, String::new(alloc));
         if !is_blank(text.as_str()) {
-            self.number += 1;
+            self.number = self.number.saturating_add(1);
         }
         Source {
             text,
@@ -75,19 +79,17 @@ impl Reading {
 
 /// How many cells a file has that are not blank.
 pub(crate) fn count_cells(file: &str) -> usize {
-    let mut count = 0;
+    let mut count: usize = 0;
     let mut has_text = false;
     for line in file.split('\n') {
         if is_command_line(line) {
-            if has_text {
-                count += 1;
-            }
             has_text = false;
-        } else if !is_blank(line) {
+        } else if !is_blank(line) && !has_text {
             has_text = true;
+            count = count.saturating_add(1);
         }
     }
-    if has_text { count + 1 } else { count }
+    count
 }
 
 /// Runs the cells of a file that stand before the one of a number, obeys the lines between them, and gives the source of that cell.
@@ -97,11 +99,14 @@ pub(crate) fn run_before<L: Ledger, W: Write>(
     file: &str,
     number: usize,
     writer: &mut W,
-) -> Result<(Source, Vec<Source>), Stray> {
+) -> Result<(Source, Vec<Source>), Stray>
+    requires idle { kernel.old.machine.state.job ≡ Idle }
+    requires alone { kernel.old.machine.queue ≡ [] }
+{
     let mut reading = Reading::new(alloc);
-    let mut line_number = 0;
+    let mut next_line: usize = 1;
     for line in file.split('\n') {
-        line_number += 1;
+        next_line = next_line.saturating_add(1);
         if !is_command_line(line) {
             reading.gathered.push_str(line)?;
             reading.gathered.push('\n')?;
@@ -115,7 +120,7 @@ pub(crate) fn run_before<L: Ledger, W: Write>(
                 run_cell(alloc, kernel, &mut reading, source, writer)?;
             }
             obey_line(kernel, command, writer)?;
-            reading.first_line = line_number + 1;
+            reading.first_line = next_line;
         }
     }
     let source = reading.take(alloc);
@@ -142,7 +147,12 @@ fn run_cell<L: Ledger, W: Write>(
     reading: &mut Reading,
     source: Source,
     writer: &mut W,
-) -> Result<(), Stray> {
+) -> Result<(), Stray>
+    requires idle { kernel.old.machine.state.job ≡ Idle }
+    requires alone { kernel.old.machine.queue ≡ [] }
+    ensures idle { kernel.new.machine.state.job ≡ Idle }
+    ensures alone { kernel.new.machine.queue ≡ [] }
+{
     let code = CellText::new(alloc, String::from_str(alloc, source.text.as_str())?)?;
     send_counted(writer, "cell ", reading.number as u64)?;
     send(writer, b" ")?;
@@ -180,7 +190,12 @@ fn obey_line<L: Ledger, W: Write>(
     kernel: &mut Kernel<L>,
     command: Command,
     writer: &mut W,
-) -> Result<(), Stray> {
+) -> Result<(), Stray>
+    requires idle { kernel.old.machine.state.job ≡ Idle }
+    requires alone { kernel.old.machine.queue ≡ [] }
+    ensures idle { kernel.new.machine.state.job ≡ Idle }
+    ensures alone { kernel.new.machine.queue ≡ [] }
+{
     let job = match command {
         Command::Undo(k) => Job::Undo(k),
         Command::Redo(k) => Job::Redo(k),

@@ -1,15 +1,17 @@
 //! Commands and answers.
+ghost use Rattle.steps_walk.specs.Walk.{IsWalking, Moves};
+ghost use Rattle.steps_program.specs.Obeyed.{GoesOn, GoesBack, Obeys, all_steps};
 
 use crate::command::Command;
-use crate::going::{Came, Goal, go_back, go_on, mark, steps_on};
+use crate::going::{Came, Goal, go_back, go_on, steps_on, value_of};
+use crate::kept::Kept;
 use crate::output::{send_calls, send_list, send_read, send_sight, send_where};
 use crate::source::{Source, source_of};
-use janus_syntax::parse_exp;
-use kernel_text::{Fault, WriteFailed, send, send_counted};
-use std::alloc::Global;
+use cells_program::{Fault, WriteFailed, send, send_counted};
+use std::alloc::{AllocError, Global};
 use std::io::Write;
 use std::sync::ledger::Ledger;
-use steps_walk::Walk;
+use steps_walk::{Walk, parse_exp};
 
 /// Writes that there is no memory for an answer.
 fn send_no_memory<W: Write>(writer: &mut W) -> Result<(), WriteFailed> {
@@ -53,10 +55,7 @@ fn tell_fault<L: Ledger, W: Write>(
     send(writer, fault.name().as_bytes())?;
     send_counted_line(writer, " after ", walk.count())?;
     send_where(writer, walk, sources)?;
-    let Some(level) = walk.here() else {
-        return Ok(());
-    };
-    let Some(spot) = walk.spot(&level) else {
+    let Some((level, spot)) = walk.stand() else {
         return Ok(());
     };
     let Some(span) = spot.span else {
@@ -79,22 +78,25 @@ fn until<L: Ledger, W: Write>(
     text: &str,
     is_onward: bool,
     writer: &mut W,
-) -> Result<(), WriteFailed> {
-    let exp = match parse_exp(alloc, text) {
-        Ok(exp) => exp,
+) -> Result<(), WriteFailed>
+    requires { IsWalking walk.old }
+    ensures walks { IsWalking walk.new }
+    ensures moves { Moves walk.old walk.new }
+{
+    match parse_exp(alloc, text) {
+        Ok(exp) => go(alloc, walk, sources, Goal::Holds(&exp), is_onward, writer),
         Err(fault) => {
             send_counted(writer, "refused ", fault.number() as u64)?;
             send(writer, b" ")?;
             send(writer, fault.name().as_bytes())?;
-            return send(writer, b"\n");
+            send(writer, b"\n")
         }
-    };
-    let came = if is_onward {
-        go_on(alloc, walk, sources, Goal::Holds(&exp))
-    } else {
-        go_back(alloc, walk, sources, Goal::Holds(&exp))
-    };
-    tell(alloc, walk, sources, came, writer)
+    }
+}
+
+/// The value of a name in sight, kept; the only error is want of memory.
+fn kept<L: Ledger>(alloc: Global, walk: &Walk<L>, name: &str) -> Result<Kept, AllocError> {
+    Kept::of(alloc, value_of(alloc, walk, name)?)
 }
 
 /// Goes on or back until the value of a name changes.
@@ -105,17 +107,18 @@ fn watch<L: Ledger, W: Write>(
     name: &str,
     is_onward: bool,
     writer: &mut W,
-) -> Result<(), WriteFailed> {
-    let Ok(old) = mark(alloc, walk, name) else {
-        return send_no_memory(writer);
-    };
-    let goal = Goal::Changes(name, walk.open_calls(), old);
-    let came = if is_onward {
-        go_on(alloc, walk, sources, goal)
-    } else {
-        go_back(alloc, walk, sources, goal)
-    };
-    tell(alloc, walk, sources, came, writer)
+) -> Result<(), WriteFailed>
+    requires { IsWalking walk.old }
+    ensures walks { IsWalking walk.new }
+    ensures moves { Moves walk.old walk.new }
+{
+    match kept(alloc, walk, name) {
+        Ok(old) => {
+            let goal = Goal::Changes(name, walk.open_calls(), old);
+            go(alloc, walk, sources, goal, is_onward, writer)
+        }
+        Err(_) => send_no_memory(writer),
+    }
 }
 
 /// Writes the names in sight with their values.
@@ -124,7 +127,7 @@ fn show<L: Ledger, W: Write>(
     walk: &Walk<L>,
     writer: &mut W,
 ) -> Result<(), WriteFailed> {
-    let Some(level) = walk.here() else {
+    let Some((level, _)) = walk.stand() else {
         return Ok(());
     };
     match walk.sight(alloc, &level) {
@@ -133,16 +136,84 @@ fn show<L: Ledger, W: Write>(
     }
 }
 
-/// Takes steps on by a command, and tells where they lead.
+/// Takes steps on or back by a command, and tells where they lead.
 fn go<L: Ledger, W: Write>(
     alloc: Global,
     walk: &mut Walk<L>,
     sources: &[Source],
     goal: Goal<'_>,
+    is_onward: bool,
     writer: &mut W,
-) -> Result<(), WriteFailed> {
-    let came = go_on(alloc, walk, sources, goal);
+) -> Result<(), WriteFailed>
+    requires { IsWalking walk.old }
+    ensures walks { IsWalking walk.new }
+    ensures moves { Moves walk.old walk.new }
+{
+    if is_onward {
+        let came = go_on(alloc, walk, sources, &goal);
+        tell(alloc, walk, sources, came, writer)
+    } else {
+        let came = go_back(alloc, walk, sources, &goal);
+        tell(alloc, walk, sources, came, writer)
+    }
+}
+
+/// Takes so many steps on, and tells where they lead.
+fn step<L: Ledger, W: Write>(
+    alloc: Global,
+    walk: &mut Walk<L>,
+    sources: &[Source],
+    n: u64,
+    writer: &mut W,
+) -> Result<(), WriteFailed>
+    requires { IsWalking walk.old }
+    ensures walks { IsWalking walk.new }
+    ensures moves { Moves walk.old walk.new }
+    ensures goes { GoesOn n walk.old walk.new }
+{
+    let came = steps_on(walk, n);
     tell(alloc, walk, sources, came, writer)
+}
+
+/// Takes so many steps back, and tells where they lead.
+fn step_back<L: Ledger, W: Write>(
+    alloc: Global,
+    walk: &mut Walk<L>,
+    sources: &[Source],
+    n: u64,
+    writer: &mut W,
+) -> Result<(), WriteFailed>
+    requires { IsWalking walk.old }
+    ensures walks { IsWalking walk.new }
+    ensures moves { Moves walk.old walk.new }
+    ensures goes { GoesBack n walk.old walk.new }
+{
+    walk.back(n);
+    let came = if walk.count() == 0 {
+        Came::Start
+    } else {
+        Came::There
+    };
+    tell(alloc, walk, sources, came, writer)
+}
+
+/// Goes on until the innermost call is left; outside of calls to the end.
+fn finish<L: Ledger, W: Write>(
+    alloc: Global,
+    walk: &mut Walk<L>,
+    sources: &[Source],
+    writer: &mut W,
+) -> Result<(), WriteFailed>
+    requires { IsWalking walk.old }
+    ensures walks { IsWalking walk.new }
+    ensures moves { Moves walk.old walk.new }
+{
+    let depth = walk.open_calls();
+    if depth == 0 {
+        step(alloc, walk, sources, u64::MAX, writer)
+    } else {
+        go(alloc, walk, sources, Goal::Fewer(depth), true, writer)
+    }
 }
 
 /// Does what a command asks for.
@@ -152,37 +223,24 @@ pub(crate) fn obey<L: Ledger, W: Write>(
     sources: &[Source],
     command: Command<'_>,
     writer: &mut W,
-) -> Result<(), WriteFailed> {
+) -> Result<(), WriteFailed>
+    requires { IsWalking walk.old }
+    ensures walks { IsWalking walk.new }
+    ensures moves { Moves walk.old walk.new }
+    ensures obeys { Obeys command walk.old walk.new }
+{
     match command {
-        Command::Step(n) => {
-            let came = steps_on(walk, n);
-            tell(alloc, walk, sources, came, writer)
-        }
-        Command::Back(n) => {
-            walk.back(n);
-            tell(alloc, walk, sources, Came::There, writer)
-        }
+        Command::Step(n) => step(alloc, walk, sources, n, writer),
+        Command::Back(n) => step_back(alloc, walk, sources, n, writer),
         Command::Next => {
             let goal = Goal::Next(walk.open_calls());
-            go(alloc, walk, sources, goal, writer)
+            go(alloc, walk, sources, goal, true, writer)
         }
-        Command::Finish => {
-            let depth = walk.open_calls();
-            if depth == 0 {
-                return to_end(alloc, walk, sources, writer);
-            }
-            go(alloc, walk, sources, Goal::Fewer(depth), writer)
-        }
-        Command::To(line) => go(alloc, walk, sources, Goal::Line(line), writer),
-        Command::BackTo(line) => {
-            let came = go_back(alloc, walk, sources, Goal::Line(line));
-            tell(alloc, walk, sources, came, writer)
-        }
-        Command::ToFault | Command::ToEnd => to_end(alloc, walk, sources, writer),
-        Command::ToStart => {
-            walk.back(u64::MAX);
-            tell(alloc, walk, sources, Came::Start, writer)
-        }
+        Command::Finish => finish(alloc, walk, sources, writer),
+        Command::To(line) => go(alloc, walk, sources, Goal::Line(line), true, writer),
+        Command::BackTo(line) => go(alloc, walk, sources, Goal::Line(line), false, writer),
+        Command::ToFault | Command::ToEnd => step(alloc, walk, sources, u64::MAX, writer),
+        Command::ToStart => step_back(alloc, walk, sources, u64::MAX, writer),
         Command::Until(text) => until(alloc, walk, sources, text, true, writer),
         Command::BackUntil(text) => until(alloc, walk, sources, text, false, writer),
         Command::Watch(name) => watch(alloc, walk, sources, name, true, writer),
@@ -195,15 +253,4 @@ pub(crate) fn obey<L: Ledger, W: Write>(
         Command::Nothing | Command::Quit => Ok(()),
         Command::Unknown => send(writer, b"refused 80 BadCommand\n"),
     }
-}
-
-/// Goes to the end of the cell, or to its next fault.
-fn to_end<L: Ledger, W: Write>(
-    alloc: Global,
-    walk: &mut Walk<L>,
-    sources: &[Source],
-    writer: &mut W,
-) -> Result<(), WriteFailed> {
-    let came = steps_on(walk, u64::MAX);
-    tell(alloc, walk, sources, came, writer)
 }

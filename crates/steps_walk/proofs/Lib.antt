@@ -1,2 +1,3 @@
 pub mod FacingOn
 pub mod Standing
+pub mod Moving

@@ -1,6 +1,7 @@
--- What stands in the text where a walk stands, outside of calls.
+-- What is told of where a walk stands.
 use Rattle.std.proofs.Common.{◌≡◌, ℕ, ◌<◌, List, [], ◌∷◌, true, false, Bool, reverse, refl, ap, ◌∙◌, sym, subst, arith}
-use Rattle.std.specs.Prelude.{Option}
+use Rattle.std.specs.Prelude.{Option, None, length}
+use Rattle.janus_meaning.specs.Syntax.{Name}
 use Rattle.janus_meaning.specs.Syntax.{Blk}
 use Rattle.janus_linear.specs.declared.code.Order.TheVariants.{Straight}
 use Rattle.janus_linear.specs.Layout.{block_size, place_at}
@@ -23,7 +24,12 @@ use Rattle.janus_places.specs.Standing.{code_of, IsTold}
 use Rattle.janus_places.specs.declared.table.Table.{Table}
 use Rattle.janus_places.specs.Table.{places_in, IsTableOf}
 use Rattle.janus_places.proofs.Rows.{table_long, append_none}
+use Rattle.steps_walk.specs.declared.level.Level.{Level}
+use Rattle.steps_walk.specs.declared.level.Spot.{Spot}
+use Rattle.steps_walk.specs.declared.walk.Walk.{Walk}
 use Rattle.steps_walk.specs.Where.{IsThere, names_at, text_block}
+use Rattle.steps_walk.specs.Walk.{program_of, calls_in, HasTable, is_outside}
+use Rattle.steps_walk.specs.Standing.{IsHere, TellsPlace}
 
 no_call : (cs : List Call) → are_no_calls cs ≡ true → cs ≡ []
 no_call [] e = refl
@@ -60,3 +66,19 @@ module _ {L : Type 0} (runner : Runner L) (program : Program) (table : Table) (a
             ∙ ap (λ (b : Blk). faced (direction_of runner.cursor) (place_at Straight b n)) code_is;
         told = told;
       }
+
+-- a walk without open calls stands in the cell's own code
+none_open : {L : Type 0} (w : Walk L) → is_outside w ≡ true → calls_in w ≡ 0
+none_open w e = ap (λ (cs : List Call). length (reverse cs)) (no_call w.open.runner.cursor.calls.items e)
+
+pub tells : {L : Type 0} (w : Walk L) (level : Level) (spot : Spot) → IsHere w level →
+    (calls_in w ≡ 0 → (level.node ≡ None) × (level.procedure ≡ None)) →
+    (HasTable w → level.node ≡ None → level.procedure ≡ None →
+    (es g : List Name) → IsTold es g (text_block (program_of w)) level.at spot.part spot.span) → TellsPlace w (level, spot)
+tells w level spot here own told = record {
+  here = here;
+  there = λ is out at h.
+      let whole = own (none_open w out) in
+      there w.open.runner w.open.program w.tables.block at level.at h out is here.written spot.part spot.span
+      (told is whole.0 whole.1 w.open.runner.entries (names_at at));
+}

@@ -1,3 +1,9 @@
 pub mod Walking
 pub mod Where
 pub mod Walk
+pub mod Standing
+pub mod Sights
+-- Of kernel_runner, given again.
+pub use Rattle.kernel_runner.specs.Runner
+-- Of kernel_machine, given again.
+pub use Rattle.kernel_machine.specs.declared.progress

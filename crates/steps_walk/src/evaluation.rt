@@ -3,7 +3,7 @@
 use crate::sight::Sight;
 use crate::walk::Walk;
 use janus_evaluation::{ValueFault, bit_of, holds, negative, operate};
-use janus_frames::ValueView;
+use janus_machine::ValueView;
 use janus_syntax::tree::Exp;
 use std::sync::ledger::Ledger;
 
@@ -51,10 +51,13 @@ fn element<L: Ledger>(
     let ValueView::Array(items) = value_of(walk, sight, name)? else {
         return Err(NoValue::Kind);
     };
-    if index < 0 || index as usize >= items.len() {
+    if index < 0 {
         return Err(NoValue::Fault(ValueFault::IndexRange));
     }
-    Ok(items[index as usize])
+    match items.get(index as usize) {
+        Some(number) => Ok(*number),
+        None => Err(NoValue::Fault(ValueFault::IndexRange)),
+    }
 }
 
 /// Whether a stack has no value.
@@ -79,7 +82,7 @@ fn top<L: Ledger>(walk: &Walk<L>, sight: &Sight, name: &str) -> Result<i32, NoVa
 /// The number of an expression over the names in sight, or why it has none.
 pub fn number_of<L: Ledger>(walk: &Walk<L>, sight: &Sight, exp: &Exp) -> Result<i32, NoValue> {
     match exp {
-        Exp::Number(number, _) => Ok(*number as i32),
+        Exp::Number(number, _) => Ok(number.cast_signed()),
         Exp::Variable(name) => variable(walk, sight, name.text.as_str()),
         Exp::Element(name, index) => {
             let index = number_of(walk, sight, index)?;

@@ -1,5 +1,9 @@
 //! Where a walk stands, in the cell and in each open call.
-ghost use Rattle.std.specs.Prelude.{◌≡◌, ◌≤◌};
+ghost use Rattle.std.specs.Prelude.{◌≡◌, ◌≤◌, List, IfSome, None, Some};
+ghost use Rattle.janus_meaning.specs.Syntax.{Name};
+ghost use Rattle.janus_machine.specs.Cursor.{direction_of};
+ghost use Rattle.janus_machine.specs.Whereabouts.{IsWrittenAt, faces_inverse};
+ghost use Rattle.janus_places.specs.Standing.{IsTold};
 
 use crate::tables::{CellTables, index_of};
 use crate::walk::Walk;
@@ -30,7 +34,9 @@ pub struct Spot {
 }
 
 impl<L: Ledger> Walk<L> {
-    ghost use Rattle.steps_walk.specs.Walk.{calls_in};
+    ghost use Rattle.steps_walk.specs.Walk.{calls_in, program_of, HasTable};
+    ghost use Rattle.steps_walk.specs.Where.{text_block};
+    ghost use Rattle.steps_walk.specs.Standing.{IsHere, TellsPlace};
 
     /// How many calls are open.
     pub fn open_calls(&self) -> usize
@@ -42,14 +48,12 @@ impl<L: Ledger> Walk<L> {
     /// Where the walk stands in the innermost code, for i as many as there are open calls; else where the i-th open call stands, the outermost being 0.
     pub fn level(&self, i: usize) -> Option<Level>
         requires { i ≤ calls_in self.now }
+        ensures here { IfSome result (λ level. i ≡ calls_in self.now → IsHere self.now level) }
+        ensures own { IfSome result (λ level. i ≡ 0 → (level.node ≡ None) × (level.procedure ≡ None)) }
     {
         let (node, procedure) = self.code_of(i)?;
         let inverse = self.faces_inverse(i);
-        let at = if i < self.open_calls() {
-            self.open.runner.cursor.open_call(i).place
-        } else {
-            self.written_place()
-        };
+        let at = self.place_in(i);
         Some(Level {
             node,
             procedure,
@@ -58,13 +62,24 @@ impl<L: Ledger> Walk<L> {
         })
     }
 
-    /// Where the walk stands.
-    pub fn here(&self) -> Option<Level> {
-        self.level(self.open_calls())
+    /// Where the walk stands, and what stands there in the text.
+    pub fn stand(&self) -> Option<(Level, Spot)>
+        ensures { IfSome result (TellsPlace self.now) }
+    {
+        let level = self.level(self.open_calls())?;
+        let spot = self.spot(&level)?;
+        Some((level, spot))
     }
 
-    /// Its place in the innermost code, as that is written.
-    fn written_place(&self) -> usize {
+    /// The place in the innermost code, for i as many as there are open calls; else that of the i-th open call in its caller's code.
+    fn place_in(&self, i: usize) -> usize
+        requires { i ≤ calls_in self.now }
+        ensures { i ≡ calls_in self.now →
+            IsWrittenAt self.now.open.runner.procedures self.now.open.program.book self.now.open.runner.cursor result }
+    {
+        if i < self.open_calls() {
+            return self.open.runner.cursor.open_call(i).place;
+        }
         let book = Book {
             code: &self.open.program.book,
             procedures: &self.open.runner.procedures,
@@ -72,9 +87,10 @@ impl<L: Ledger> Walk<L> {
         self.open.runner.cursor.written_place(&book)
     }
 
-    /// Whether the inverse runs in the code of the i-th open call's caller.
+    /// Whether the inverse runs in the code of the i-th open call's caller, and in the innermost for i as many as there are open calls.
     fn faces_inverse(&self, i: usize) -> bool
         requires { i ≤ calls_in self.now }
+        ensures { i ≡ calls_in self.now → result ≡ faces_inverse (direction_of self.now.open.runner.cursor) }
     {
         let mut inverse = self.open.runner.cursor.faces_inverse();
         for k in i..self.open_calls() {
@@ -88,11 +104,16 @@ impl<L: Ledger> Walk<L> {
     /// In which code the i-th open call was made: the node of the cell, and the index of the procedure in it.
     fn code_of(&self, i: usize) -> Option<(Option<usize>, Option<usize>)>
         requires { i ≤ calls_in self.now }
+        ensures { i ≡ 0 → result ≡ Some (None, None) }
     {
         if i == 0 {
             return Some((None, None));
         }
-        let number = self.open.runner.cursor.open_call(i - 1).procedure;
+        self.body_of(self.open.runner.cursor.open_call(i - 1).procedure)
+    }
+
+    /// Which body a procedure of this number has where it is called: the node of the cell that defines it last, and its index there.
+    fn body_of(&self, number: usize) -> Option<(Option<usize>, Option<usize>)> {
         let names = &self.open.runner.entries;
         if number >= names.len() {
             return None;
@@ -112,13 +133,13 @@ impl<L: Ledger> Walk<L> {
 
     /// The procedures of a cell.
     pub(crate) fn procedures_of(&self, node: Option<usize>) -> &[Procedure] {
-        match node {
-            None => self.open.program.procedures(),
-            Some(node) if node > 0 && self.open.tree.cells.has(node) => {
-                self.open.tree.cells.content(node).program.procedures()
-            }
-            Some(_) => &[],
+        let Some(node) = node else {
+            return self.open.program.procedures();
+        };
+        if node == 0 || !self.open.tree.cells.has(node) {
+            return &[];
         }
+        self.open.tree.cells.content(node).program.procedures()
     }
 
     /// The name of the procedure in which a level stands.
@@ -129,10 +150,17 @@ impl<L: Ledger> Walk<L> {
     }
 
     /// The tables of a cell.
-    fn tables_of(&self, node: Option<usize>) -> Option<&CellTables> {
+    fn tables_of(&self, node: Option<usize>) -> Option<&CellTables>
+        ensures { IfSome result (λ tables. node ≡ None → tables.now ≡ self.now.tables) }
+    {
         let Some(node) = node else {
             return Some(&self.tables);
         };
+        self.tables_before(node)
+    }
+
+    /// The tables of a cell that ran before.
+    fn tables_before(&self, node: usize) -> Option<&CellTables> {
         for before in &self.before {
             if before.node == node {
                 return Some(&before.tables);
@@ -142,7 +170,9 @@ impl<L: Ledger> Walk<L> {
     }
 
     /// The table of the code in which a level stands.
-    pub(crate) fn table(&self, level: &Level) -> Option<&Table> {
+    pub(crate) fn table(&self, level: &Level) -> Option<&Table>
+        ensures { IfSome result (λ table. level.now.node ≡ None → level.now.procedure ≡ None → table.now ≡ self.now.tables.block) }
+    {
         let tables = self.tables_of(level.node)?;
         match level.procedure {
             None => Some(&tables.block),
@@ -151,7 +181,10 @@ impl<L: Ledger> Walk<L> {
     }
 
     /// What stands there in the text.
-    pub fn spot(&self, level: &Level) -> Option<Spot> {
+    pub fn spot(&self, level: &Level) -> Option<Spot>
+        ensures { IfSome result (λ spot. HasTable self.now → level.now.node ≡ None → level.now.procedure ≡ None →
+            (es g : List Name) → IsTold es g (text_block (program_of self.now)) level.now.at spot.part spot.span) }
+    {
         let table = self.table(level)?;
         if level.at >= table.len() {
             return None;

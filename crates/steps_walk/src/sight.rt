@@ -1,8 +1,12 @@
 //! The names in sight with their values.
+ghost use Rattle.std.specs.Prelude.{◌≡◌, ◌≤◌, slice_get, Some, IfSome, IfNone};
+ghost use Rattle.janus_meaning.specs.World.{size_of, listed};
+ghost use Rattle.janus_slots.specs.Slots.{slot as slot_name};
+ghost use Rattle.kernel_runner.specs.Values.{shown};
 
 use crate::level::Level;
 use crate::walk::Walk;
-use janus_frames::ValueView;
+use janus_machine::ValueView;
 use janus_syntax::tree::Parameter;
 use std::alloc::{AllocError, Global};
 use std::sync::ledger::Ledger;
@@ -14,12 +18,20 @@ pub struct Sight {
 }
 
 impl Sight {
-    /// The slot of the newest of this name.
-    pub fn slot(&self, name: &str) -> Option<usize> {
-        for i in (0..self.names.len()).rev() {
-            if self.names[i].as_str() == name {
-                return Some(i);
+    ghost use Rattle.steps_walk.specs.Sights.{IsNewest, HasNone};
+
+    /// The slot of the newest of this name, which hides the others.
+    pub fn slot(&self, name: &str) -> Option<usize>
+        ensures some { IfSome result (IsNewest self.now name.now) }
+        ensures none { IfNone result (HasNone self.now name.now) }
+    {
+        let mut behind = self.names.len();
+        while behind > 0 {
+            let last = behind - 1;
+            if self.names[last].as_str() == name {
+                return Some(last);
             }
+            behind = last;
         }
         None
     }
@@ -35,6 +47,8 @@ fn name_of(parameter: &Parameter) -> &str {
 }
 
 impl<L: Ledger> Walk<L> {
+    ghost use Rattle.steps_walk.specs.Walk.{slots_in};
+
     /// The names in sight at the innermost level; the only error is want of memory.
     pub fn sight(&self, alloc: Global, level: &Level) -> Result<Sight, AllocError> {
         let mut names = Vec::new(alloc);
@@ -93,8 +107,11 @@ impl<L: Ledger> Walk<L> {
         Ok(())
     }
 
-    /// The value of the name in a slot, if one is in sight.
-    pub fn value(&self, slot: usize) -> Option<ValueView<'_>> {
+    /// The value in a slot of the innermost frame, if it has so many.
+    pub fn value(&self, slot: usize) -> Option<ValueView<'_>>
+        ensures some { IfSome result (λ value. slice_get (listed (slots_in self.now)) slot ≡ Some (slot_name slot, shown value)) }
+        ensures none { IfNone result (size_of (slots_in self.now) ≤ slot) }
+    {
         if slot >= self.open.runner.counted.store.sight_len() {
             return None;
         }

@@ -1,14 +1,11 @@
 //! The open cell, and its steps.
-ghost use Rattle.std.specs.Prelude.{◌≡◌, ◌+◌, true, false, IfOk};
+ghost use Rattle.std.specs.Prelude.{◌≡◌, ◌+◌, false, IfOk};
 ghost use Rattle.janus_meaning.specs.Writes.{IsWritten};
 ghost use Rattle.kernel_machine.specs.StepsOfSlices.{steps_on, steps_back};
-ghost use Rattle.kernel_runner.specs.Runner.{Place, Is, Inside, IsInside, Runs, count_of, writes_of, steps_of};
+ghost use Rattle.kernel_runner.specs.Runner.{IsInside, Runs, count_of, writes_of, steps_of};
 
-use crate::place::own_spot;
 use crate::tables::CellTables;
 use crate::turning::step_back;
-use janus_places::Part;
-use janus_syntax::Span;
 use kernel_history::{HistoryTree, OpenCell};
 use kernel_machine::Progress;
 use std::alloc::{AllocError, Global};
@@ -34,7 +31,11 @@ pub struct Walk<L: Ledger> {
 fn before(alloc: Global, tree: &HistoryTree) -> Result<Vec<Before>, AllocError> {
     let mut all = Vec::new(alloc);
     let mut node = tree.position;
-    while node > 0 && tree.cells.has(node) {
+    // A parent's number is smaller.
+    for _ in 0..tree.position {
+        if node == 0 || !tree.cells.has(node) {
+            return Ok(all);
+        }
         let tables = CellTables::of(alloc, tree.cells.content(node).program.cell())?;
         all.push(Before { node, tables })?;
         node = tree.cells.parent(node);
@@ -44,11 +45,12 @@ fn before(alloc: Global, tree: &HistoryTree) -> Result<Vec<Before>, AllocError> 
 
 impl<L: Ledger> Walk<L> {
     ghost use Rattle.steps_walk.specs.Walking.{StepsBack};
-    ghost use Rattle.steps_walk.specs.Walk.{runner_of, program_of, HasTable, is_outside};
-    ghost use Rattle.steps_walk.specs.Where.{IsThere};
+    ghost use Rattle.steps_walk.specs.Walk.{runner_of, program_of, HasTable, IsWalking, Moves};
 
     /// A walk from where the open cell stands; the only error is want of memory.
     pub fn of(alloc: Global, open: OpenCell<L>) -> Result<Walk<L>, AllocError>
+        requires { IsInside open.runner open.program false }
+        ensures walks { IfOk result IsWalking }
         ensures runner { IfOk result (λ walk. runner_of walk ≡ open.runner) }
         ensures program { IfOk result (λ walk. program_of walk ≡ open.program) }
         ensures table { IfOk result HasTable }
@@ -74,9 +76,10 @@ impl<L: Ledger> Walk<L> {
 
     /// Takes up to `m` steps on: fewer where the cell ends or meets a fault, which changes nothing.
     pub fn on(&mut self, m: u64) -> Progress
-        requires { IsInside (runner_of self.old) (program_of self.old) false }
+        requires { IsWalking self.old }
         ensures runs { Runs (program_of self.old) m result (runner_of self.old) (runner_of self.new) }
-        ensures program { program_of self.new ≡ program_of self.old }
+        ensures walks { IsWalking self.new }
+        ensures moves { Moves self.old self.new }
         ensures written { IsWritten (steps_on (count_of (runner_of self.old)) m result) (writes_of (runner_of self.old)) (writes_of (runner_of self.new)) }
         ensures counted { steps_of (runner_of self.new) ≡ steps_of (runner_of self.old) + steps_on (count_of (runner_of self.old)) m result }
     {
@@ -85,23 +88,13 @@ impl<L: Ledger> Walk<L> {
 
     /// Takes `m` steps back, or all.
     pub fn back(&mut self, m: u64)
-        requires { IsInside (runner_of self.old) (program_of self.old) false }
+        requires { IsWalking self.old }
         ensures goes { StepsBack (program_of self.old) m (runner_of self.old) (runner_of self.new) }
-        ensures program { program_of self.new ≡ program_of self.old }
+        ensures walks { IsWalking self.new }
+        ensures moves { Moves self.old self.new }
         ensures written { IsWritten (steps_back (count_of (runner_of self.old)) m) (writes_of (runner_of self.old)) (writes_of (runner_of self.new)) }
         ensures counted { steps_of (runner_of self.new) ≡ steps_of (runner_of self.old) + steps_back (count_of (runner_of self.old)) m }
     {
         step_back(&mut self.open.runner, &self.open.program, m);
-    }
-
-    /// What stands in the text where the walk stands, while no call is open.
-    pub fn own_spot(&self) -> (Part, Option<Span>)
-        requires inside { IsInside (runner_of self.now) (program_of self.now) false }
-        requires outside { is_outside self.now ≡ true }
-        requires traced { HasTable self.now }
-        ensures { (at : Place) → Is (runner_of self.now) (Inside (program_of self.now) at false) →
-            IsThere (runner_of self.now) (program_of self.now) at result.0 result.1 }
-    {
-        own_spot(&self.open.runner, &self.open.program, &self.tables.block)
     }
 }
