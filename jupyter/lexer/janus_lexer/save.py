@@ -246,7 +246,7 @@ class Walk:
     def __init__(self, kernel, inputs):
         self.kernel, self.begun = kernel, kernel.state()
         if self.begun['busy']:
-            raise Trouble('a cell runs: wait for its end, or stop it by janus-interrupt')
+            raise Trouble('a cell is running: wait for its end, or stop it with janus-interrupt')
         if not self.begun['nodes']:
             raise Trouble('no cell has run, so there is nothing to save')
         self.count, self.shape = self.begun['nodes'], Shape(self.begun['nodes'])
@@ -447,7 +447,7 @@ def check(kernel):
     tail = kernel.question('history_request', hist_access_type='tail', output=False, raw=True, n=1)['history']
     jobs = max(state['nodes'], tail[0][1] if tail else 0)
     used = {'nodes': (state['nodes'], MOST_NODES), 'minutes': (2 * jobs, MOST_MINUTES)}
-    print(f'at node {state["node"]}, {state["depth"]} above, {state["redo"]} to redo' + (', and a cell runs' if state['busy'] else ''))
+    print(f'at node {state["node"]}, {state["depth"]} above, {state["redo"]} to redo' + (', and a cell is running' if state['busy'] else ''))
     for name, (number, most) in used.items():
         least = 'at least ' if name == 'minutes' else ''
         print(f'{name}: {least}{number:,} of {most:,}, {100 * number / most:.1f} %')
