@@ -363,7 +363,7 @@ class Console:
             say(('ansiyellow', 'another frontend ' + way(it)))
 
     def serve(self):
-        say(('bold', 'Janus'), ': cells run, and %undo takes them back; %help names the commands. Other frontends: --existing ' + self.desk.file)
+        say(('bold', 'Janus'), ': cells run, and %undo takes them back; %help lists the commands. Other frontends: --existing ' + self.desk.file)
         while True:
             self.tell()
             try:
