@@ -1,7 +1,7 @@
 #!/usr/bin/python3
 """A console for Janus in a terminal, with undo: cells, and the commands %undo, %redo, %goto, %show and %tree.
 
-usage: janus-repl [--existing FILE]     (a kernel's connection file; else a kernel of its own, which ends with the console)
+usage: janus-repl [--existing FILE]     (a kernel's connection file; without it, a kernel of its own, which ends with the console)
 
 Needs jupyter_client, prompt_toolkit and pygments, as Debian's jupyter-console brings them.
 """

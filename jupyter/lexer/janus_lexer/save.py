@@ -1,7 +1,7 @@
 #!/usr/bin/python3
 """Saves the session of a kernel of Janus that runs, as a file of cells whose run by janus-cells gives the same tree, worlds and position.
 
-usage: janus-save-session [--existing FILE] [OUT]        (FILE: a kernel's connection file, else the newest; OUT: the script, else standard output)
+usage: janus-save-session [--existing FILE] [OUT]        (FILE: a kernel's connection file, or the newest; OUT: the script, or standard output)
        janus-save-session --check [--existing FILE]      (how much of its limits the kernel has used; status 1 above nine tenths)
 
 It walks the kernel's tree, runs the cells once more in a kernel of its own beside it, compares each node, and puts the position back.
