@@ -8,8 +8,7 @@ ghost use Rattle.kernel_runner.specs.Values.{shown};
 ghost use Rattle.kernel_loader.specs.Kinds.{kind_in};
 
 use janus_check::{Env, Kind};
-use kernel_runner::ValueView;
-use kernel_runner::Store;
+use kernel_runner::{Store, ValueView};
 use std::alloc::{AllocError, Global};
 use std::sync::ledger::Ledger;
 

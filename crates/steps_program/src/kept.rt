@@ -1,6 +1,5 @@
 //! A value that is kept, to see whether it changes.
 
-use cells_program::StackView;
 use std::alloc::{AllocError, Global};
 use steps_walk::ValueView;
 
@@ -41,7 +40,19 @@ impl Kept {
             (Kept::Absent, None) => true,
             (Kept::Number(old), Some(ValueView::Number(new))) => *old == new,
             (Kept::Array(old), Some(ValueView::Array(new))) => are_same(old.as_slice(), new),
-            (Kept::Stack(old), Some(ValueView::Stack(new))) => is_stack(old.as_slice(), new),
+            (Kept::Stack(old), Some(ValueView::Stack(new))) => {
+                if old.len() != new.len() {
+                    return false;
+                }
+                let mut at: usize = 0;
+                for value in new {
+                    if !stands_at(old.as_slice(), at, value) {
+                        return false;
+                    }
+                    at = at.saturating_add(1);
+                }
+                true
+            }
             _ => false,
         }
     }
@@ -52,18 +63,10 @@ fn are_same(one: &[i32], other: &[i32]) -> bool {
     one == other
 }
 
-/// Whether a stack has these numbers, the newest first.
-fn is_stack(numbers: &[i32], values: StackView<'_>) -> bool {
-    if numbers.len() != values.len() {
-        return false;
+/// Whether a number stands at an index.
+fn stands_at(numbers: &[i32], at: usize, value: i32) -> bool {
+    match numbers.get(at) {
+        Some(number) => *number == value,
+        None => false,
     }
-    let mut at: usize = 0;
-    for value in values {
-        match numbers.get(at) {
-            Some(number) if *number == value => {}
-            _ => return false,
-        }
-        at = at.saturating_add(1);
-    }
-    true
 }

@@ -6,7 +6,7 @@ const TOOLS = [
     {name: 'undo-cell', key: 'u', icon: 'fa-undo', label: 'Undo', id: 'janus-undo', act: 'undo', help: 'Janus: undo the newest cell that is in effect'},
     {name: 'redo-cell', key: 'shift-u', icon: 'fa-repeat', label: 'Redo', id: 'janus-redo', act: 'redo', help: 'Janus: redo the cell that was undone last'},
     {name: 'run-cell-backwards', key: 'w', icon: 'fa-backward', label: 'Backwards', id: 'janus-backwards', act: 'backwards',
-        help: 'Janus: run the selected cell backwards, and before it all that ran behind it'},
+        help: 'Janus: run the selected cell backwards, and first everything that ran after it'},
     {name: 'show-history', key: 't', icon: 'fa-code-fork', label: 'History', id: 'janus-history', act: 'toggle', help: 'Janus: show or hide the history'},
     {name: 'focus-tree', key: 'g', icon: 'fa-sitemap', act: 'focus', help: 'Janus: go to the tree of histories, where arrows and Enter work'},
 ];

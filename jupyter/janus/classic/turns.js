@@ -73,8 +73,8 @@ class Turns {
         const left = this.waiting.splice(0).filter(function (it) { return it.is_code; });
         left.forEach(function (it) { it.cell.set_input_prompt(it.prompt === '*' ? undefined : it.prompt); });
         if (left.length === 0) return;
-        const why = came.status === 'ended' ? 'as the kernel ended' : 'at the cell In [' + came.execution_count + '], which failed';
-        this.tell('Stopped ' + why + ': ' + texts.count(left.length, 'cell') + ' behind it did not run.', 'warn');
+        const why = came.status === 'ended' ? 'because the kernel ended' : 'at cell In [' + came.execution_count + '], which failed';
+        this.tell('Stopped ' + why + ': ' + texts.count(left.length, 'cell') + ' after it did not run.', 'warn');
     }
 }
 

@@ -7,7 +7,7 @@ const FAULT = /^fault (\d+) (\w+) after (\d+)$/, INTERRUPTED = /^interrupted aft
 
 function capital(text) { return text.slice(0, 1).toUpperCase() + text.slice(1); }
 
-function advice(number) { return refusals[number] ? refusals[number].advice : 'the guide has more on it'; }
+function advice(number) { return refusals[number] ? refusals[number].advice : 'the guide says more about it'; }
 
 // The place of octets in a text, as an editor counts it and as people do. The kernel counts octets from the text's begin.
 function place(code, from_octet, to_octet) {
@@ -25,7 +25,7 @@ function place(code, from_octet, to_octet) {
 // Of a statement that looks alone and belongs to a procedure.
 function belongs(it, so) {
     return 'Line ' + it.line + ' belongs to the procedure \'' + it.name + '\', which goes on to the next procedure or to the end of the cell' + so +
-        '. Put it before the procedures, or into a cell of its own.';
+        '. Put it before the procedures, or in a cell of its own.';
 }
 
 // What is to be said of a cell that ran, as an error is said, or null.
@@ -54,17 +54,17 @@ function error(line, code) {
     return {text: line, place: null};
 }
 
-function taken_back(steps) { return 'after ' + texts.count(Number(steps), 'step') + '. What ran was taken back: all is as before the cell.'; }
+function taken_back(steps) { return 'after ' + texts.count(Number(steps), 'step') + '. What ran was taken back: everything is as it was before the cell.'; }
 
 function move(asked) { return asked.op === 'undo' ? 'The undo' : asked.op === 'redo' ? 'The redo' : 'The way to node ' + asked.n; }
 
 function waits(asked) {
     const it = asked.op === 'goto' ? 'the move' : 'the ' + asked.op;
-    return move(asked) + ' waits for its turn behind a cell that runs. The stop button ends that cell; ' + it + ' is then done.';
+    return move(asked) + ' is waiting for the running cell. The stop button ends that cell; ' + it + ' is then done.';
 }
 
 function way(answer) {
-    const undone = texts.count(answer.undone, 'cell'), redone = texts.count(answer.redone, 'cell'), end = '; the kernel stands at node ' + answer.node;
+    const undone = texts.count(answer.undone, 'cell'), redone = texts.count(answer.redone, 'cell'), end = '; the kernel is at node ' + answer.node;
     if (answer.op === 'undo') return 'undid ' + undone + end;
     if (answer.op === 'redo') return 'redid ' + redone + end;
     return 'went to node ' + answer.node + ', ' + undone + ' up and ' + redone + ' down';

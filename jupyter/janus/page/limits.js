@@ -4,7 +4,7 @@ define([], function () {
 'use strict';
 
 const MOST_NODES = 65536, MOST_MINUTES = 1000000, MINUTES = 2;
-const SAVE = ' Save the session by janus-save-session before, and restart the kernel.';
+const SAVE = ' Before that, save the session with janus-save-session, and restart the kernel.';
 
 function is_near(number, most) { return 10 * number > 9 * most; }
 
@@ -25,9 +25,9 @@ class Limits {
     // What is to be said above nine tenths of a limit, else an empty text.
     said(nodes) {
         const minutes = this.minutes(nodes), said = [];
-        if (is_near(nodes, MOST_NODES)) said.push(of(nodes, MOST_NODES) + ' nodes are used. With the last of them no further cell runs.');
-        if (is_near(minutes, MOST_MINUTES)) said.push('At least ' + of(minutes, MOST_MINUTES) + ' minutes are used, two by each cell and each move. ' +
-            'With the last of them nothing runs any more.');
+        if (is_near(nodes, MOST_NODES)) said.push(of(nodes, MOST_NODES) + ' nodes are used. After the last of them no further cell runs.');
+        if (is_near(minutes, MOST_MINUTES)) said.push('At least ' + of(minutes, MOST_MINUTES) + ' minutes are used, two for each cell and each move. ' +
+            'After the last of them nothing runs any more.');
         return said.length ? said.join(' ') + SAVE : '';
     }
 

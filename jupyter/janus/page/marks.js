@@ -65,7 +65,7 @@ class Marks {
             if (is) return {kind: 'in', text: 'node ' + node};
             return is === false ? {kind: 'undone', text: 'undone · node ' + node} : {kind: 'maybe', text: 'node ' + node + ' ?'};
         }
-        if (this.gone.has(cell)) return {kind: 'gone', text: 'of an earlier run'};
+        if (this.gone.has(cell)) return {kind: 'gone', text: 'from an earlier run'};
         return this.open.has(cell) ? {kind: 'maybe', text: 'node ?'} : {kind: '', text: ''};
     }
 

@@ -108,7 +108,7 @@ class Panel {
     note() {
         const unknown = this.history.unknown(), parts = [];
         if (unknown === 0) return '';
-        parts.push(texts.count(unknown, 'node') + ' (marked ?) ran where this page did not hear it: under which node they stand the kernel does not tell.');
+        parts.push(texts.count(unknown, 'node') + ' (marked ?) ran unheard by this page, and the kernel does not say where in the tree.');
         for (const gap of this.history.path().gaps)
             if (gap[2] > 0) parts.push('Between ' + gap[1] + ' and ' + gap[0] + ' on the path lie ' + (gap[2] - 1) + ' of them.');
         parts.push('Going to one tells more.');

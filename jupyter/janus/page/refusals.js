@@ -8,11 +8,11 @@ return {
     },
     31: {
         name: "Expected",
-        advice: "something else has to stand here, such as 'then' after the test of an 'if'",
+        advice: "something else is needed here, such as 'then' after the test of an 'if'",
     },
     32: {
         name: "NumberTooLarge",
-        advice: "a number is greater than 2147483647, the greatest there is: take a smaller one. Sums beyond it wrap around, and -2147483648 is written as '-2147483647 - 1'",
+        advice: "a number is greater than 2147483647, the largest there is: use a smaller one. Sums beyond it wrap around, and -2147483648 is written as '-2147483647 - 1'",
     },
     33: {
         name: "TooNested",
@@ -36,11 +36,11 @@ return {
     },
     42: {
         name: "WrongKind",
-        advice: "this name is of another kind (number, array or stack) than is needed here: an array may lack its index, an argument has to be of its parameter's kind, and '<=>' stands between two variables that are numbers",
+        advice: "this name is not of the kind (number, array or stack) that is needed here: an array may lack its index, an argument must have its parameter's kind, and '<=>' swaps two variables that are numbers",
     },
     43: {
         name: "SelfUse",
-        advice: "an assignment names its own variable on the right or in its index, so it could not be undone; or a local is named in its own two expressions: use a second variable",
+        advice: "an assignment names its own variable on the right or in its index, so it could not be undone; or one of a local's own two expressions names it: use a second variable",
     },
     44: {
         name: "SameArgument",
@@ -104,11 +104,11 @@ return {
     },
     59: {
         name: "StackFull",
-        advice: "the stacks hold 262,144 numbers together, local ones and those outside an open call among them: pop some first",
+        advice: "all stacks together, including local ones and those outside an open call, hold 262,144 numbers: pop some first",
     },
     60: {
         name: "TooDeep",
-        advice: "more than 16,384 frames are open at once; each call, and each statement inside another, opens some, so a recursion with one call inside an 'if' goes about 4,000 levels deep: it doesn't end, or is too deep",
+        advice: "more than 16,384 frames are open at once; each call, and each statement inside another, opens some, so a recursion with one call inside an 'if' goes about 4,000 levels deep: yours doesn't end, or is too deep",
     },
     61: {
         name: "TooManyStacks",
@@ -120,7 +120,7 @@ return {
     },
     70: {
         name: "HistoryFull",
-        advice: "the history has its 65,536 nodes, and nodes are never freed: keep your cells and restart the kernel, which forgets what it holds",
+        advice: "the history has its 65,536 nodes, and nodes are never freed: save your cells and restart the kernel, which forgets what it holds",
     },
     71: {
         name: "NoNode",
@@ -136,7 +136,7 @@ return {
     },
     74: {
         name: "QueueFull",
-        advice: "1,024 jobs are waiting: wait until some are done. At 'janus-kernel' at most 32 wait, so this never comes",
+        advice: "1,024 jobs are waiting: wait until some are done. With 'janus-kernel' at most 32 wait, so this never comes",
     },
     75: {
         name: "Closing",
@@ -152,11 +152,11 @@ return {
     },
     78: {
         name: "PassMissing",
-        advice: "comes where a kernel's own books are audited when it is closed, and don't add up. 'janus-kernel' audits none, so this never comes",
+        advice: "comes when a kernel's own books are audited as it is closed, and don't add up. 'janus-kernel' audits none, so this never comes",
     },
     79: {
         name: "TicketUnknown",
-        advice: "comes where a kernel's own books are audited, like 78",
+        advice: "comes when a kernel's own books are audited, like 78",
     },
     80: {
         name: "BadCommand",

@@ -33,7 +33,7 @@ class Session {
     backwards(cell) {
         const node = this.marks.node_of.get(cell), history = this.history;
         if (node === undefined) {
-            this.tell('Nothing is known to have run of this cell in this run of the kernel, so it cannot run backwards.', 'warn');
+            this.tell('This cell is not known to have run in this run of the kernel, so it cannot run backwards.', 'warn');
             return;
         }
         if (history.in_effect(node) !== true) {
@@ -41,13 +41,13 @@ class Session {
             return;
         }
         const steps = history.depth_of(history.position) - history.depth_of(node) + 1, known = history.depth_of(node) >= 0;
-        if (!known) this.tell('How many cells stand below node ' + node + ' is not known. Undo leads there one by one.', 'warn');
+        if (!known) this.tell('How many cells are below node ' + node + ' is not known. Undo goes there one by one.', 'warn');
         else if (history.parent[node] < 0) this.backwards_to({op: 'undo', n: steps}, node, steps);
         else this.backwards_to({op: 'goto', n: history.parent[node]}, node, steps);
     }
 
     backwards_to(move, node, steps) {
-        const behind = steps > 1 ? ', and before it ' + texts.count(steps - 1, 'cell') + ' that ran behind it, the newest first' : '';
+        const behind = steps > 1 ? ', and before it ' + texts.count(steps - 1, 'cell') + ' that ran after it, the newest first' : '';
         move.said = 'Node ' + node + ' ran backwards' + behind + '.';
         this.conversation.move(move);
     }

@@ -8,17 +8,17 @@ const KEYWORDS = new Set(('call delocal do else empty fi from if int local loop 
 const OPENS = {fi: 'if', until: 'from', delocal: 'local', ')': '(', ']': '['};
 const CLOSER = {if: '`fi` with its second test', from: '`until` with its test', local: '`delocal`', '(': '`)`', '[': '`]`'};
 const LOOP = 'a loop is `from .. loop .. until ..`', SHOWN = 'a cell shows the names that it mentions';
-const SMALL = 'words of the language are written in small letters', TEXTS = 'there are no texts, only numbers';
-const PROCEDURE = 'a procedure begins with `procedure`', READS = 'a cell reads nothing: write the number into it';
-const LENGTH = 'nothing tells a length: an array has that of its declaration, and `empty(s)` is 1 where the stack `s` is empty';
+const SMALL = 'words of the language are written in lower case', TEXTS = 'there are no texts, only numbers';
+const PROCEDURE = 'a procedure begins with `procedure`', READS = 'a cell reads no input: write the number into it';
+const LENGTH = 'no function gives a length: an array has that of its declaration, and `empty(s)` is 1 if the stack `s` is empty';
 const BLOCK = 'words such as `then` and `fi` enclose statements, so leave it out';
-const IMPORT = 'nothing is brought in from elsewhere, and the procedures of earlier cells are there';
+const IMPORT = 'nothing can be imported; the procedures of earlier cells can be called';
 const COMMAND = 'commands such as `%undo 1` are lines for janus-cells and janus-repl: here press Undo';
 const FOREIGN = {
     while: LOOP, for: LOOP, repeat: LOOP, print: SHOWN, printf: SHOWN, show: SHOWN, write: SHOWN,
     read: READS, input: READS, begin: BLOCK, import: IMPORT, include: IMPORT,
     undo: 'here press Undo', redo: 'here press Redo',
-    return: 'a procedure gives back what it changes, its parameters', def: PROCEDURE, function: PROCEDURE, proc: PROCEDURE,
+    return: 'a procedure returns nothing: it changes its parameters', def: PROCEDURE, function: PROCEDURE, proc: PROCEDURE,
     and: 'write `&&`', or: 'write `||`', not: 'compare with 0, as in `y = 0`', mod: 'write `%`', div: 'write `/`', true: 'write 1', false: 'write 0',
     end: '`if` ends with `fi`, `from` with `until`', endif: '`if` ends with `fi` and its second test', elif: 'write `else if .. fi ..`, each with its own `fi`',
     var: 'write `int` or `stack`', let: 'write `int` or `stack`', bool: 'write `int`: 0 is false', float: 'numbers are whole: write `int`',
@@ -30,10 +30,10 @@ const CALLED = {
 };
 const USES = {
     push: '`push(x, s)` moves the number of the variable `x` onto the stack `s`', top: '`top(s)` is the newest number of the stack `s`',
-    pop: '`pop(x, s)` moves the newest number of the stack `s` into the variable `x`', empty: '`empty(s)` is 1 where the stack `s` is empty',
+    pop: '`pop(x, s)` moves the newest number of the stack `s` into the variable `x`', empty: '`empty(s)` is 1 if the stack `s` is empty',
 };
 // What is said of `:` by the last word in front of it on its line that begins something.
-const TEST = 'after the test of an `if` stands `then`, and no `:`', HEAD = PROCEDURE + ', and no `:` follows its head';
+const TEST = 'after the test of an `if` comes `then`, without a `:`', HEAD = PROCEDURE + ', and no `:` follows its head';
 const COLONS = {
     if: TEST, elif: TEST, while: LOOP, for: LOOP, from: LOOP, def: HEAD, function: HEAD, proc: HEAD, procedure: 'no `:` follows the head of a procedure',
     else: 'no `:` follows `else`', then: 'no `:` follows `then`', do: 'no `:` follows `do`', loop: 'no `:` follows `loop`',
@@ -43,11 +43,12 @@ const CHARACTERS = {
     '{': 'there are no braces: words such as `fi`, `until` and `delocal` close what is open', '}': 'there are no braces: words such as `fi` close what is open',
     '"': TEXTS, '\'': TEXTS, '`': TEXTS, '\u201c': TEXTS, '\u201d': TEXTS, '\u2018': TEXTS, '\u2019': TEXTS, '#': 'a comment begins with `//`',
     '\\': 'a statement may go on over several lines without this sign: leave it out', '!': 'there is no `!`: compare with 0, as in `y = 0`',
-    '~': 'there is no `~`: `-1 ^ y` flips all bits of `y`', '.': 'numbers are whole: leave the point out', _: 'a name begins with a letter',
-    '\u00a0': 'this is not a plain space, perhaps because it was copied from a page: type it anew', '\u200b': 'there is an invisible character here: remove it',
+    '~': 'there is no `~`: `-1 ^ y` flips all bits of `y`', '.': 'numbers are whole: leave out the point', _: 'a name begins with a letter',
+    '\u00a0': 'this is not a plain space, perhaps because it was copied from a page: type it again',
+    '\u200b': 'there is an invisible character here: remove it',
     '\ufeff': 'there is an invisible character (a BOM) here: remove it', '\u00d7': 'multiply by `*`', '\u2212': 'this minus is another character: type `-`',
     '\u2013': 'this dash is another character: type `-`', '\u2260': 'write `!=`', '\u2264': 'write `<=`', '\u2265': 'write `>=`',
-    '\u2190': 'there is no assignment that forgets: write `+=`, `-=` or `^=`',
+    '\u2190': 'no assignment forgets the old value: write `+=`, `-=` or `^=`',
 };
 
 const own = function (table, key) { return key !== undefined && Object.prototype.hasOwnProperty.call(table, key) ? table[key] : null; };
@@ -113,9 +114,9 @@ function equals(it) {
     if (is_name(it.before) && it.earlier === 'stack') return 'a stack starts empty: write `stack ' + it.before + '`';
     if (is_name(it.before) && it.earlier === 'int')
         return 'a number starts at 0: write `int ' + it.before + '`, and then `' + it.before + ' += ..`';
-    if (declares || it.before === ']' && it.text(-4) === 'int') return 'the elements of an array start at 0: give them their values by `+=`';
+    if (declares || it.before === ']' && it.text(-4) === 'int') return 'the elements of an array start at 0: give them their values with `+=`';
     if (is_name(it.before) && ['+', '-', '^'].includes(it.after)) return 'the sign comes first: write `' + it.before + ' ' + it.after + '= ..`';
-    if (is_name(it.before) || it.before === ']') return 'there is no `=` that forgets what was there: change ' + target + ' by `+=`, `-=` or `^=`';
+    if (is_name(it.before) || it.before === ']') return '`=` would forget the old value: change ' + target + ' by `+=`, `-=` or `^=`';
     return null;
 }
 
@@ -131,52 +132,52 @@ function operator(it) {
     if (it.here === '+' && /^[-+*/%(=<>]$/.test(it.before || '')) return 'a number has no sign `+`: leave it out';
     if (it.here === '>' && it.before === '<') return 'write `!=` for different';
     if (it.here === '<=>' && it.before === ']' || it.before === '<=>' && it.here && !is_name(it.here) || it.here === '[' && it.earlier === '<=>')
-        return '`<=>` exchanges variables, not elements: take two locals, as examples/sort does';
+        return '`<=>` swaps variables, not elements: use two locals, as examples/sort does';
     return null;
 }
 
 function declaration(it) {
     if (it.here === 'int' && it.before === '(' && it.earlier === 'main') return '`main` has no parameters: its declarations follow `main()`';
     const is_sized = it.here === '[' && is_number(it.after) && it.text(2) === ']' && is_name(it.text(3));
-    if (it.here === '[' && it.before === 'int') return 'the length stands after the name: `int ' + (is_sized ? it.text(3) + '[' + it.after : 'a[10') + ']`';
+    if (it.here === '[' && it.before === 'int') return 'the length comes after the name: `int ' + (is_sized ? it.text(3) + '[' + it.after : 'a[10') + ']`';
     if (it.here === '[' && it.before === 'stack') return 'a stack has no length: write `stack ' + (is_sized ? it.text(3) : 's') + '`';
     if (it.here === ',' && is_name(it.before) && it.earlier === 'int')
-        return 'each name has its own kind: `int ' + it.before + ' int ' + (it.after || '..') + '`';
+        return 'each name needs its own kind: `int ' + it.before + ' int ' + (it.after || '..') + '`';
     if (KEYWORDS.has(it.here) && ['int', 'stack', 'procedure', 'call', 'uncall'].includes(it.before))
-        return '`' + it.here + '` is a word of the language: a name has to stand here';
+        return '`' + it.here + '` is a word of the language: a name is needed here';
     if (it.before === 'local' || it.before === 'delocal') return 'its kind is missing: `' + it.before + ' int ' + (it.here || '..') + '`';
-    if (it.here === '[' && is_name(it.before) && it.text(-3) === 'local') return 'there are no local arrays: take a parameter, or a local stack';
+    if (it.here === '[' && is_name(it.before) && it.text(-3) === 'local') return 'there are no local arrays: use a parameter, or a local stack';
     if (is_name(it.before) && it.earlier === 'int' && it.text(-3) === 'local') return 'a local begins with a value: `local int ' + it.before + ' = 0`';
     if (is_name(it.before) && it.earlier === 'stack' && it.text(-3) === 'local') return 'a local stack begins empty: `local stack ' + it.before + ' = nil`';
     if (it.before === '[' && is_name(it.here) && it.text(-3) === 'int') return 'the length of an array is a number';
-    if (it.before === '[' && it.here === ']' && it.text(-3) === 'int') return 'an array has its length: `int ' + it.earlier + '[10]`';
+    if (it.before === '[' && it.here === ']' && it.text(-3) === 'int') return 'an array needs its length: `int ' + it.earlier + '[10]`';
     if (it.here === 'int' || it.here === 'stack') return 'declarations come first in a cell, before its statements and procedures';
     return null;
 }
 
 function stacks(it) {
     if ((it.here === 'push' || it.here === 'pop') && wants_value(it.before))
-        return 'after `' + it.before + '` a value has to stand, and `' + it.here + '` is a statement: ' + USES[it.here];
+        return 'after `' + it.before + '` a value is needed, and `' + it.here + '` is a statement: ' + USES[it.here];
     if (own(USES, it.before) && it.here !== '(') return 'parentheses are missing: ' + USES[it.before];
-    return it.here === ')' && ['push', 'pop'].includes(it.list[0]) ? 'two names have to stand here: ' + USES[it.list[0]] : null;
+    return it.here === ')' && ['push', 'pop'].includes(it.list[0]) ? 'two names are needed here: ' + USES[it.list[0]] : null;
 }
 
 function parameters(it) {
     const [called, word] = it.list, is_first = it.before === '(' || it.before === ',';
     if (word === 'procedure' && is_first && is_name(it.here))
-        return 'each parameter has its kind: `int ' + it.here + '`, `int ' + it.here + '[]` or `stack ' + it.here + '`';
+        return 'each parameter needs its kind: `int ' + it.here + '`, `int ' + it.here + '[]` or `stack ' + it.here + '`';
     if (it.before === '[' && it.text(-3) === 'int' && ['(', ','].includes(it.text(-4))) return 'a parameter has no length: `int ' + it.earlier + '[]`';
     if (['call', 'uncall'].includes(it.here) && wants_value(it.before))
-        return 'after `' + it.before + '` a value has to stand, and a procedure gives back none: `' + it.here + '` changes the variables that are lent to it';
+        return 'after `' + it.before + '` a value is needed, and a procedure returns none: `' + it.here + '` changes the variables that are lent to it';
     if (called === 'push' || called === 'pop' || word === 'call' || word === 'uncall')
-        return 'only names of variables can stand here: put the value into a variable or a local first';
-    if (called === 'empty' || called === 'top') return 'the name of a stack has to stand here';
-    if (['call', 'uncall'].includes(it.before)) return 'after `' + it.before + '` the name of a procedure has to stand';
+        return 'only names of variables can be used here: put the value into a variable or a local first';
+    if (called === 'empty' || called === 'top') return 'the name of a stack is needed here';
+    if (['call', 'uncall'].includes(it.before)) return 'after `' + it.before + '` the name of a procedure is needed';
     if (['call', 'uncall', 'procedure'].includes(it.earlier) && is_name(it.before) && it.here !== '(')
         return 'write `' + it.earlier + ' ' + it.before + '(..)`, with the names in parentheses';
     if (it.here !== '(' || !is_name(it.before)) return null;
     if (own(CALLED, it.before)) return CALLED[it.before];
-    if (wants_value(it.earlier)) return 'a procedure gives back no value: `call ' + it.before + '(..)` changes the variables that are lent to it';
+    if (wants_value(it.earlier)) return 'a procedure returns no value: `call ' + it.before + '(..)` changes the variables that are lent to it';
     return 'a procedure is called by `call ' + it.before + '(..)`';
 }
 
@@ -190,8 +191,8 @@ function missing(it) {
     if (['fi', 'else'].includes(it.here) && it.inner !== 'if') return '`' + it.here + '` belongs to an `if`, and none is open here';
     if (['until', 'loop', 'do'].includes(it.here) && it.inner !== 'from') return '`' + it.here + '` belongs to a `from`, and none is open here';
     if (it.here === 'delocal' && it.inner !== 'local') return '`delocal` closes a `local`, and none is open here';
-    if (['then', 'else', 'loop', 'do'].includes(it.before)) return 'after `' + it.before + '` a statement has to stand; `skip` is one that does nothing';
-    if (it.here === 'to' && it.inner === 'from') return 'a loop ends by a test, as in `from i = 0 loop i += 1 until i = 10`';
+    if (['then', 'else', 'loop', 'do'].includes(it.before)) return 'after `' + it.before + '` a statement is needed; `skip` is one that does nothing';
+    if (it.here === 'to' && it.inner === 'from') return 'a loop ends with a test, as in `from i = 0 loop i += 1 until i = 10`';
     const is_begun = KEYWORDS.has(it.here) || is_change(it.here) || it.here === '<=>';
     if (it.opened && (it.here === undefined || is_begun && (it.inner === '(' || it.inner === '['))) return unclosed;
     return null;
@@ -200,13 +201,13 @@ function missing(it) {
 function statement(it) {
     if (it.before === ')' && it.all.slice(0, it.index).some(function (one) { return one.text === 'procedure'; }))
         return 'a procedure has at least one statement after its head';
-    if (it.inner === 'if' && is_name(it.here) && !is_change(it.before)) return 'the test ends here, so `then` has to stand here, or an operator is missing';
+    if (it.inner === 'if' && is_name(it.here) && !is_change(it.before)) return 'the test ends here, so `then` is needed here, or an operator is missing';
     if (it.here === undefined && is_name(it.before))
-        return 'a name alone is no statement: `' + it.before + ' += ..` changes it, and a cell shows what it mentions';
-    if (is_change(it.before) || /^(&&|\|\||!=|<=|>=|[-+*/%^&|<>=])$/.test(it.before || '')) return 'after `' + it.before + '` a value has to stand';
-    if (it.before === '<=>') return 'after `<=>` the name of a variable has to stand';
+        return 'a name alone is not a statement: `' + it.before + ' += ..` changes it, and a cell shows what it mentions';
+    if (is_change(it.before) || /^(&&|\|\||!=|<=|>=|[-+*/%^&|<>=])$/.test(it.before || '')) return 'after `' + it.before + '` a value is needed';
+    if (it.before === '<=>') return 'after `<=>` the name of a variable is needed';
     if (is_name(it.before)) return 'after `' + it.before + '` an operator is missing: a statement goes on with `+=`, `-=`, `^=` or `<=>`';
-    if (/^[0-9(]/.test(it.here || '')) return 'a value alone is no statement: a variable is changed by `+=`, `-=` or `^=`';
+    if (/^[0-9(]/.test(it.here || '')) return 'a value alone is not a statement: a variable is changed by `+=`, `-=` or `^=`';
     return null;
 }
 
@@ -228,7 +229,7 @@ function character(code, at) {
     if (one === ':') return colon(code, at);
     if (one === '.' && is_name(tokens(code.slice(0, at)).map(function (it) { return it.text; }).pop()))
         return 'there is no `.` after a name: a stack is used by `push(x, s)`, `pop(x, s)`, `top(s)` and `empty(s)`';
-    if (one === '_' && /[0-9]/.test(last)) return 'a number has digits alone: leave the `_` out';
+    if (one === '_' && /[0-9]/.test(last)) return 'a number has only digits: leave out the `_`';
     return own(CHARACTERS, one) || (/\p{L}/u.test(one) ? 'names have the letters a to z and A to Z, digits and `_`' : null);
 }
 
@@ -256,8 +257,8 @@ function unknown(it) {
     const other = others[0] || small;
     if (small === 'true' || small === 'false') return '`' + it.here + '` is not a word of Janus: ' + FOREIGN[small];
     if (it.before === 'call' || it.before === 'uncall') return 'there is no procedure `' + it.here + '`: define it, in this cell or in an earlier one';
-    if (other !== it.here) return 'no such name is in scope: `' + it.here + '` is not `' + other + '`, since small and capital letters differ; or declare it';
-    return is_outside ? 'no such name is in scope: declare it, as by `int ' + it.here + '`' : null;
+    if (other !== it.here) return 'no such name is in scope: `' + it.here + '` is not `' + other + '`, because upper and lower case differ; or declare it';
+    return is_outside ? 'no such name is in scope: declare it, as in `int ' + it.here + '`' : null;
 }
 
 // What the text itself declares a name as, if it does.
@@ -272,13 +273,13 @@ function other_kind(it) {
     if (it.after === '[') return name + ' is not an array, so it has no elements';
     if (called === 'push' || called === 'pop')
         return '`' + called + '(x, s)` names a variable first and a stack second, and ' + name + ' is not a ' + (it.before === '(' ? 'number' : 'stack');
-    if (called === 'top' || called === 'empty') return '`' + called + '` wants a stack, and ' + name + ' is not one';
-    if (word === 'call' || word === 'uncall') return name + ' is of another kind (number, array or stack) than the parameter that it would be lent to';
+    if (called === 'top' || called === 'empty') return '`' + called + '` needs a stack, and ' + name + ' is not one';
+    if (word === 'call' || word === 'uncall') return name + ' is of a different kind (number, array or stack) from its parameter';
     if (it.before === '<=>' || it.after === '<=>') return '`<=>` swaps two numbers, and ' + name + ' is not one';
     const kind = kind_of(it), element = 'an element of an array is `' + it.here + '[0]`';
     const stack = is_change(it.after) ? 'a stack is changed by `push` and `pop`' : 'the newest number of a stack is `top(' + it.here + ')`';
     const said = kind === 'stack' ? ['a stack', stack] : kind === 'array' ? ['an array', element] : ['an array or a stack', element + ', and ' + stack];
-    return name + ' is ' + said[0] + ', and a number has to stand here: ' + said[1];
+    return name + ' is ' + said[0] + ', and a number is needed here: ' + said[1];
 }
 
 // The place of the bracket that closes the one at a place.
@@ -294,7 +295,7 @@ function itself(it) {
     const name = '`' + it.here + '`', text = function (k) { return it.all[k] && it.all[k].text; };
     for (let k = it.index - 1; k >= 0; k--) {
         if (text(k) === '[' && text(k - 1) === it.here && is_change(text(closed(it.all, k) + 1)))
-            return 'the index names ' + name + ', of which an element is changed, so this could not be undone: copy the index into a local first';
+            return 'the index names ' + name + ', whose element is changed, so this could not be undone: copy the index into a local first';
         if (text(k) === '=' && text(k - 1) === it.here && ['local', 'delocal'].includes(text(k - 3)))
             return 'the value of the local ' + name + ' can\'t name ' + name + ' itself: it has to be known without it';
         if (is_change(text(k)))

@@ -311,7 +311,7 @@ class Tree {
         const history = this.history, label = history.label[n], is = history.in_effect(n), parts = ['node ' + n + ' of ' + history.nodes];
         if (n === 0) parts.push('the start');
         else parts.push(history.parent[n] >= 0 ? 'under ' + history.parent[n] : 'under an earlier node that is not known');
-        if (n === history.position) parts.push('the kernel stands here');
+        if (n === history.position) parts.push('the kernel is here');
         else parts.push(is ? 'in effect' : is === undefined ? 'not known whether it is in effect' : 'not in effect');
         if (texts.prompt(label)) parts.push(texts.prompt(label));
         if (label) parts.push(texts.first_line(label.code).slice(0, 60));

@@ -4,7 +4,7 @@ define(['./manager.js', '@jupyterlab/notebook', '@jupyterlab/console', '@jupyter
 
 return {
     id: 'janus-history:history',
-    description: 'Undo, Redo and the tree of histories of a kernel of Janus',
+    description: 'Undo, Redo and the tree of histories of a Janus kernel',
     autoStart: true,
     requires: [],
     optional: [notebook.INotebookTracker, consoles.IConsoleTracker, apputils.ICommandPalette],

@@ -24,7 +24,7 @@ const cells = Object.assign({}, janus, {
 });
 const LANGUAGES = [
     {parser: janus, title: 'Janus', mime: 'text/x-janus'},
-    {parser: cells, title: 'Cells of Janus', mime: 'text/x-janus-cells'},
+    {parser: cells, title: 'Janus cells', mime: 'text/x-janus-cells'},
 ];
 
 function add(registry, files, it) {

@@ -3,7 +3,7 @@ define(['../memory.js', '@lumino/widgets', '@jupyterlab/ui-components'], functio
 'use strict';
 
 const RANK = 150;                       // behind the property inspector
-const NOBODY = 'Open a notebook or a console of Janus to see its history.';
+const NOBODY = 'Open a Janus notebook or console to see its history.';
 const ICON = new ui.LabIcon({name: 'janus:history', svgstr: '<svg xmlns="http://www.w3.org/2000/svg" width="16" viewBox="0 0 16 16">' +
     '<g class="jp-icon3" stroke="#616161" stroke-width="1.5" fill="none"><path d="M4 4v8M4 9c0-3 7-1 7-4"/><circle cx="4" cy="3" r="1.8"/>' +
     '<circle cx="4" cy="13" r="1.8"/><circle cx="11" cy="4" r="1.8"/></g></svg>'});
@@ -15,7 +15,7 @@ class Side extends lumino.Widget {
         this.session = null;
         this.id = 'janus-history';
         this.addClass('janus-lab');
-        this.title.caption = 'History of Janus';
+        this.title.caption = 'Janus history';
         this.title.icon = ICON;
         this.node.textContent = NOBODY;
     }

@@ -8,7 +8,7 @@ const TOOLS = [
     {id: 'janus:redo', key: 'Shift U', button: 'Redo', label: 'Redo the Cell Undone Last', help: 'Redo the cell that was undone last',
         act: session => session.move({op: 'redo', n: 1})},
     {id: 'janus:backwards', key: 'W', button: 'Backwards', label: 'Run Selected Cell Backwards',
-        help: 'Run the selected cell backwards, and before it all that ran behind it', act: session => session.backwards_of(session.host.selected())},
+        help: 'Run the selected cell backwards, and first everything that ran after it', act: session => session.backwards_of(session.host.selected())},
     {id: 'janus:history', key: 'T', button: 'History', label: 'Show or Hide History', help: 'Show or hide the history', act: (session, side) => side.toggle()},
     {id: 'janus:tree', key: 'G', label: 'Go to Tree of Histories', help: 'Go to the tree of histories, where arrows and Enter work',
         act: (session, side) => side.focus(session)},

@@ -26,8 +26,8 @@ class Turns {
         const turn = first ? run() : batch.last.then(() => this.next(batch, cell, run));
         batch.last = turn.then(function (reply) {
             const failed = reply && reply.content.status !== 'ok' && !is_to_fail(cell);
-            if (failed && !batch.why) batch.why = 'at the cell In [' + reply.content.execution_count + '], which failed';
-        }, function () { batch.why = batch.why || 'as the kernel ended'; });
+            if (failed && !batch.why) batch.why = 'at cell In [' + reply.content.execution_count + '], which failed';
+        }, function () { batch.why = batch.why || 'because the kernel ended'; });
         return turn;
     }
 
@@ -50,7 +50,7 @@ class Turns {
     }
 
     ended(batch) {
-        if (batch.left) this.tell('Stopped ' + batch.why + ': ' + texts.count(batch.left, 'cell') + ' behind it did not run.', 'warn');
+        if (batch.left) this.tell('Stopped ' + batch.why + ': ' + texts.count(batch.left, 'cell') + ' after it did not run.', 'warn');
     }
 }
 

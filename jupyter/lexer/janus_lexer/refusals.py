@@ -4,9 +4,9 @@ REFUSALS = {
     30: ('BadToken',
         'a character has no meaning here: remove it'),
     31: ('Expected',
-        "something else has to stand here, such as 'then' after the test of an 'if'"),
+        "something else is needed here, such as 'then' after the test of an 'if'"),
     32: ('NumberTooLarge',
-        'a number is greater than 2147483647, the greatest there is: take a smaller one. Sums beyond it wrap around, and -2147483648 is written as '
+        'a number is greater than 2147483647, the largest there is: use a smaller one. Sums beyond it wrap around, and -2147483648 is written as '
         "'-2147483647 - 1'"),
     33: ('TooNested',
         'more than 64 constructs are nested, or an expression has more than 256 operators: split it with a variable or a procedure'),
@@ -21,11 +21,11 @@ REFUSALS = {
         'no such name is in scope: declare it. In a procedure only its parameters and locals are in scope, and a statement after a procedure belongs '
         'to it'),
     42: ('WrongKind',
-        'this name is of another kind (number, array or stack) than is needed here: an array may lack its index, an argument has to be of its '
-        "parameter's kind, and '<=>' stands between two variables that are numbers"),
+        'this name is not of the kind (number, array or stack) that is needed here: an array may lack its index, an argument must have its '
+        "parameter's kind, and '<=>' swaps two variables that are numbers"),
     43: ('SelfUse',
-        'an assignment names its own variable on the right or in its index, so it could not be undone; or a local is named in its own two '
-        'expressions: use a second variable'),
+        "an assignment names its own variable on the right or in its index, so it could not be undone; or one of a local's own two expressions names "
+        'it: use a second variable'),
     44: ('SameArgument',
         'a name is given twice among the arguments of a call: pass a copy in a local'),
     45: ('Arity',
@@ -57,16 +57,16 @@ REFUSALS = {
     58: ('IndexRange',
         'the index is below 0 or beyond the end'),
     59: ('StackFull',
-        'the stacks hold 262,144 numbers together, local ones and those outside an open call among them: pop some first'),
+        'all stacks together, including local ones and those outside an open call, hold 262,144 numbers: pop some first'),
     60: ('TooDeep',
         'more than 16,384 frames are open at once; each call, and each statement inside another, opens some, so a recursion with one call inside an '
-        "'if' goes about 4,000 levels deep: it doesn't end, or is too deep"),
+        "'if' goes about 4,000 levels deep: yours doesn't end, or is too deep"),
     61: ('TooManyStacks',
         'there are 64 stacks already'),
     62: ('StepLimit',
         '10^12 steps were taken'),
     70: ('HistoryFull',
-        'the history has its 65,536 nodes, and nodes are never freed: keep your cells and restart the kernel, which forgets what it holds'),
+        'the history has its 65,536 nodes, and nodes are never freed: save your cells and restart the kernel, which forgets what it holds'),
     71: ('NoNode',
         'no cell has this number'),
     72: ('Memory',
@@ -74,7 +74,7 @@ REFUSALS = {
     73: ('TooFar',
         'there are fewer cells that way: nothing was done'),
     74: ('QueueFull',
-        "1,024 jobs are waiting: wait until some are done. At 'janus-kernel' at most 32 wait, so this never comes"),
+        "1,024 jobs are waiting: wait until some are done. With 'janus-kernel' at most 32 wait, so this never comes"),
     75: ('Closing',
         'the kernel is shutting down'),
     76: ('Memory',
@@ -82,9 +82,9 @@ REFUSALS = {
     77: ('MinutesFull',
         'the kernel has served 500,000 jobs: restart it'),
     78: ('PassMissing',
-        "comes where a kernel's own books are audited when it is closed, and don't add up. 'janus-kernel' audits none, so this never comes"),
+        "comes when a kernel's own books are audited as it is closed, and don't add up. 'janus-kernel' audits none, so this never comes"),
     79: ('TicketUnknown',
-        "comes where a kernel's own books are audited, like 78"),
+        "comes when a kernel's own books are audited, like 78"),
     80: ('BadCommand',
         "only in 'janus-cells': no command has this form"),
     81: ('NoPass',

@@ -1,7 +1,7 @@
 #!/usr/bin/python3
 """A console for Janus in a terminal, with undo: cells, and the commands %undo, %redo, %goto, %show and %tree.
 
-usage: janus-repl [--existing FILE]     (a kernel's connection file; else a kernel of its own, which ends with the console)
+usage: janus-repl [--existing FILE]     (a kernel's connection file; without it, a kernel of its own, which ends with the console)
 
 Needs jupyter_client, prompt_toolkit and pygments, as Debian's jupyter-console brings them.
 """
@@ -38,11 +38,11 @@ except ImportError as missing:
     sys.exit(f"janus-repl: {missing}; Debian's jupyter-console brings what it needs")
 
 HELP = '''%undo [K]   take K cells back, the newest first      %goto N   go to node N, 0 for the start
-%redo [K]   redo K cells along the ways last gone    %show     the values here
+%redo [K]   redo K cells along the ways last taken   %show     the values here
 %tree       all cells that ran, and where we are     %help     this
 %load FILE  run the cells of a file for janus-cells
-A text that is not complete goes on; a blank line ends it. Alt-Enter begins a new line in any case.
-Ctrl-C empties the line, or stops the cell that runs, which is then taken back; Ctrl-D leaves.'''
+A text that is not complete goes on; a blank line ends it. Alt-Enter always begins a new line.
+Ctrl-C clears the line, or stops the running cell, which is then taken back; Ctrl-D leaves.'''
 RUNS = f'{RUN} ends a cell in a file for janus-cells; here Enter runs it, and %load FILE runs such a file'
 COMMAND = re.compile(r'%(undo|redo|goto|show|tree|help)(?:\s+(\d{1,10}))?\s*$')
 LOAD = re.compile(r'%load\s+(\S.*)')
@@ -222,7 +222,7 @@ def way(answer):
     undone, redone = (f'{number} cell{"" if number == 1 else "s"}' for number in (answer['undone'], answer['redone']))
     if answer['op'] == 'goto':
         return f'went to node {answer["node"]}, {undone} up and {redone} down'
-    return ('undid ' + undone if answer['op'] == 'undo' else 'redid ' + redone) + f'; the kernel stands at node {answer["node"]}'
+    return ('undid ' + undone if answer['op'] == 'undo' else 'redid ' + redone) + f'; the kernel is at node {answer["node"]}'
 
 
 class Console:
@@ -296,7 +296,7 @@ class Console:
         self.tree.see(state)
         if name == 'tree':
             return [say(*it) for it in self.tree.rows()]
-        say(('bold', f'at node {state["node"]}' + (', and a cell runs' if state['busy'] else '')))
+        say(('bold', f'at node {state["node"]}' + (', and a cell is running' if state['busy'] else '')))
         return [say(it) for it in state['world']]
 
     def cell(self, text, above=0):
@@ -346,7 +346,7 @@ class Console:
         """Does a command of a file, whose nodes are numbered from where its first cell began."""
         found = COMMAND.match(line)
         if not found:
-            return say(('ansired', f'{line}: this is for janus-cells, and is passed over'))
+            return say(('ansired', f'{line}: this is for janus-cells, and is skipped'))
         number = found[2]
         if found[1] == 'goto' and number is not None:
             if int(number) >= len(nodes):
@@ -363,7 +363,7 @@ class Console:
             say(('ansiyellow', 'another frontend ' + way(it)))
 
     def serve(self):
-        say(('bold', 'Janus'), ': cells run, and %undo takes them back; %help names the commands. Other frontends: --existing ' + self.desk.file)
+        say(('bold', 'Janus'), ': cells run, and %undo takes them back; %help lists the commands. Other frontends: --existing ' + self.desk.file)
         while True:
             self.tell()
             try:
@@ -384,7 +384,7 @@ def main(words):
         print(__doc__.split('\n')[2], file=sys.stderr)
         return 2
     if not sys.stdin.isatty():
-        print('janus-repl wants a terminal; janus-cells reads a stream', file=sys.stderr)
+        print('janus-repl needs a terminal; janus-cells reads a stream', file=sys.stderr)
         return 2
     try:
         desk = Desk(words[1] if words else None)

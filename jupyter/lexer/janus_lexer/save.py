@@ -1,7 +1,7 @@
 #!/usr/bin/python3
 """Saves the session of a kernel of Janus that runs, as a file of cells whose run by janus-cells gives the same tree, worlds and position.
 
-usage: janus-save-session [--existing FILE] [OUT]        (FILE: a kernel's connection file, else the newest; OUT: the script, else standard output)
+usage: janus-save-session [--existing FILE] [OUT]        (FILE: a kernel's connection file, or the newest; OUT: the script, or standard output)
        janus-save-session --check [--existing FILE]      (how much of its limits the kernel has used; status 1 above nine tenths)
 
 It walks the kernel's tree, runs the cells once more in a kernel of its own beside it, compares each node, and puts the position back.
@@ -87,7 +87,7 @@ class Kernel:
             asked = self.send('comm_msg', {'comm_id': self.comm, 'data': {'op': 'state'}})
             if any(kind == 'comm_msg' for kind, _ in self.heard(asked, 1)):
                 return
-        raise Trouble('the kernel opens no comm: 1,024 are open, or it is none of Janus', 3)
+        raise Trouble('the kernel opens no comm: 1,024 are open, or it is not a Janus kernel', 3)
 
     def send(self, kind, content):
         message = self.client.session.msg(kind, content)
@@ -246,7 +246,7 @@ class Walk:
     def __init__(self, kernel, inputs):
         self.kernel, self.begun = kernel, kernel.state()
         if self.begun['busy']:
-            raise Trouble('a cell runs: wait for its end, or stop it by janus-interrupt')
+            raise Trouble('a cell is running: wait for its end, or stop it with janus-interrupt')
         if not self.begun['nodes']:
             raise Trouble('no cell has run, so there is nothing to save')
         self.count, self.shape = self.begun['nodes'], Shape(self.begun['nodes'])
@@ -365,7 +365,7 @@ class Twin:
                 self.text[node] = text
                 return
             self.failed.setdefault(node, []).append(text)
-        raise Trouble(f'no input of the history leads to node {node}: a cell was silent or not to be stored')
+        raise Trouble(f'no input of the history leads to node {node}: a cell was silent or was not to be stored')
 
     def fits(self, node, parent, world, text, names):
         """Whether the text leads to the world, with the same procedures of those names that the node's own text may define."""
@@ -428,7 +428,7 @@ def newest():
                     return file
         except (OSError, ValueError, AttributeError):
             continue
-    raise Trouble(f'no kernel of Janus in {jupyter_runtime_dir()}: name its connection file by --existing', 3)
+    raise Trouble(f'no kernel of Janus in {jupyter_runtime_dir()}: name its connection file with --existing', 3)
 
 
 def is_connection_file(name):
@@ -447,7 +447,7 @@ def check(kernel):
     tail = kernel.question('history_request', hist_access_type='tail', output=False, raw=True, n=1)['history']
     jobs = max(state['nodes'], tail[0][1] if tail else 0)
     used = {'nodes': (state['nodes'], MOST_NODES), 'minutes': (2 * jobs, MOST_MINUTES)}
-    print(f'at node {state["node"]}, {state["depth"]} above, {state["redo"]} to redo' + (', and a cell runs' if state['busy'] else ''))
+    print(f'at node {state["node"]}, {state["depth"]} above, {state["redo"]} to redo' + (', and a cell is running' if state['busy'] else ''))
     for name, (number, most) in used.items():
         least = 'at least ' if name == 'minutes' else ''
         print(f'{name}: {least}{number:,} of {most:,}, {100 * number / most:.1f} %')
@@ -474,7 +474,7 @@ def walked(kernel):
     inputs = kernel.inputs()
     walk = Walk(kernel, len(inputs))
     if len(inputs) < walk.count:
-        raise Trouble(f'{walk.count} nodes, but {len(inputs)} inputs in the history: cells were silent or not to be stored')
+        raise Trouble(f'{walk.count} nodes, but {len(inputs)} inputs in the history: cells were silent or were not to be stored')
     twin, is_whole = Twin(inputs, walk), False
     try:
         for node, parent, world in walk.nodes():
@@ -547,7 +547,7 @@ def main(words):
         print('janus-save-session: no connection file ' + file, file=sys.stderr)
         return 2
     if words and is_connection_file(words[0]):
-        said = f'{words[0]} is a connection file, and is left as it is: name a kernel by --existing {words[0]}, and after it a file for the script'
+        said = f'{words[0]} is a connection file, and is left as it is: name a kernel with --existing {words[0]}, and after it a file for the script'
         print('janus-save-session: ' + said, file=sys.stderr)
         return 2
     signal.signal(signal.SIGTERM, signal.default_int_handler)

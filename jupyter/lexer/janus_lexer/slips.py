@@ -10,7 +10,7 @@ CLOSER = {'if': '`fi` with its second test', 'from': '`until` with its test', 'l
 CHANGES = ('+=', '-=', '^=')
 FOREIGN, CHARACTERS, CALLED, COLONS = {}, {}, {}, {}
 USES = {'push': '`push(x, s)` moves the number of the variable `x` onto the stack `s`', 'top': '`top(s)` is the newest number of the stack `s`',
-        'pop': '`pop(x, s)` moves the newest number of the stack `s` into the variable `x`', 'empty': '`empty(s)` is 1 where the stack `s` is empty'}
+        'pop': '`pop(x, s)` moves the newest number of the stack `s` into the variable `x`', 'empty': '`empty(s)` is 1 if the stack `s` is empty'}
 
 
 def told(table, sentence, *words):
@@ -20,12 +20,12 @@ def told(table, sentence, *words):
 
 told(FOREIGN, 'a loop is `from .. loop .. until ..`', 'while', 'for', 'repeat')
 told(FOREIGN, 'a cell shows the names that it mentions', 'print', 'printf', 'show', 'write')
-told(FOREIGN, 'a cell reads nothing: write the number into it', 'read', 'input')
+told(FOREIGN, 'a cell reads no input: write the number into it', 'read', 'input')
 told(FOREIGN, 'words such as `then` and `fi` enclose statements, so leave it out', 'begin')
-told(FOREIGN, 'nothing is brought in from elsewhere, and the procedures of earlier cells are there', 'import', 'include')
+told(FOREIGN, 'nothing can be imported; the procedures of earlier cells can be called', 'import', 'include')
 told(FOREIGN, 'here type %undo', 'undo')
 told(FOREIGN, 'here type %redo', 'redo')
-told(FOREIGN, 'a procedure gives back what it changes, its parameters', 'return')
+told(FOREIGN, 'a procedure returns nothing: it changes its parameters', 'return')
 told(FOREIGN, 'a procedure begins with `procedure`', 'def', 'function', 'proc')
 told(FOREIGN, 'write `&&`', 'and')
 told(FOREIGN, 'write `||`', 'or')
@@ -40,7 +40,7 @@ told(FOREIGN, 'write `else if .. fi ..`, each with its own `fi`', 'elif')
 told(FOREIGN, 'write `int` or `stack`', 'var', 'let')
 told(FOREIGN, 'write `int`: 0 is false', 'bool')
 told(FOREIGN, 'numbers are whole: write `int`', 'float')
-told(FOREIGN, 'words of the language are written in small letters', 'IF', 'If', 'FROM', 'From', 'PROCEDURE', 'Procedure', 'CALL', 'LOCAL', 'INT', 'Int')
+told(FOREIGN, 'words of the language are written in lower case', 'IF', 'If', 'FROM', 'From', 'PROCEDURE', 'Procedure', 'CALL', 'LOCAL', 'INT', 'Int')
 told(CHARACTERS, 'there are no texts, only numbers', '"', "'", '`', '\u201c', '\u201d', '\u2018', '\u2019')
 told(CHARACTERS, 'statements follow one another without `;`', ';')
 told(CHARACTERS, 'there is no `?`: write an `if`', '?')
@@ -50,9 +50,9 @@ told(CHARACTERS, 'a comment begins with `//`', '#')
 told(CHARACTERS, 'a statement may go on over several lines without this sign: leave it out', '\\')
 told(CHARACTERS, 'there is no `!`: compare with 0, as in `y = 0`', '!')
 told(CHARACTERS, 'there is no `~`: `-1 ^ y` flips all bits of `y`', '~')
-told(CHARACTERS, 'numbers are whole: leave the point out', '.')
+told(CHARACTERS, 'numbers are whole: leave out the point', '.')
 told(CHARACTERS, 'a name begins with a letter', '_')
-told(CHARACTERS, 'this is not a plain space, perhaps because it was copied from a page: type it anew', '\u00a0')
+told(CHARACTERS, 'this is not a plain space, perhaps because it was copied from a page: type it again', '\u00a0')
 told(CHARACTERS, 'there is an invisible character here: remove it', '\u200b')
 told(CHARACTERS, 'there is an invisible character (a BOM) here: remove it', '\ufeff')
 told(CHARACTERS, 'multiply by `*`', '\u00d7')
@@ -61,10 +61,10 @@ told(CHARACTERS, 'this dash is another character: type `-`', '\u2013')
 told(CHARACTERS, 'write `!=`', '\u2260')
 told(CHARACTERS, 'write `<=`', '\u2264')
 told(CHARACTERS, 'write `>=`', '\u2265')
-told(CHARACTERS, 'there is no assignment that forgets: write `+=`, `-=` or `^=`', '\u2190')
+told(CHARACTERS, 'no assignment forgets the old value: write `+=`, `-=` or `^=`', '\u2190')
 told(CALLED, 'two numbers are swapped by `x <=> y`; a procedure of your own is called by `call swap(..)`', 'swap')
-told(CALLED, 'nothing tells a length: an array has that of its declaration, and `empty(s)` is 1 where the stack `s` is empty', 'len', 'length', 'size')
-told(COLONS, 'after the test of an `if` stands `then`, and no `:`', 'if', 'elif')
+told(CALLED, 'no function gives a length: an array has that of its declaration, and `empty(s)` is 1 if the stack `s` is empty', 'len', 'length', 'size')
+told(COLONS, 'after the test of an `if` comes `then`, without a `:`', 'if', 'elif')
 told(COLONS, 'a loop is `from .. loop .. until ..`', 'while', 'for', 'from')
 told(COLONS, 'a procedure begins with `procedure`, and no `:` follows its head', 'def', 'function', 'proc')
 told(COLONS, 'no `:` follows the head of a procedure', 'procedure')
@@ -142,11 +142,11 @@ def equals(it):
     if is_name(it.before) and it.earlier == 'int':
         return f'a number starts at 0: write `int {it.before}`, and then `{it.before} += ..`'
     if it.before == ']' and (it.text(-5) == 'int' and it.text(-3) == '[' or it.text(-4) == 'int'):
-        return 'the elements of an array start at 0: give them their values by `+=`'
+        return 'the elements of an array start at 0: give them their values with `+=`'
     if is_name(it.before) and it.after in ('+', '-', '^'):
         return f'the sign comes first: write `{it.before} {it.after}= ..`'
     target = 'the element' if it.before == ']' else f'`{it.before}`'
-    return f'there is no `=` that forgets what was there: change {target} by `+=`, `-=` or `^=`' if is_name(it.before) or it.before == ']' else None
+    return f'`=` would forget the old value: change {target} by `+=`, `-=` or `^=`' if is_name(it.before) or it.before == ']' else None
 
 
 def operator(it):
@@ -165,37 +165,37 @@ def operator(it):
     if it.here == '>' and it.before == '<':
         return 'write `!=` for different'
     if it.here == '<=>' and it.before == ']' or it.before == '<=>' and it.here and not is_name(it.here) or it.here == '[' and it.earlier == '<=>':
-        return '`<=>` exchanges variables, not elements: take two locals, as examples/sort does'
+        return '`<=>` swaps variables, not elements: use two locals, as examples/sort does'
     return None
 
 
 def stacks(it):
     if it.here in ('push', 'pop') and wants_value(it.before):
-        return f'after `{it.before}` a value has to stand, and `{it.here}` is a statement: {USES[it.here]}'
+        return f'after `{it.before}` a value is needed, and `{it.here}` is a statement: {USES[it.here]}'
     if it.before in USES and it.here != '(':
         return 'parentheses are missing: ' + USES[it.before]
-    return 'two names have to stand here: ' + USES[it.called] if it.here == ')' and it.called in ('push', 'pop') else None
+    return 'two names are needed here: ' + USES[it.called] if it.here == ')' and it.called in ('push', 'pop') else None
 
 
 def parameters(it):
     if it.word == 'procedure' and it.before in ('(', ',') and is_name(it.here):
-        return f'each parameter has its kind: `int {it.here}`, `int {it.here}[]` or `stack {it.here}`'
+        return f'each parameter needs its kind: `int {it.here}`, `int {it.here}[]` or `stack {it.here}`'
     if it.before == '[' and it.text(-3) == 'int' and it.text(-4) in ('(', ','):
         return f'a parameter has no length: `int {it.earlier}[]`'
     if it.here in ('call', 'uncall') and wants_value(it.before):
-        return f'after `{it.before}` a value has to stand, and a procedure gives back none: `{it.here}` changes the variables that are lent to it'
+        return f'after `{it.before}` a value is needed, and a procedure returns none: `{it.here}` changes the variables that are lent to it'
     if it.called in ('push', 'pop') or it.word in ('call', 'uncall'):
-        return 'only names of variables can stand here: put the value into a variable or a local first'
+        return 'only names of variables can be used here: put the value into a variable or a local first'
     if it.called in ('empty', 'top'):
-        return 'the name of a stack has to stand here'
+        return 'the name of a stack is needed here'
     if it.before in ('call', 'uncall'):
-        return f'after `{it.before}` the name of a procedure has to stand'
+        return f'after `{it.before}` the name of a procedure is needed'
     if it.earlier in ('call', 'uncall', 'procedure') and is_name(it.before) and it.here != '(':
         return f'write `{it.earlier} {it.before}(..)`, with the names in parentheses'
     if it.here != '(' or not is_name(it.before):
         return None
     is_value = wants_value(it.earlier)
-    called = f'a procedure gives back no value: `call {it.before}(..)` changes the variables that are lent to it' if is_value else ''
+    called = f'a procedure returns no value: `call {it.before}(..)` changes the variables that are lent to it' if is_value else ''
     return CALLED.get(it.before) or called or f'a procedure is called by `call {it.before}(..)`'
 
 
@@ -204,18 +204,18 @@ def declaration(it):
         return '`main` has no parameters: its declarations follow `main()`'
     is_sized = it.here == '[' and is_number(it.after) and it.text(2) == ']' and is_name(it.text(3))
     if it.here == '[' and it.before == 'int':
-        return f'the length stands after the name: `int {it.text(3) + "[" + it.after if is_sized else "a[10"}]`'
+        return f'the length comes after the name: `int {it.text(3) + "[" + it.after if is_sized else "a[10"}]`'
     if it.here == '[' and it.before == 'stack':
         return f'a stack has no length: write `stack {it.text(3) if is_sized else "s"}`'
     if it.here == ',' and is_name(it.before) and it.earlier == 'int':
-        return f'each name has its own kind: `int {it.before} int {it.after or ".."}`'
+        return f'each name needs its own kind: `int {it.before} int {it.after or ".."}`'
     if it.here in KEYWORDS and it.before in ('int', 'stack', 'procedure', 'call', 'uncall'):
-        return f'`{it.here}` is a word of the language: a name has to stand here'
+        return f'`{it.here}` is a word of the language: a name is needed here'
     if it.before in ('local', 'delocal'):
         return f'its kind is missing: `{it.before} int {it.here or ".."}`'
     if it.text(-3) == 'local' and is_name(it.before):
         if it.here == '[':
-            return 'there are no local arrays: take a parameter, or a local stack'
+            return 'there are no local arrays: use a parameter, or a local stack'
         if it.earlier == 'int':
             return f'a local begins with a value: `local int {it.before} = 0`'
         if it.earlier == 'stack':
@@ -223,7 +223,7 @@ def declaration(it):
     if it.before == '[' and it.text(-3) == 'int' and is_name(it.here):
         return 'the length of an array is a number'
     if it.before == '[' and it.text(-3) == 'int' and it.here == ']':
-        return f'an array has its length: `int {it.earlier}[10]`'
+        return f'an array needs its length: `int {it.earlier}[10]`'
     return 'declarations come first in a cell, before its statements and procedures' if it.here in ('int', 'stack') else None
 
 
@@ -243,9 +243,9 @@ def missing(it):
     if it.here == 'delocal' and it.inner != 'local':
         return '`delocal` closes a `local`, and none is open here'
     if it.before in ('then', 'else', 'loop', 'do'):
-        return f'after `{it.before}` a statement has to stand; `skip` is one that does nothing'
+        return f'after `{it.before}` a statement is needed; `skip` is one that does nothing'
     if it.here == 'to' and it.inner == 'from':
-        return 'a loop ends by a test, as in `from i = 0 loop i += 1 until i = 10`'
+        return 'a loop ends with a test, as in `from i = 0 loop i += 1 until i = 10`'
     if it.inner and (not it.here or (it.here in KEYWORDS or starts) and it.inner in ('(', '[')):
         return f'the `{it.inner}` of line {it.line} has no {CLOSER[it.inner]}'
     return None
@@ -255,16 +255,16 @@ def statement(it):
     if it.before == ')' and any(one[0] == 'procedure' for one in it.tokens[:it.index]):
         return 'a procedure has at least one statement after its head'
     if it.inner == 'if' and is_name(it.here) and it.before not in CHANGES:
-        return 'the test ends here, so `then` has to stand here, or an operator is missing'
+        return 'the test ends here, so `then` is needed here, or an operator is missing'
     if not it.here and is_name(it.before):
-        return f'a name alone is no statement: `{it.before} += ..` changes it, and a cell shows what it mentions'
+        return f'a name alone is not a statement: `{it.before} += ..` changes it, and a cell shows what it mentions'
     if it.before in CHANGES or re.fullmatch(r'&&|\|\||!=|<=|>=|[-+*/%^&|<>=]', it.before):
-        return f'after `{it.before}` a value has to stand'
+        return f'after `{it.before}` a value is needed'
     if it.before == '<=>':
-        return 'after `<=>` the name of a variable has to stand'
+        return 'after `<=>` the name of a variable is needed'
     if is_name(it.before):
         return f'after `{it.before}` an operator is missing: a statement goes on with `+=`, `-=`, `^=` or `<=>`'
-    return 'a value alone is no statement: a variable is changed by `+=`, `-=` or `^=`' if re.match('[0-9(]', it.here) else None
+    return 'a value alone is not a statement: a variable is changed by `+=`, `-=` or `^=`' if re.match('[0-9(]', it.here) else None
 
 
 RULES = (foreign, number, equals, operator, stacks, parameters, declaration, missing, statement)
@@ -279,7 +279,7 @@ def character(code, at):
     if one == '.' and names and is_name(names[-1]):
         return 'there is no `.` after a name: a stack is used by `push(x, s)`, `pop(x, s)`, `top(s)` and `empty(s)`'
     if one == '_' and is_number(last):
-        return 'a number has digits alone: leave the `_` out'
+        return 'a number has only digits: leave out the `_`'
     return CHARACTERS.get(one) or ('names have the letters a to z and A to Z, digits and `_`' if one.isalpha() else None)
 
 
@@ -311,8 +311,8 @@ def unknown(it):
     if it.before in ('call', 'uncall'):
         return f'there is no procedure `{it.here}`: define it, in this cell or in an earlier one'
     if other != it.here:
-        return f'no such name is in scope: `{it.here}` is not `{other}`, since small and capital letters differ; or declare it'
-    return f'no such name is in scope: declare it, as by `int {it.here}`' if is_outside else None
+        return f'no such name is in scope: `{it.here}` is not `{other}`, because upper and lower case differ; or declare it'
+    return f'no such name is in scope: declare it, as in `int {it.here}`' if is_outside else None
 
 
 def kind_of(it):
@@ -330,15 +330,15 @@ def other_kind(it):
         wanted = 'number' if it.before == '(' else 'stack'
         return f'`{it.called}(x, s)` names a variable first and a stack second, and `{it.here}` is not a {wanted}'
     if it.called in ('top', 'empty'):
-        return f'`{it.called}` wants a stack, and `{it.here}` is not one'
+        return f'`{it.called}` needs a stack, and `{it.here}` is not one'
     if it.word in ('call', 'uncall'):
-        return f'`{it.here}` is of another kind (number, array or stack) than the parameter that it would be lent to'
+        return f'`{it.here}` is of a different kind (number, array or stack) from its parameter'
     if '<=>' in (it.before, it.after):
         return f'`<=>` swaps two numbers, and `{it.here}` is not one'
     kind, element = kind_of(it), f'an element of an array is `{it.here}[0]`'
     stack = 'a stack is changed by `push` and `pop`' if it.after in CHANGES else f'the newest number of a stack is `top({it.here})`'
     said = {'stack': ('a stack', stack), 'array': ('an array', element), None: ('an array or a stack', f'{element}, and {stack}')}[kind]
-    return f'`{it.here}` is {said[0]}, and a number has to stand here: {said[1]}'
+    return f'`{it.here}` is {said[0]}, and a number is needed here: {said[1]}'
 
 
 def closed(tokens, begin):
@@ -356,7 +356,7 @@ def itself(it):
         return it.tokens[k][0] if 0 <= k < len(it.tokens) else ''
     for k in range(it.index - 1, -1, -1):
         if text(k) == '[' and text(k - 1) == it.here and text(closed(it.tokens, k) + 1) in CHANGES:
-            return f'the index names `{it.here}`, of which an element is changed, so this could not be undone: copy the index into a local first'
+            return f'the index names `{it.here}`, whose element is changed, so this could not be undone: copy the index into a local first'
         if text(k) == '=' and text(k - 1) == it.here and text(k - 3) in ('local', 'delocal'):
             return f"the value of the local `{it.here}` can't name `{it.here}` itself: it has to be known without it"
         if text(k) in CHANGES:

@@ -37,7 +37,7 @@ def loads(stage):
     check(now['tools'] == BUTTONS, 'the buttons stand in the toolbar', now['tools'])
     check(now['visible'] and now['where'].startswith('at node 0 of 0'), 'the panel stands at the right side', now)
     check(now['title'] == 'loads.ipynb', 'with the notebook\'s name', now['title'])
-    marked(page, ['gone'] * 4, 'saved outputs are marked as of an earlier run')
+    marked(page, ['gone'] * 4, 'saved outputs are marked as from an earlier run')
     figure('version', page.js('return jupyterapp.name + " " + jupyterapp.version'))
     outside = page.js('''return performance.getEntriesByType('resource').map(function (it) { return it.name; })
         .filter(function (it) { return !it.startsWith(location.origin) && !it.startsWith('data:') && !it.startsWith('blob:'); })''')
@@ -76,7 +76,7 @@ def files(stage):
     stage.write('prog.janus-cells', 'int x\n%%\nx += 5 // one\n%undo 1\n')
     types = page.js('''return ["prog.janus", "prog.janus-cells"].map(function (it) {
         return (jupyterapp.docRegistry.getFileTypesForPath(it)[0] || {}).displayName; })''')
-    check(types == ['Janus', 'Cells of Janus'], 'files of both kinds have a type', types)
+    check(types == ['Janus', 'Janus cells'], 'files of both kinds have a type', types)
     page.command('docmanager:open', path='prog.janus')
     has_tokens(page, '.jp-FileEditor', 'procedure', 'f', '// one')
     page.command('docmanager:open', path='prog.janus-cells')
@@ -148,7 +148,7 @@ def backwards(stage):
     select(page, 3)
     page.click('.janus-backwards')
     stands(page, 2, 4, WORLD, 'the third cell backwards leads to the node above it')
-    wanted = 'Node 3 ran backwards, and before it 1 cell that ran behind it, the newest first.'
+    wanted = 'Node 3 ran backwards, and before it 1 cell that ran after it, the newest first.'
     comes('and it is said', lambda: (message(page) == wanted, message(page)))
     page.click('.janus-backwards')
     wanted = 'This cell, node 3, is not in effect: there is nothing to run backwards.'
@@ -256,7 +256,7 @@ def screen_reader(stage):
     click_node(page, 3)
     stands(page, 3, 4, FORWARD)
     names, levels, roles = spoken(page)
-    wanted = 'node 3 of 4, under 2, the kernel stands here, In [3], call fib(x1, x2, n)'
+    wanted = 'node 3 of 4, under 2, the kernel is here, In [3], call fib(x1, x2, n)'
     check(len(names) == 5 and names[3] == wanted, 'rows are tree items in words', names)
     wanted = ['node 2 of 4, under 1, in effect, In [2], n += 4', 'node 4 of 4, under 3, not in effect, In [4], uncall fib(x1, x2, n)']
     check(names[2::2] == wanted, 'with what is in effect', names)
@@ -415,7 +415,7 @@ def run_all(stage):
     source(page, 2, 'n += n')
     select(page, 1)
     page.command('notebook:run-all-cells')
-    wanted = 'Stopped at the cell In [2], which failed: 2 cells behind it did not run.'
+    wanted = 'Stopped at cell In [2], which failed: 2 cells after it did not run.'
     comes('Run All stops at the cell that fails, and says so', lambda: (message(page) == wanted, message(page)), 60)
     stands(page, 1, 1, ZEROS)
     comes('the cells that did not run have their old prompts', lambda: (prompts(page) == ['1', '2', '3', '4'], prompts(page)))
@@ -445,7 +445,7 @@ def run_all_tagged(stage):
     add(page, 'n += 1')
     select(page, 1)
     page.command('notebook:run-all-cells')
-    wanted = 'Stopped at the cell In [6], which failed: 1 cell behind it did not run.'
+    wanted = 'Stopped at cell In [6], which failed: 1 cell after it did not run.'
     comes('Run All goes on behind a cell that is tagged to fail, and stops at one that is not', lambda: (message(page) == wanted, message(page)), 60)
     stands(page, 4, 4, ['x1 = 5', 'x2 = 8', 'n = 7'])
     marked(page, ['+1', '+2', '+3', '', '+4', '', ''], 'with the marks of those that ran')
@@ -462,7 +462,7 @@ def second_frontend(stage):
     other.ask('undo', n=3)
     stands(page, 2, 5, WORLD, 'another frontend undoes three')
     marked(page, ['+1', '+2', '-3', '-4'], 'the cells are marked')
-    comes('and it is told', lambda: (shown(page)['others'][-1] == 'another frontend undid 3 cells; the kernel stands at node 2', shown(page)['others']))
+    comes('and it is told', lambda: (shown(page)['others'][-1] == 'another frontend undid 3 cells; the kernel is at node 2', shown(page)['others']))
     page.click('.janus-redo')
     stands(page, 3, 5, FORWARD, 'Redo goes on from there')
     check(other.ask('state')['node'] == 3, 'the other frontend is told the same')
@@ -513,7 +513,7 @@ def restart(stage):
     run_example(page)
     page.js(S + 'panel.sessionContext.session.kernel.restart()')
     stands(page, 0, 0, [], 'after a restart the kernel stands at node 0', 120)
-    marked(page, ['gone'] * 4, 'the cells are of an earlier run')
+    marked(page, ['gone'] * 4, 'the cells are from an earlier run')
     run(page, 1)
     stands(page, 1, 1, ZEROS, 'a cell of the new run is node 1')
     marked(page, ['+1', 'gone', 'gone', 'gone'], 'and marked')
@@ -550,7 +550,7 @@ def connection(stage):
     marked(page, ['+1', '+2', '+3', '+4'], 'the marks are as they were')
     check(kill_kernel(stage.connection) == 1, 'the kernel of this page was killed')
     stands(page, 0, 0, [], 'the server starts it anew, and the page stands at node 0', 120)
-    marked(page, ['gone'] * 4, 'the cells are of an earlier run')
+    marked(page, ['gone'] * 4, 'the cells are from an earlier run')
     run(page, 1)
     stands(page, 1, 1, what='a cell of the new run is node 1')
 
@@ -583,7 +583,7 @@ def other_kernel(stage):
     page.js('kept.sessionContext.changeKernel({name: "janus"})')
     comes('with Janus again they come back', lambda: (shown(page)['tools'] == BUTTONS, shown(page)['tools']), 60)
     wait('the state', lambda: page.js(READY), 60)
-    marked(page, ['gone'] * 4, 'what ran is of an earlier run')
+    marked(page, ['gone'] * 4, 'what ran is from an earlier run')
     run(page, 1)
     stands(page, 1, 1, ZEROS, 'and serve the new kernel')
 

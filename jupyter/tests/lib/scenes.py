@@ -129,12 +129,12 @@ def refusals(stage):
     page.run(cell)
     place = 'return Jupyter.notebook.get_cell(arguments[0]).element.find(".janus-place").text()'
     comes('the place of a refusal is underlined', lambda: page.js(place, cell) == 'the')
-    wanted = 'Line 3, column 11: the test ends here, so \'then\' has to stand here, or an operator is missing (31 Expected). Nothing has run.'
+    wanted = 'Line 3, column 11: the test ends here, so \'then\' is needed here, or an operator is missing (31 Expected). Nothing has run.'
     check(words_below(page, cell) == wanted, 'what to do stands below, with line and column', words_below(page, cell))
     page.js('Jupyter.notebook.get_cell(arguments[0]).set_text("x1 += 7 / (n - 4)")', cell)
     check(page.js(place, cell) == '' and words_below(page, cell) == '', 'both are gone once the text is changed')
     page.run(cell)
-    wanted = '\'/\' or \'%\' by 0 (57 DivisionByZero), after 1 step. What ran was taken back: all is as before the cell.'
+    wanted = '\'/\' or \'%\' by 0 (57 DivisionByZero), after 1 step. What ran was taken back: everything is as it was before the cell.'
     comes('a fault is told in words', lambda: (words_below(page, cell) == wanted, words_below(page, cell)))
     page.js('Jupyter.notebook.get_cell(arguments[0]).set_text("x1 += zz")', cell)
     page.run(cell)
@@ -154,7 +154,7 @@ def procedures(stage):
     cell = page.add('procedure more(int x)\n    x += 1\nx += 2')
     page.run(cell)
     wanted = ('Line 3 belongs to the procedure \'more\', which goes on to the next procedure or to the end of the cell, so it did not run by itself. '
-              'Put it before the procedures, or into a cell of its own.')
+              'Put it before the procedures, or in a cell of its own.')
     comes('a statement that belongs to a procedure is told', lambda: (words_below(page, cell) == wanted, words_below(page, cell)))
     stands(page, 5, 5, WORLD, 'the cell ran')
     check(page.js('return Jupyter.notebook.get_cell(arguments[0]).element.find(".janus-words").is(".janus-warn")', cell), 'as a warning')
@@ -190,7 +190,7 @@ def waiting(stage):
     time.sleep(1)
     page.click('#janus-undo')
     comes('an undo behind another frontend\'s endless cell says that it waits, and that it is done behind a stop',
-          lambda: ('waits for its turn' in message(page) and 'ends that cell; the undo is then done' in message(page), message(page)))
+          lambda: ('is waiting for the running cell' in message(page) and 'ends that cell; the undo is then done' in message(page), message(page)))
     page.interrupt()
     second.heard(asked, 'idle', 200)
     stands(page, 3, 4, FORWARD, 'after the stop the undo is done', 120)
@@ -208,7 +208,7 @@ def second_frontend(stage):
     comes('and is told', lambda: shown(page)['others'][-1] == 'another frontend ran [5] n += 10: node 5')
     second.ask('undo', n=3)
     stands(page, 2, 5, WORLD, 'its undo of 3 cells moves the panel')
-    comes('and is told', lambda: shown(page)['others'][-1] == 'another frontend undid 3 cells; the kernel stands at node 2')
+    comes('and is told', lambda: shown(page)['others'][-1] == 'another frontend undid 3 cells; the kernel is at node 2')
     second.ask('redo', n=1)
     stands(page, 3, 5, FORWARD, 'its redo')
     second.run('x2 += 1', silent=True)
@@ -306,9 +306,9 @@ def restart(stage):
 def earlier_run(stage):
     page = stage.page
     stands(page, 0, 0, [])
-    comes('outputs that the notebook\'s file has are of an earlier run', lambda: (marks(page) == ['gone'] * 4, marks(page)))
+    comes('outputs that the notebook\'s file has are from an earlier run', lambda: (marks(page) == ['gone'] * 4, marks(page)))
     look = page.js('return Jupyter.notebook.get_cell(1).element.find(".janus-sign").text()')
-    check(look == 'of an earlier run', 'and it is said', look)
+    check(look == 'from an earlier run', 'and it is said', look)
     page.run(1)
     comes('a cell that runs is no more', lambda: (marks(page) == ['+1', 'gone', 'gone', 'gone'], marks(page)))
 
@@ -320,7 +320,7 @@ def run_all_stops(stage):
     page.add('')
     last = page.add('n += 1')
     run_all(page)
-    wanted = 'Stopped at the cell In [3], which failed: 2 cells behind it did not run.'
+    wanted = 'Stopped at cell In [3], which failed: 2 cells after it did not run.'
     comes('Run All stops at the cell that fails', lambda: (message(page) == wanted, message(page)))
     stands(page, 2, 2, WORLD)
     prompts = [it['prompt'] for it in page.cells() if it['type'] == 'code']
@@ -408,7 +408,7 @@ def screen_reader(stage):
     tree = page.driver.execute_cdp_cmd('Accessibility.getFullAXTree', {})['nodes']
     items = [it for it in tree if not it.get('ignored') and it.get('role', {}).get('value') == 'treeitem']
     names = [it['name']['value'] for it in items]
-    wanted = 'node 3 of 4, under 2, the kernel stands here, In [3], call fib(x1, x2, n)'
+    wanted = 'node 3 of 4, under 2, the kernel is here, In [3], call fib(x1, x2, n)'
     check(len(names) == 5 and names[3] == wanted, 'rows are tree items in words', names)
     wanted = ['node 2 of 4, under 1, in effect, In [2], n += 4', 'node 4 of 4, under 3, not in effect, In [4], uncall fib(x1, x2, n)']
     check(names[2::2] == wanted, 'with what is in effect', names)
@@ -511,7 +511,7 @@ def backwards(stage):
     page.select(3)
     page.click('#janus-backwards')
     stands(page, 2, 4, WORLD, 'the third cell backwards leads to the node above it')
-    wanted = 'Node 3 ran backwards, and before it 1 cell that ran behind it, the newest first.'
+    wanted = 'Node 3 ran backwards, and before it 1 cell that ran after it, the newest first.'
     comes('and it is said', lambda: (message(page) == wanted, message(page)))
     page.select(3)
     page.click('#janus-backwards')
