@@ -305,10 +305,10 @@ line_failed choice start input now G line left more a b c (Err f) e (text, out, 
 pub served_all : (choice : Choice) (start : Machine) (input : List ℕ) (now new : Machine) (G : Gathered) (left : List (List ℕ)) (a b c d : Option (List ℕ))
     → Served choice start input now G left a b
     → ((text : List ℕ) → IsGathered G text → (out : List ℕ) × LinesServe choice now text left out new × Appends b c out) → Keeps c d
-    → (out : List ℕ) × (new : Machine) × ActionsServe choice (script input) start out new × Appends a d out
+    → (out : List ℕ) × ActionsServe choice (script input) start out new × Appends a d out
 served_all choice start input now new G left a b c d (text, out, h, p, k) s kept =
     let l = s text h in
-    (out ++ l.0, new, k l.0 new l.1, appends_kept a c d (out ++ l.0) (appends_join a b c out l.0 p l.2) kept)
+    (out ++ l.0, k l.0 new l.1, appends_kept a c d (out ++ l.0) (appends_join a b c out l.0 p l.2) kept)
 
 pub served_some : (choice : Choice) (start : Machine) (input : List ℕ) (now new : Machine) (G : Gathered) (left : List (List ℕ)) (a b c d : Option (List ℕ))
     → Served choice start input now G left a b
@@ -316,7 +316,7 @@ pub served_some : (choice : Choice) (start : Machine) (input : List ℕ) (now ne
     → (out : List ℕ) × (new : Machine) × ActionsServe choice (script input) start out new × SentSome a d out
 served_some choice start input now new G left a b c d h s kept =
     let w = served_all choice start input now new G left a b c d h s kept in
-    (w.0, w.1, w.2, all_some a d w.0 w.3)
+    (w.0, new, w.1, all_some a d w.0 w.2)
 
 pub end_failed : (choice : Choice) → {E : Type 0} (start : Machine) (input : List ℕ) (now : Machine) (G : Gathered) (left : List (List ℕ)) (a b c : Option (List ℕ))
     (res : Result (Unit {0}) E)

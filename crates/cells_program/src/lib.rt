@@ -9,7 +9,8 @@
 //! that is served ends; `explanation` writes behind a refused text where and why it is refused, in words, if the command line asks
 //! for it; `fault` and `words` say with which status and line the program ends. The language is Janus (Yokoyama and Glück 2007).
 //!
-//! It gives `WriteFailed` of `kernel_text` again, which its transcript answers.
+//! It gives `WriteFailed` of `kernel_text` again, which its transcript answers; and for `steps_program`, which reads the same files, the kernel, its jobs, and
+//! what writes lines.
 //!
 //! Of an input that is not served: too long is told of more than 16 MiB, not text of one within them that is no UTF-8; cannot read and no
 //! memory are told only where no more had been read. Then nothing is written. Behind a write fault what went out is a beginning of the
@@ -42,6 +43,6 @@ pub use kernel_core::{Begun, CellText, Job, Kernel, Outcome};
 pub use kernel_text::{Fault, WriteFailed, send, send_counted};
 pub use lines::{is_blank, is_command_line};
 pub use output::{send_outcome, send_post_fault, send_run_fault, send_value};
-pub use serve::serve;
+pub use serve::serve as serve_job;
 pub use transcript::run;
 pub use words::{choice_of, steps_of, unread_words_status, words_status};

@@ -100,7 +100,7 @@ pub(crate) fn run_text<L: Ledger, W: Write>(
 ) -> Result<(), WriteFailed>
     requires idle { kernel.old.machine.state.job ≡ Idle }
     requires alone { kernel.old.machine.queue ≡ [] }
-    ensures ok { OnOk result ((out : List ℕ) × (new : Machine) × ActionsServe choice (script text.now) kernel.old.machine out new
+    ensures ok { OnOk result ((out : List ℕ) × ActionsServe choice (script text.now) kernel.old.machine out kernel.new.machine
         × Appends (W.contents writer.old) (W.contents writer.new) out) }
     ensures err { OnErr result ((out : List ℕ) × (new : Machine) × ActionsServe choice (script text.now) kernel.old.machine out new
         × SentSome (W.contents writer.old) (W.contents writer.new) out) }

@@ -5,7 +5,7 @@ ghost use Rattle.cells_program.specs.State.{Idle};
 
 use cells_program::{
     CellText, Command, Job, Kernel, Outcome, WriteFailed, is_blank, is_command_line, send,
-    send_counted, send_outcome, send_post_fault, serve,
+    send_counted, send_outcome, send_post_fault, serve_job,
 };
 use std::alloc::{AllocError, Global};
 use std::io::Write;
@@ -161,7 +161,7 @@ fn run_cell<L: Ledger, W: Write>(
         silent: false,
         store: true,
     };
-    match serve(kernel, STEPS, job) {
+    match serve_job(kernel, STEPS, job) {
         Ok(outcome) => {
             send_outcome(writer, &outcome)?;
             if let Outcome::Ran(node, _) = outcome {
@@ -202,7 +202,7 @@ fn obey_line<L: Ledger, W: Write>(
         Command::Goto(n) => Job::Goto(n),
         Command::Run | Command::Show | Command::List | Command::Unknown => return Ok(()),
     };
-    match serve(kernel, STEPS, job) {
+    match serve_job(kernel, STEPS, job) {
         Ok(outcome) => send_outcome(writer, &outcome)?,
         Err(fault) => send_post_fault(writer, fault)?,
     }
