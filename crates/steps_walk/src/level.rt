@@ -92,6 +92,14 @@ impl<L: Ledger> Walk<L> {
         requires { i ≤ calls_in self.now }
         ensures { i ≡ calls_in self.now → result ≡ faces_inverse (direction_of self.now.open.runner.cursor) }
     {
+        if i < self.open_calls() {
+            return self.caller_faces_inverse(i);
+        }
+        self.open.runner.cursor.faces_inverse()
+    }
+
+    /// Whether the inverse runs in the code of the i-th open call's caller: each call that is uncalled turns round.
+    fn caller_faces_inverse(&self, i: usize) -> bool {
         let mut inverse = self.open.runner.cursor.faces_inverse();
         for k in i..self.open_calls() {
             if self.open.runner.cursor.open_call(k).uncalled {
