@@ -10,12 +10,15 @@ use Rattle.steps_program.specs.declared.command.Command.TheVariants.{Step, Back,
 use Rattle.steps_program.specs.declared.command.Command.TheVariants.{BackWatch, Show, Where, Calls, List, Count, Quit, Nothing, Unknown}
 
 -- up to n steps on: fewer where the cell ends or meets a fault
-abbrev pub GoesOn : {L : Type 0} → ℕ → Walk L → Walk L → Type 0
-GoesOn n old new = (told : Progress) × Runs (program_of old) n told (runner_of old) (runner_of new)
+pub record GoesOn {L : Type 0} (n : ℕ) (old new : Walk L) : Type 0 where
+  pub moves : Moves old new
+  pub told : Progress
+  pub runs : Runs (program_of old) n told (runner_of old) (runner_of new)
 
 -- n steps back, or all
-abbrev pub GoesBack : {L : Type 0} → ℕ → Walk L → Walk L → Type 0
-GoesBack n old new = StepsBack (program_of old) n (runner_of old) (runner_of new)
+pub record GoesBack {L : Type 0} (n : ℕ) (old new : Walk L) : Type 0 where
+  pub moves : Moves old new
+  pub goes : StepsBack (program_of old) n (runner_of old) (runner_of new)
 
 -- as many steps as a command can ask for, which are more than a cell may take
 abbrev pub all_steps : ℕ

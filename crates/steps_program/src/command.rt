@@ -95,6 +95,11 @@ fn alone<'a>(first: &str) -> Command<'a> {
 }
 
 impl<'a> Command<'a> {
+    /// Whether it asks to end.
+    pub(crate) fn is_quit(&self) -> bool {
+        matches!(self, Command::Quit)
+    }
+
     /// The command of a line; spaces at its ends don't count.
     pub fn read(line: &'a str) -> Command<'a> {
         let line = line.trim();

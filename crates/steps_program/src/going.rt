@@ -1,6 +1,6 @@
 //! How far a command goes.
 ghost use Rattle.steps_walk.specs.Walk.{IsWalking, Moves};
-ghost use Rattle.steps_program.specs.Obeyed.{GoesOn};
+ghost use Rattle.steps_program.specs.Obeyed.{GoesOn, GoesBack};
 
 use crate::kept::Kept;
 use crate::output::place_of;
@@ -185,16 +185,40 @@ pub(crate) fn go_back<L: Ledger>(
     Came::Start
 }
 
+/// Where steps on have led, by what they told.
+fn came_by(told: Progress) -> Came {
+    match told {
+        Progress::Ended(_) => Came::End,
+        Progress::Stopped(_, fault) => Came::Fault(fault),
+        Progress::Went => Came::There,
+    }
+}
+
 /// Takes so many steps on.
 pub(crate) fn steps_on<L: Ledger>(walk: &mut Walk<L>, n: u64) -> Came
     requires { IsWalking walk.old }
     ensures walks { IsWalking walk.new }
-    ensures moves { Moves walk.old walk.new }
     ensures goes { GoesOn n walk.old walk.new }
 {
-    match walk.on(n) {
-        Progress::Ended(_) => Came::End,
-        Progress::Stopped(_, fault) => Came::Fault(fault),
-        Progress::Went => Came::There,
+    let told = walk.on(n);
+    came_by(told)
+}
+
+/// Takes so many steps back.
+pub(crate) fn steps_back<L: Ledger>(walk: &mut Walk<L>, n: u64) -> Came
+    requires { IsWalking walk.old }
+    ensures walks { IsWalking walk.new }
+    ensures goes { GoesBack n walk.old walk.new }
+{
+    walk.back(n);
+    came_back(walk.count())
+}
+
+/// Where steps back have led, by how many steps are left.
+fn came_back(count: u64) -> Came {
+    if count == 0 {
+        Came::Start
+    } else {
+        Came::There
     }
 }

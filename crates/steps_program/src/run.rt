@@ -1,6 +1,7 @@
 //! All of it over a file's text.
 ghost use Rattle.std.specs.Prelude.{◌≡◌, ◌<◌, IfOk};
 ghost use Rattle.steps_walk.specs.Walk.{IsWalking, Moves};
+ghost use Rattle.steps_program.specs.Obeyed.{Obeys};
 
 use crate::command::Command;
 use crate::output::send_where;
@@ -162,13 +163,22 @@ fn walk_through<L: Ledger, R: BufRead + Drop, W: Write>(
     requires { IsWalking walk }
 {
     let mut walk = walk;
-    let told = send_where(writer, &walk, sources);
-    let ended = match told {
+    let ended = match begin_talk(&walk, sources, writer) {
         Ok(()) => obey_all(alloc, &mut walk, sources, reader, writer),
-        Err(_) => Err(RunFault::Write),
+        Err(fault) => Err(fault),
     };
     walk.discard();
     ended
+}
+
+/// Tells where the walk begins.
+fn begin_talk<L: Ledger, W: Write>(
+    walk: &Walk<L>,
+    sources: &[Source],
+    writer: &mut W,
+) -> Result<(), RunFault> {
+    send_where(writer, walk, sources)?;
+    flush(writer)
 }
 
 /// Writes all that was held back.
@@ -191,21 +201,41 @@ fn obey_all<L: Ledger, R: BufRead + Drop, W: Write>(
     ensures walks { IsWalking walk.new }
     ensures moves { Moves walk.old walk.new }
 {
-    flush(writer)?;
     let mut line = String::new(alloc);
     for _ in 0..u64::MAX {
-        line.clear();
-        match reader.read_line(&mut line) {
-            Ok(0) => return Ok(()),
-            Ok(_) => {}
-            Err(_) => return Err(RunFault::Read),
-        }
-        let command = Command::read(line.as_str());
-        if let Command::Quit = command {
+        if !read_line(reader, &mut line)? {
             return Ok(());
         }
-        obey(alloc, walk, sources, command, writer)?;
-        flush(writer)?;
+        let command = Command::read(line.as_str());
+        if command.is_quit() {
+            return Ok(());
+        }
+        obey_one(alloc, walk, sources, command, writer)?;
     }
     Ok(())
+}
+
+/// Reads the next line; none is left where it answers false.
+fn read_line<R: BufRead + Drop>(reader: &mut R, line: &mut String) -> Result<bool, RunFault> {
+    line.clear();
+    match reader.read_line(line) {
+        Ok(count) => Ok(count > 0),
+        Err(_) => Err(RunFault::Read),
+    }
+}
+
+/// Does what a command asks for, and writes all of its answer.
+fn obey_one<L: Ledger, W: Write>(
+    alloc: Global,
+    walk: &mut Walk<L>,
+    sources: &[Source],
+    command: Command<'_>,
+    writer: &mut W,
+) -> Result<(), RunFault>
+    requires { IsWalking walk.old }
+    ensures walks { IsWalking walk.new }
+    ensures obeys { Obeys command walk.old walk.new }
+{
+    obey(alloc, walk, sources, command, writer)?;
+    flush(writer)
 }

@@ -1,9 +1,9 @@
 //! Commands and answers.
 ghost use Rattle.steps_walk.specs.Walk.{IsWalking, Moves};
-ghost use Rattle.steps_program.specs.Obeyed.{GoesOn, GoesBack, Obeys, all_steps};
+ghost use Rattle.steps_program.specs.Obeyed.{GoesOn, GoesBack, Obeys};
 
 use crate::command::Command;
-use crate::going::{Came, Goal, go_back, go_on, steps_on, value_of};
+use crate::going::{Came, Goal, go_back, go_on, steps_back, steps_on, value_of};
 use crate::kept::Kept;
 use crate::output::{send_calls, send_list, send_read, send_sight, send_where};
 use crate::source::{Source, source_of};
@@ -70,6 +70,14 @@ fn tell_fault<L: Ledger, W: Write>(
     }
 }
 
+/// Writes why a line is refused.
+fn send_refused<W: Write>(writer: &mut W, number: u8, name: &str) -> Result<(), WriteFailed> {
+    send_counted(writer, "refused ", number as u64)?;
+    send(writer, b" ")?;
+    send(writer, name.as_bytes())?;
+    send(writer, b"\n")
+}
+
 /// Goes on or back until an expression holds.
 fn until<L: Ledger, W: Write>(
     alloc: Global,
@@ -85,12 +93,7 @@ fn until<L: Ledger, W: Write>(
 {
     match parse_exp(alloc, text) {
         Ok(exp) => go(alloc, walk, sources, Goal::Holds(&exp), is_onward, writer),
-        Err(fault) => {
-            send_counted(writer, "refused ", fault.number() as u64)?;
-            send(writer, b" ")?;
-            send(writer, fault.name().as_bytes())?;
-            send(writer, b"\n")
-        }
+        Err(fault) => send_refused(writer, fault.number(), fault.name()),
     }
 }
 
@@ -168,7 +171,6 @@ fn step<L: Ledger, W: Write>(
 ) -> Result<(), WriteFailed>
     requires { IsWalking walk.old }
     ensures walks { IsWalking walk.new }
-    ensures moves { Moves walk.old walk.new }
     ensures goes { GoesOn n walk.old walk.new }
 {
     let came = steps_on(walk, n);
@@ -185,15 +187,9 @@ fn step_back<L: Ledger, W: Write>(
 ) -> Result<(), WriteFailed>
     requires { IsWalking walk.old }
     ensures walks { IsWalking walk.new }
-    ensures moves { Moves walk.old walk.new }
     ensures goes { GoesBack n walk.old walk.new }
 {
-    walk.back(n);
-    let came = if walk.count() == 0 {
-        Came::Start
-    } else {
-        Came::There
-    };
+    let came = steps_back(walk, n);
     tell(alloc, walk, sources, came, writer)
 }
 
@@ -208,12 +204,8 @@ fn finish<L: Ledger, W: Write>(
     ensures walks { IsWalking walk.new }
     ensures moves { Moves walk.old walk.new }
 {
-    let depth = walk.open_calls();
-    if depth == 0 {
-        step(alloc, walk, sources, u64::MAX, writer)
-    } else {
-        go(alloc, walk, sources, Goal::Fewer(depth), true, writer)
-    }
+    let goal = Goal::Fewer(walk.open_calls());
+    go(alloc, walk, sources, goal, true, writer)
 }
 
 /// Does what a command asks for.
@@ -226,7 +218,6 @@ pub(crate) fn obey<L: Ledger, W: Write>(
 ) -> Result<(), WriteFailed>
     requires { IsWalking walk.old }
     ensures walks { IsWalking walk.new }
-    ensures moves { Moves walk.old walk.new }
     ensures obeys { Obeys command walk.old walk.new }
 {
     match command {

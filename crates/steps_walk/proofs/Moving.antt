@@ -3,7 +3,7 @@ use Rattle.std.proofs.Common.{◌≡◌, ℕ, ◌+◌, ◌-◌, false, refl, ap,
 use Rattle.kernel_machine.specs.declared.progress.Progress.{Progress}
 use Rattle.kernel_runner.specs.declared.program.Program.{Program}
 use Rattle.kernel_runner.specs.declared.runner.Runner.{Runner}
-use Rattle.kernel_runner.specs.Runner.{Place, Is, Inside, IsInside, Runs, at_count, count_after}
+use Rattle.kernel_runner.specs.Runner.{Is, Inside, IsInside, Runs, at_count, count_after}
 use Rattle.steps_walk.specs.declared.walk.Walk.{Walk}
 use Rattle.steps_walk.specs.Walking.{StepsBack}
 use Rattle.steps_walk.specs.Walk.{runner_of, program_of, with_runner, IsWalking, Moves}

@@ -1,5 +1,5 @@
 -- What is told of where a walk stands.
-use Rattle.std.proofs.Common.{◌≡◌, ℕ, ◌<◌, List, [], ◌∷◌, true, false, Bool, reverse, refl, ap, ◌∙◌, sym, subst, arith}
+use Rattle.std.proofs.Common.{◌≡◌, ℕ, ◌<◌, List, [], ◌∷◌, true, false, reverse, refl, ap, ◌∙◌, sym, subst, arith}
 use Rattle.std.specs.Prelude.{Option, None, length}
 use Rattle.janus_meaning.specs.Syntax.{Name}
 use Rattle.janus_meaning.specs.Syntax.{Blk}
@@ -12,7 +12,7 @@ use Rattle.janus_machine.specs.declared.cursor.Call.{Call}
 use Rattle.janus_machine.specs.declared.cursor.Cursor.{Cursor}
 use Rattle.janus_machine.specs.declared.procedures.Procedures.{Procedures}
 use Rattle.janus_machine.specs.Cursor.{has_no_calls, are_no_calls, direction_of}
-use Rattle.janus_machine.specs.Cursors.{book_of, place_in}
+use Rattle.janus_machine.specs.Cursors.{book_of}
 use Rattle.janus_machine.specs.Nested.{row_place, book_in}
 use Rattle.janus_machine.specs.Places.{block_in}
 use Rattle.janus_machine.specs.Whereabouts.{faced, IsWrittenAt}

@@ -1,5 +1,5 @@
 -- What is told of where a walk stands.
-use Rattle.std.specs.Prelude.{◌≡◌, ℕ, true, false}
+use Rattle.std.specs.Prelude.{◌≡◌, true, false}
 use Rattle.janus_machine.specs.Cursor.{direction_of}
 use Rattle.janus_machine.specs.Whereabouts.{IsWrittenAt, faces_inverse}
 use Rattle.kernel_runner.specs.Runner.{Place, Is, Inside}

@@ -1,4 +1,4 @@
-use Rattle.std.proofs.Common.{◌≡◌, ℕ, ◌≤◌, length}
+use Rattle.std.proofs.Common.{ℕ, ◌≤◌, length}
 use Rattle.steps_walk.specs.Sights.{StandsAt}
 use Rattle.steps_walk.proofs.sight.Sight.slot.Given as goal
 
