@@ -216,9 +216,5 @@ pub(crate) fn steps_back<L: Ledger>(walk: &mut Walk<L>, n: u64) -> Came
 
 /// Where steps back have led, by how many steps are left.
 fn came_back(count: u64) -> Came {
-    if count == 0 {
-        Came::Start
-    } else {
-        Came::There
-    }
+    if count == 0 { Came::Start } else { Came::There }
 }

@@ -7,9 +7,7 @@ use crate::command::Command;
 use crate::output::send_where;
 use crate::source::{Source, Stray, count_cells, run_before};
 use crate::talk::obey;
-use cells_program::{
-    Begun, CellText, Job, Kernel, WriteFailed, send_outcome, send_post_fault,
-};
+use cells_program::{Begun, CellText, Job, Kernel, WriteFailed, send_outcome, send_post_fault};
 use std::alloc::Global;
 use std::io::{BufRead, Write};
 use std::marker::Brand;

@@ -24,7 +24,7 @@ loop-behind-preserved c =
     let i = c.loop-behind.behind - 1 in
     let within : i < length s.names.items = omega (arith, c.loop-behind.invariant.0, c.loop-behind-test.true) in
     let other : string_bytes c.index.result.now ≡ x → ⊥ = λ e.
-        differ (sym (sym c.eq.ensures ∙ c.if-eq.false) ∙ (bytes_eq-Decides c.as_str.result.now x).1 (c.as_str.ensures.value ∙ e)) in (
+    differ (sym (sym c.eq.ensures ∙ c.if-eq.false) ∙ (bytes_eq-Decides c.as_str.result.now x).1 (c.as_str.ensures.value ∙ e)) in (
       omega (arith, c.loop-behind.invariant.0),
       λ j le here.
           ⊎_elim
