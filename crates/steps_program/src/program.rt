@@ -234,7 +234,7 @@ fn obey_one<L: Ledger, W: Write>(
 ) -> Result<(), RunFault>
     requires { IsWalking walk.old }
     ensures walks { IsWalking walk.new }
-    ensures obeys { Obeys command walk.old walk.new }
+    ensures obeys { Obeys command.entry walk.old walk.new }
 {
     obey(alloc, walk, sources, command, writer)?;
     flush(writer)
