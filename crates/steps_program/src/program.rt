@@ -54,7 +54,7 @@ impl From<Stray> for RunFault {
 /// there are none, or `quit`.
 pub fn run<R: BufRead + Drop, W: Write>(
     alloc: Global,
-    file: &str,
+    file: &String,
     cell: Option<usize>,
     reader: &mut R,
     writer: &mut W,
@@ -66,7 +66,7 @@ pub fn run<R: BufRead + Drop, W: Write>(
 fn run_counted<L: Ledger, R: BufRead + Drop, W: Write>(
     alloc: Global,
     blank: Blank,
-    file: &str,
+    file: &String,
     cell: Option<usize>,
     reader: &mut R,
     writer: &mut W,
@@ -80,9 +80,9 @@ fn run_counted<L: Ledger, R: BufRead + Drop, W: Write>(
     };
     let number = match cell {
         Some(number) => number,
-        None => count_cells(file),
+        None => count_cells(file.as_str()),
     };
-    let (source, mut sources) = match run_before(alloc, &mut kernel, file, number, writer) {
+    let (source, mut sources) = match run_before(alloc, &mut kernel, file.as_str(), number, writer) {
         Ok(found) => found,
         Err(stray) => {
             kernel.discard();
