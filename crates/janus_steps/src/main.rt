@@ -17,7 +17,7 @@ fn main(rt: HostRuntime) -> anyhow::Result<ExitCode> {
     let file = fs::read_to_string(&rt, path)?;
     let mut reader = BufReader::new(alloc, rt.stdin())?;
     let mut writer = BufWriter::new(alloc, rt.stdout())?;
-    match run(alloc, file.as_str(), cell, &mut reader, &mut writer) {
+    match run(alloc, &file, cell, &mut reader, &mut writer) {
         Ok(()) => Ok(ExitCode::SUCCESS),
         Err(fault) => {
             tell(&rt, fault)?;

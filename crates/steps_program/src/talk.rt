@@ -218,7 +218,7 @@ pub(crate) fn obey<L: Ledger, W: Write>(
 ) -> Result<(), WriteFailed>
     requires { IsWalking walk.old }
     ensures walks { IsWalking walk.new }
-    ensures obeys { Obeys command walk.old walk.new }
+    ensures obeys { Obeys command.entry walk.old walk.new }
 {
     match command {
         Command::Step(n) => step(alloc, walk, sources, n, writer),

@@ -52,7 +52,7 @@ impl From<Stray> for RunFault {
 /// there are none, or `quit`.
 pub fn run<R: BufRead + Drop, W: Write>(
     alloc: Global,
-    file: &str,
+    file: &String,
     cell: Option<usize>,
     reader: &mut R,
     writer: &mut W,
@@ -64,7 +64,7 @@ pub fn run<R: BufRead + Drop, W: Write>(
 fn run_counted<L: Ledger, R: BufRead + Drop, W: Write>(
     alloc: Global,
     blank: Blank,
-    file: &str,
+    file: &String,
     cell: Option<usize>,
     reader: &mut R,
     writer: &mut W,
@@ -78,9 +78,9 @@ fn run_counted<L: Ledger, R: BufRead + Drop, W: Write>(
     };
     let number = match cell {
         Some(number) => number,
-        None => count_cells(file),
+        None => count_cells(file.as_str()),
     };
-    let (source, mut sources) = match run_before(alloc, &mut kernel, file, number, writer) {
+    let (source, mut sources) = match run_before(alloc, &mut kernel, file.as_str(), number, writer) {
         Ok(found) => found,
         Err(stray) => {
             kernel.discard();
@@ -232,7 +232,7 @@ fn obey_one<L: Ledger, W: Write>(
 ) -> Result<(), RunFault>
     requires { IsWalking walk.old }
     ensures walks { IsWalking walk.new }
-    ensures obeys { Obeys command walk.old walk.new }
+    ensures obeys { Obeys command.entry walk.old walk.new }
 {
     obey(alloc, walk, sources, command, writer)?;
     flush(writer)

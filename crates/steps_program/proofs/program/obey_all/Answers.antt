@@ -1,6 +1,6 @@
 use Rattle.steps_walk.proofs.Moving.{stays, further}
 use Rattle.steps_program.proofs.Obeying.{obeyed}
-use Rattle.steps_program.proofs.run.obey_all.Goals as goal
+use Rattle.steps_program.proofs.program.obey_all.Goals as goal
 
 pub loop-init : goal.loop-init
 loop-init g c = record { walks = c.requires; moves = stays c.args.walk.now }

@@ -1,5 +1,5 @@
 use Rattle.steps_walk.specs.Walk.{IsWalking, Moves}
-use Rattle.steps_program.proofs.run.obey_all.Given as goal
+use Rattle.steps_program.proofs.program.obey_all.Given as goal
 
 -- it still walks, and has moved in its run
 abbrev pub invariant-loop : goal.invariant-loop
