@@ -80,7 +80,13 @@ fn run_counted<L: Ledger, R: BufRead + Drop, W: Write>(
         Some(number) => number,
         None => count_cells(file.as_str()),
     };
-    let (source, mut sources) = match run_before(alloc, &mut kernel, file.as_str(), number, writer) {
+    let (source, mut sources) = match run_before(
+        alloc,
+        &mut kernel,
+        file.as_str(),
+        number,
+        writer,
+    ) {
         Ok(found) => found,
         Err(stray) => {
             kernel.discard();
