@@ -155,7 +155,7 @@ def backwards(stage):
     comes('once more there is nothing to do', lambda: (message(page) == wanted, message(page)))
     select(page, add(page, 'skip'))
     page.click('.janus-backwards')
-    comes('nor with a cell that did not run', lambda: (message(page).startswith('Nothing is known to have run'), message(page)))
+    comes('nor with a cell that did not run', lambda: (message(page).startswith('This cell is not known to have run'), message(page)))
 
 
 # ---- keyboard, commands and screen readers
@@ -432,7 +432,7 @@ def run_all(stage):
     comes('the others wait behind a cell that runs', lambda: (prompts(page) == ['6', '*', '*', '*'], prompts(page)), 60)
     time.sleep(1.5)                                             # an interrupt before the cell began would interrupt nothing
     page.js(S + 'panel.sessionContext.session.kernel.interrupt()')
-    comes('an interrupt stops Run All', lambda: ('2 cells behind it did not run' in message(page), message(page)), 120)
+    comes('an interrupt stops Run All', lambda: ('2 cells after it did not run' in message(page), message(page)), 120)
     comes('none waits then', lambda: ('*' not in prompts(page), prompts(page)))
 
 

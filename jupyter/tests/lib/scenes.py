@@ -333,7 +333,7 @@ def run_all_stops(stage):
     page.js('Jupyter.notebook.get_cell(5).set_text("zz += 2")')
     page.select(4)
     page.menu('#celllink', '#run_all_cells_below a')
-    comes('Run All Below stops too', lambda: 'which failed: 1 cell behind it did not run' in message(page))
+    comes('Run All Below stops too', lambda: 'which failed: 1 cell after it did not run' in message(page))
     stands(page, 6, 6)
 
 
@@ -353,7 +353,7 @@ def run_all_interrupted(stage):
     stands(page, 1, 1, what='the first cell ran')
     comes('the others wait', lambda: [it['prompt'] for it in page.cells()][2:5] == ['*'] * 3)
     page.interrupt()
-    comes('an interrupt stops Run All', lambda: '2 cells behind it did not run' in message(page), 120)
+    comes('an interrupt stops Run All', lambda: '2 cells after it did not run' in message(page), 120)
     stands(page, 1, 1, ['x1 = 0', 'x2 = 0', 'n = 0'])
     page.restart()
     stands(page, 0, 0, [], timeout=120)
@@ -520,7 +520,7 @@ def backwards(stage):
     cell = page.add('skip')
     page.select(cell)
     page.keys('w')
-    comes('a cell that did not run, by the key w', lambda: message(page).startswith('Nothing is known to have run of this cell'))
+    comes('a cell that did not run, by the key w', lambda: message(page).startswith('This cell is not known to have run'))
     page.select(2)
     page.keys('w')
     stands(page, 1, 4, ['x1 = 0', 'x2 = 0', 'n = 0'], 'the newest cell on the path')
