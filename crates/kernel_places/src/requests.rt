@@ -6,6 +6,7 @@ use crate::service::Service;
 use crate::time::milliseconds;
 use kernel_desk::{Desk, HallDesk, HistoryName, QuietDesk, Socket, serve};
 use kernel_sockets::{Allowance, ConnectionInput};
+use kernel_watch::Unwatched;
 use std::net::TcpStream;
 use std::sync::Wait;
 use std::sync::ledger::Ledger;
@@ -47,6 +48,7 @@ fn converse<W: Ledger, L: HistoryName, S: Ledger, D: Desk, R: Wait + Clock>(
         &mut arrivals,
         &mut departures,
         desk,
+        &mut Unwatched,
         &mut stamp,
     );
     arrivals.end()
