@@ -7,6 +7,7 @@ use crate::time::milliseconds;
 use kernel_desk::{HistoryName, Socket};
 use kernel_iopub::{HangUp, serve_subscriber};
 use kernel_sockets::{Allowance, ConnectionInput};
+use kernel_watch::Unwatched;
 use std::net::TcpStream;
 use std::sync::Wait;
 use std::sync::ledger::Ledger;
@@ -54,6 +55,8 @@ fn supply<
         &service.bulletin,
         &mut arrivals,
         departures,
+        &mut Unwatched,
+        Unwatched,
     );
     arrivals.end()
 }
