@@ -28,8 +28,10 @@ pub mod fault;
 mod naming;
 pub mod parameter;
 mod procedure;
+mod scope;
 pub mod sight;
 mod statement;
+pub mod table;
 
 pub use cell::check;
 pub use checked::Checked;
@@ -38,6 +40,7 @@ pub use expression::check_exp;
 pub use fault::CheckFault;
 pub use naming::cell_names;
 pub use sight::Sight;
+pub use table::SymbolTable;
 
 /// A cell has no faults exactly where it is well formed, and so an expression: a law about the definitions of `specs/`. It does
 /// nothing.
