@@ -74,7 +74,8 @@ fn declare<T: SymbolTable>(
     ensures fault { IfOk result
         (λ next. next ≡ first_from first (declaration_faults (over (shape_in (T.known env.now).names) own.old.names) (declaration_view declaration.now))) }
     ensures names { OnOk result
-        (over (shape_in (T.known env.now).names) own.new.names ≡ after_declaration (over (shape_in (T.known env.now).names) own.old.names) (declaration_view declaration.now)) }
+        (over (shape_in (T.known env.now).names) own.new.names
+        ≡ after_declaration (over (shape_in (T.known env.now).names) own.old.names) (declaration_view declaration.now)) }
     ensures procedures { own.new.procedures ≡ own.old.procedures }
 {
     match declaration {
@@ -100,9 +101,11 @@ fn declare_name<T: SymbolTable>(
     kind: Kind,
     first: Option<CheckFault>,
 ) -> Result<Option<CheckFault>, AllocError>
-    ensures fault { IfOk result (λ next. next ≡ first_from first (name_faults (over (shape_in (T.known env.now).names) own.old.names) (name_of name.now) name.now.span)) }
+    ensures fault { IfOk result
+        (λ next. next ≡ first_from first (name_faults (over (shape_in (T.known env.now).names) own.old.names) (name_of name.now) name.now.span)) }
     ensures names { OnOk result
-        (over (shape_in (T.known env.now).names) own.new.names ≡ extended (over (shape_in (T.known env.now).names) own.old.names) (name_of name.now) (meant_kind kind)) }
+        (over (shape_in (T.known env.now).names) own.new.names
+        ≡ extended (over (shape_in (T.known env.now).names) own.old.names) (name_of name.now) (meant_kind kind)) }
     ensures procedures { own.new.procedures ≡ own.old.procedures }
 {
     let known = kind_declared(env, own, name).is_some();
@@ -180,7 +183,8 @@ fn declare_all<T: SymbolTable>(
     ensures fault { IfOk result
         (λ next. next ≡ first_from first (declarations_faults (over (shape_in (T.known env.now).names) own.old.names) (declarations_view declarations.now))) }
     ensures names { OnOk result
-        (over (shape_in (T.known env.now).names) own.new.names ≡ after_declarations (over (shape_in (T.known env.now).names) own.old.names) (declarations_view declarations.now)) }
+        (over (shape_in (T.known env.now).names) own.new.names
+        ≡ after_declarations (over (shape_in (T.known env.now).names) own.old.names) (declarations_view declarations.now)) }
     ensures procedures { own.new.procedures ≡ own.old.procedures }
 {
     let mut next = first;

@@ -9,6 +9,9 @@
 //! which the laws of `janus_meaning` stand. `cell_names` tells whether a cell names a declared name. `Sight` has the names in sight, and gives each
 //! its slot: how many names stand below it. What a cell declares and defines itself comes with it from `check`.
 //!
+//! What is known before a cell is read by a trait, `SymbolTable`: the kind and the slot of a name, and the head of a procedure. `Env` is one for who keeps no
+//! tables of its own.
+//!
 //! The rules are those of Janus (Yokoyama and Glück 2007; Yokoyama, Axelsen and Glück 2008), with this kernel's
 //! limits.
 //!

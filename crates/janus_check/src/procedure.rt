@@ -31,7 +31,8 @@ pub(crate) fn define_all<T: SymbolTable>(
 ) -> Result<Option<CheckFault>, AllocError>
     requires { own.old.procedures ≡ [] }
     ensures fault { IfOk result
-        (λ next. next ≡ first_from first (heads_faults (heads_in (T.known env.now).procedures) (heads_in own.old.procedures) (procedures_view procedures.now))) }
+        (λ next. next
+        ≡ first_from first (heads_faults (heads_in (T.known env.now).procedures) (heads_in own.old.procedures) (procedures_view procedures.now))) }
     ensures heads { OnOk result (heads_in own.new.procedures ≡ after_heads (heads_in own.old.procedures) (procedures_view procedures.now)) }
     ensures names { own.new.names ≡ own.old.names }
 {

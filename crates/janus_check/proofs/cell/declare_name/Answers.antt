@@ -19,7 +19,8 @@ returns-in_ok-declare-clause-names g c =
     let g = over (shape_in (table c.args.env.now).names) c.args.own.now.names in
     let x = name_of c.args.name.now in
     let known = c.is_some-known.ensures ∙ found_known x g c.kind_declared.result c.kind_declared.ensures in
-    ap (over (shape_in (table c.args.env.now).names)) (c.in_ok-declare.ensures.ok ∙ ap (λ t. c.args.own.now.names ++ (t, c.args.kind) ∷ []) c.in_ok-clone.ensures.cases)
+    ap (over (shape_in (table c.args.env.now).names))
+    (c.in_ok-declare.ensures.ok ∙ ap (λ t. c.args.own.now.names ++ (t, c.args.kind) ∷ []) c.in_ok-clone.ensures.cases)
     ∙ over-append (shape_in (table c.args.env.now).names) c.args.own.now.names ((x, c.args.kind) ∷ [])
     ∙ ap (λ b. if b then g else (x, meant_kind c.args.kind) ∷ g)
     ((λ i. sym c.if-not-known.true i || sym c.if-not-full.true i) ∙ (λ i. known i || c.is_full-full.ensures i))
