@@ -72,6 +72,8 @@ impl Procedures {
         ensures kept { OnOk result (kept_in self.new ≡ kept_in self.old ++ procedure ∷ []) }
         ensures err { OnErr result (kept_in self.new ≡ kept_in self.old) }
         ensures defined { (stack : List ℕ) → AreDefined self.old stack → AreDefined self.new stack }
+        // A bound above the number of its name stays one.
+        ensures few { (n : ℕ) → places_in self.old ≤ n → procedure.name < n → places_in self.new ≤ n }
     {
         self.reach(procedure.name)?;
         let index = self.bodies.len();
@@ -88,6 +90,7 @@ impl Procedures {
         ensures reached { OnOk result (name < places_in self.new) }
         ensures bodies { bodies_of self.new ≡ bodies_of self.old }
         ensures newest { (n : ℕ) → place_in_effect self.new n ≡ place_in_effect self.old n }
+        ensures few { (n : ℕ) → places_in self.old ≤ n → name < n → places_in self.new ≤ n }
     {
         while self.newest.len() <= name {
             self.newest.push(0)?;
@@ -149,6 +152,7 @@ impl Procedures {
     /// Drops the bodies from an index on. It takes no memory.
     pub fn forget(&mut self, from: usize)
         ensures kept { kept_in self.new ≡ take from (kept_in self.old) }
+        ensures places { places_in self.new ≡ places_in self.old }
         // Where none of them is in effect or hidden.
         ensures defined { (stack : List ℕ) → AreDefined self.old stack → AreBelow from stack → AreDefined self.new stack }
     {
