@@ -2,13 +2,14 @@
 ghost use Rattle.std.specs.Prelude.{◌≡◌, ◌≢◌, ◌+◌, ◌-◌, ◌<◌, ◌≤◌, ◌↔◌, ◌⊎◌, IsTrue, IsErr, IsErrOf, OnOk, OnErr, IfOk, IfErr, IfSome, MatchOption, length, min};
 ghost use Rattle.std.specs.Prelude.{slice_get, slice_set, slice_index, Some};
 ghost use Rattle.cell_tree.specs.Tree.{node_limit, parent_in, parents_of, contents_of, IsNode, IsChild, IsTree, favourite_of, root_alone, grown};
+ghost use Rattle.cell_tree.specs.declared.fault.TreeFault.TheVariants.{Memory};
 ghost use Rattle.cell_tree.specs.Paths.{path_of, depth, meeting_of, upward, downward, IsRoute};
 
 use crate::fault::TreeFault;
 use crate::node::Node;
 use crate::route::Route;
 use crate::walks::{above, below, find_way, meeting, parent_of, path_to};
-use std::alloc::{AllocError, Global};
+use std::alloc::Global;
 use std::marker::Model;
 
 /// The most nodes that may stand beside the root.
@@ -47,9 +48,10 @@ impl<C: Drop> Tree<C> {
     ///
     /// # Errors
     ///
-    /// `AllocError` where there is no memory.
-    pub fn new(alloc: Global) -> Result<Tree<C>, AllocError>
-        ensures { IfOk result (λ tree. tree ≡ root_alone tree.room) }
+    /// `TreeFault::Memory` where there is no memory for it.
+    pub fn new(alloc: Global) -> Result<Tree<C>, TreeFault>
+        ensures new { IfOk result (λ tree. tree ≡ root_alone tree.room) }
+        ensures memory { IfErr result (λ fault. fault ≡ Memory) }
     {
         let mut favourites = Vec::new(alloc);
         favourites.push(0)?;

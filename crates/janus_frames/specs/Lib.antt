@@ -1,3 +1,4 @@
+pub mod Fault
 pub mod Limits
 pub mod Cells
 pub mod Calls

@@ -17,6 +17,7 @@
 //! are lent.
 //!
 //! The modules, in the order in which a reader needs them:
+//! - `fault`: why a store isn't made.
 //! - `limit`: how many locals, calls, parameters and results a store takes memory for.
 //! - `args`, `arguments`: the arguments of a call.
 //! - `value`: a value as it is declared.
@@ -39,6 +40,7 @@
 
 mod args;
 mod arguments;
+mod fault;
 mod frames;
 pub mod laws;
 mod limit;
@@ -47,6 +49,7 @@ mod store;
 mod value;
 
 pub use crate::args::Args;
+pub use crate::fault::RoomFault;
 pub use crate::limit::CALL_LIMIT;
 pub use crate::store::Store;
 pub use janus_memory::{StackView, Tally, ValueView};

@@ -3,8 +3,8 @@
 ghost use Rattle.std.specs.Prelude.{◌≡◌, ◌+◌, ◌<◌, IfOk};
 ghost use Rattle.janus_frames.specs.StoreState.{empty_state};
 
-use janus_frames::{Store, Tally};
-use std::alloc::{AllocError, Global};
+use janus_frames::{RoomFault, Store, Tally};
+use std::alloc::Global;
 use std::sync::ledger::{Blank, Ledger};
 
 /// A store, and the count of the steps that were taken over it. Contracts alone see the count, it takes no octets, and only `step` and `slice` raise
@@ -20,7 +20,7 @@ impl<L: Ledger> CountedStore<L> {
 
     /// No names, no writes and no steps so far, which are counted in the ledger that is opened by this blank. It takes the memory that every run
     /// needs; the only error is want of it.
-    pub fn new(alloc: Global, blank: Blank) -> Result<CountedStore<L>, AllocError>
+    pub fn new(alloc: Global, blank: Blank) -> Result<CountedStore<L>, RoomFault>
         requires name { blank.name ≡ L.name }
         requires parts { blank.parts ≡ L.parts }
         requires two { 1 < L.parts }

@@ -8,9 +8,9 @@ ghost use Rattle.janus_frames.specs.Limits.{call_limit};
 use crate::book::Book;
 use crate::direction::Direction;
 use crate::running::running;
-use janus_frames::CALL_LIMIT;
+use janus_frames::{CALL_LIMIT, RoomFault};
 use janus_meaning::limit::STEP_LIMIT;
-use std::alloc::{AllocError, Global};
+use std::alloc::Global;
 
 /// An open call.
 #[derive(Clone, Copy)]
@@ -53,8 +53,12 @@ impl Cursor {
     ghost use Rattle.janus_machine.specs.Cursor.{count_in, with_count, is_turned};
     ghost use Rattle.janus_machine.specs.Turns.{IsMirrored, AgreesMirrored};
 
-    /// A cursor at no place of a book yet, with the memory of all calls that may be open; an error for want of it. No step is taken.
-    pub fn new(alloc: Global) -> Result<Cursor, AllocError>
+    /// A cursor at no place of a book yet, with the memory of all calls that may be open. No step is taken.
+    ///
+    /// # Errors
+    ///
+    /// `RoomFault::Memory` where there is no memory for it.
+    pub fn new(alloc: Global) -> Result<Cursor, RoomFault>
         ensures ended { IfOk result (λ cursor. has_ended cursor ≡ true) }
         ensures counts { IfOk result IsAtEntry }
     {

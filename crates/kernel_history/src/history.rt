@@ -2,6 +2,7 @@
 ghost use Rattle.std.specs.Prelude.{◌≡◌, ◌+◌, ◌<◌, ℕ, List, IfOk, IfErr, IfSome, IfNone, OnOk, OnErr, length, nat_lt};
 ghost use Rattle.kernel_machine.specs.State.{Idle, Border, here, is_full, Shown, new_state};
 ghost use Rattle.kernel_history.specs.Fields.{past_of, nodes_of, state_of, IsStageOf};
+ghost use Rattle.kernel_machine.specs.declared.outcome.Refusal.TheVariants.{Memory};
 ghost use Rattle.kernel_machine.specs.declared.travel.Aim.TheVariants.{Undo, Redo};
 ghost use Rattle.kernel_machine.specs.Legal.{IsLegal, IsPossible, IsCounted, CanGo, can_undo, can_redo};
 ghost use Rattle.kernel_machine.specs.Slices.{IsSlice, cells};
@@ -172,16 +173,25 @@ fn prepare<L: Ledger>(
 
 impl<L: Ledger> History<L> {
     /// An empty history, with no writes and no steps so far, which are counted in the ledger that is opened by this blank.
-    pub fn new(alloc: Global, blank: Blank) -> Result<History<L>, AllocError>
+    ///
+    /// # Errors
+    ///
+    /// `Refusal::Memory` where there is no memory for it.
+    pub fn new(alloc: Global, blank: Blank) -> Result<History<L>, Refusal>
         requires name { blank.name ≡ L.name }
         requires parts { blank.parts ≡ L.parts }
         requires two { 1 < L.parts }
         ensures state { IfOk result (λ history. history.state ≡ new_state) }
         ensures unwritten { IfOk result (λ history. history.writes ≡ 0) }
         ensures no_steps { IfOk result (λ history. history.steps ≡ 0) }
+        ensures memory { IfErr result (λ refusal. refusal ≡ Memory) }
     {
-        let cells = Cells::new(alloc)?;
-        let runner = Runner::new(alloc, blank)?;
+        let Ok(cells) = Cells::new(alloc) else {
+            return Err(Refusal::Memory);
+        };
+        let Ok(runner) = Runner::new(alloc, blank) else {
+            return Err(Refusal::Memory);
+        };
         Ok(History {
             tree: HistoryTree { cells, position: 0 },
             runner,

@@ -45,4 +45,4 @@ pub use crate::job::Stage;
 pub use crate::open_cell::OpenCell;
 pub use crate::tree::HistoryTree;
 pub use crate::view::View;
-pub use kernel_loader::{Store, names_in_sight};
+pub use kernel_loader::{StackView, Store, ValueView, names_in_sight};

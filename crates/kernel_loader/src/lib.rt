@@ -29,5 +29,5 @@ mod sight;
 pub use crate::loader::load;
 pub use crate::sight::names_in_sight;
 pub use kernel_runner::{
-    Book, CountedStore, Cursor, Procedures, Program, Runner, Store, ValueView, slice,
+    Book, CountedStore, Cursor, Procedures, Program, Runner, StackView, Store, ValueView, slice,
 };

@@ -62,7 +62,9 @@ fn new_hall<W: Ledger, L: HistoryName>(
     ensures ringers { IfOk result (λ made. All (λ seat. seat.bell ≡ made.0) made.1.ringers.items) }
 {
     let (bell, runner, ringers) = Bell::new(alloc, RINGERS)?;
-    let kernel = Kernel::<W>::new(alloc, writes)?;
+    let Ok(kernel) = Kernel::<W>::new(alloc, writes) else {
+        return Err(AllocError);
+    };
     let hall = Hall::<W, L>::new(
         alloc,
         posts,

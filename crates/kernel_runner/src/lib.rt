@@ -23,5 +23,6 @@ mod runner;
 pub use crate::program::Program;
 pub use crate::runner::Runner;
 pub use janus_machine::{
-    Book, CountedStore, Cursor, LinkedCode, LinkedProcedure, Procedures, Store, ValueView, slice,
+    Book, CountedStore, Cursor, LinkedCode, LinkedProcedure, Procedures, RoomFault, StackView,
+    Store, ValueView, slice,
 };

@@ -21,7 +21,7 @@ ghost use Rattle.kernel_runner.specs.Runner.{CanEnter, CanReturn, CanLeave, Ente
 ghost use Rattle.kernel_machine.specs.StepsOfSlices.{steps_on, steps_back};
 
 use crate::program::Program;
-use janus_machine::{Book, CountedStore, Cursor, End, Procedures, Store, slice};
+use janus_machine::{Book, CountedStore, Cursor, End, Procedures, RoomFault, Store, slice};
 use janus_names::Names;
 use janus_syntax::tree::Declaration;
 use kernel_machine::Progress;
@@ -41,8 +41,12 @@ pub struct Runner<L: Ledger> {
 
 impl<L: Ledger> Runner<L> {
     /// The empty world, with no writes and no steps so far, which are counted in the ledger that is opened by this blank. It takes the memory that
-    /// every run needs, that of all stacks, locals and calls; the only error is want of it.
-    pub fn new(alloc: Global, blank: Blank) -> Result<Runner<L>, AllocError>
+    /// every run needs, that of all stacks, locals and calls.
+    ///
+    /// # Errors
+    ///
+    /// `RoomFault::Memory` where there is no memory for it.
+    pub fn new(alloc: Global, blank: Blank) -> Result<Runner<L>, RoomFault>
         requires name { blank.name ≡ L.name }
         requires parts { blank.parts ≡ L.parts }
         requires two { 1 < L.parts }

@@ -63,7 +63,9 @@ fn new_hall<W: Ledger, L: HistoryName>(
     let Some(seat) = ringers.pop() else {
         unreachable!()
     };
-    let kernel = Kernel::<W>::new(alloc, writes)?;
+    let Ok(kernel) = Kernel::<W>::new(alloc, writes) else {
+        return Err(AllocError);
+    };
     let hall = Hall::<W, L>::new(
         alloc,
         posts,

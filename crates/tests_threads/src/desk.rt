@@ -44,7 +44,9 @@ impl<W: Ledger, L: HistoryName> Desk<W, L> {
         let Some(ringer) = ringers.pop() else {
             unreachable!()
         };
-        let kernel = Kernel::new(alloc, writes)?;
+        let Ok(kernel) = Kernel::new(alloc, writes) else {
+            return Err(AllocError);
+        };
         let hall = Hall::new(
             alloc,
             posts,
