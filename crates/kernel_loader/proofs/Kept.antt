@@ -1,15 +1,16 @@
 -- The body that is kept of a procedure stands for it, with slots in place of names.
-use Rattle.std.proofs.Common.{◌≡◌, ◌+◌, ◌<◌, ◌≤◌, ℕ, zero, suc, List, [], ◌∷◌, ◌++◌, length, get_or, map, take, refl, sym, ap, ◌∙◌, subst, arith}
+use Rattle.std.proofs.Common.{◌≡◌, ◌+◌, ◌<◌, ◌≤◌, Bool, true, false, cond, ℕ, zero, suc, List, [], ◌∷◌, ◌++◌, length, get_or, map, take, refl, sym, ap, ◌∙◌, subst, arith}
 use Rattle.std.specs.Prelude.{slice_get, Some, Contains, Result, Ok, Err, IfOk}
 use Rattle.std.proofs.lemmas.List.{length-map, map-append}
 use Rattle.kernel_runner.proofs.BodiesInEffect.{bodies_from_before, bodies_from_more}
 use Rattle.janus_meaning.specs.Limit.{parameter_limit}
+use Rattle.janus_meaning.specs.Store.{same_name}
 use Rattle.janus_meaning.specs.Syntax.{Name, Proc, names_of}
 use Rattle.janus_syntax.specs.Tree.{procedure_view, procedures_view}
 use Rattle.janus_syntax.specs.View.{plain_procedure}
 use Rattle.janus_syntax.specs.declared.tree.Procedure as Defined
 use Rattle.janus_names.proofs.NameAt.{name_is}
-use Rattle.janus_slots.specs.Slots.{slot, stacked, procedure_in, procedures_in}
+use Rattle.janus_slots.specs.Slots.{slot, no_slot, number_from, stacked, procedure_in, procedures_in}
 use Rattle.janus_code.specs.CodeBlock.{code_block}
 use Rattle.janus_code.specs.Expressions.{symbol_name}
 use Rattle.janus_code.specs.Numbered.{HasItsNumber}
@@ -51,6 +52,21 @@ module _ (es : List Name) (p : Proc) (f : flat.FlatProcedure) (is : proc_of all_
         names = names_stacked p.params ∙ ap parameters (many ∙ sym count);
         body = body ∙ ap (λ (q : Proc). q.body) is;
       }
+
+-- the number that a procedure has in a table is that of one of its names
+slot_same : (m n : ℕ) → slot m ≡ slot n → m ≡ n
+slot_same m n e = cc
+
+number_here : (b : Bool) (n k m : ℕ) (r : Name) → (r ≡ slot k → k < suc n + m) → cond b (slot n) r ≡ slot k → k < n + suc m
+number_here true n k m r h e = omega (arith, slot_same n k e)
+number_here false n k m r h e = omega (arith, h e)
+
+number_among : (n : ℕ) (es : List Name) (f : Name) (k : ℕ) → number_from n es f ≡ slot k → k < n + length es
+number_among n [] f k e = let bad : no_slot ≡ slot k = e in cc
+number_among n (h ∷ es) f k e = number_here (same_name f h) n k (length es) (number_from (suc n) es f) (number_among (suc n) es f k) e
+
+pub named_among : (es : List Name) (p : Proc) (k : ℕ) → (procedure_in es p).name ≡ slot k → k < length es
+named_among es p k e = number_among 0 es p.name k e
 
 -- ---- results
 

@@ -1,5 +1,5 @@
 -- Which names come into a table of names of procedures.
-use Rattle.std.proofs.Common.{◌≡◌, ◌<◌, ℕ, zero, suc, List, [], ◌∷◌, length, get_or, map, Some, None, ap, ◌∙◌, sym, subst, arith}
+use Rattle.std.proofs.Common.{◌≡◌, ◌<◌, ◌≤◌, ◌+◌, ℕ, zero, suc, List, [], ◌∷◌, length, length-append, get_or, map, Some, None, ap, ◌∙◌, sym, subst, arith}
 use Rattle.std.proofs.Common.{Contains, inl, inr, ⊎_elim}
 use Rattle.std.proofs.lemmas.Option.{slice_get_past}
 use Rattle.janus_meaning.specs.Syntax.{Name, Proc}
@@ -24,6 +24,11 @@ named_here (z ∷ ys) (suc i) y l e =
 
 pub none_added : (old : List Name) (ps : List Proc) → AddNamesOf old old ps
 none_added old ps n x behind at = let bad : None ≡ Some x = sym (slice_get_past old n behind) ∙ at in cc
+
+-- one name more, or none: how many there are
+pub added_count : (es fs : List Name) (k : ℕ) (x : Name) → Adds es fs k x → length fs ≤ length es + 1
+added_count es fs k x (inl same) = omega (arith, ap length same)
+added_count es fs k x (inr more) = omega (arith, ap length more.1 ∙ length-append es (x ∷ []))
 
 -- one name more, or none
 pub one_added : (old es fs : List Name) (k : ℕ) (x : Name) (ps : List Proc) → AddNamesOf old es ps → Contains (map (λ (p : Proc). p.name) ps) x →

@@ -1,13 +1,16 @@
 -- What a cell is loaded over, what stays meanwhile, and which names of procedures are new.
-use Rattle.std.specs.Prelude.{◌≡◌, ◌≤◌, ℕ, List, map, length, Contains}
+use Rattle.std.specs.Prelude.{◌≡◌, ◌≤◌, ◌+◌, ◌⊎◌, ℕ, List, [], map, length, Contains}
 use Rattle.janus_meaning.specs.Syntax.{Name, Proc}
 use Rattle.janus_meaning.specs.FormedWorld.{HaveValues}
+use Rattle.janus_meaning.specs.World as world
 use Rattle.janus_meaning.specs.World.{World}
 use Rattle.janus_names.specs.Numbers.{IsNumbered}
 use Rattle.janus_syntax.specs.Tree.{Cell}
 use Rattle.janus_check.specs.Names.{Known}
 use Rattle.kernel_runner.specs.linked_code.LinkedCode.{LinkedCode}
 use Rattle.kernel_machine.specs.Language.{IsSound}
+use Rattle.kernel_machine.specs.Text.{Accepts}
+use Rattle.kernel_runner.specs.Procedures.{places_in}
 use Rattle.kernel_runner.specs.Program.{tree_of}
 use Rattle.kernel_runner.specs.declared.program.Program.{Program}
 use Rattle.kernel_runner.specs.Runner.{ShownWorld, Is, Between}
@@ -27,6 +30,14 @@ KeepsShown old new = (shown : ShownWorld) → IsSound shown.world → Is old (Be
 -- behind the old names stand names of these procedures, and no others
 abbrev pub AddNamesOf : List Name → List Name → List Proc → Type 0
 AddNamesOf old new ps = (k : ℕ) (x : Name) → length old ≤ k → IsNumbered new k x → Contains (map (λ (p : Proc). p.name) ps) x
+
+-- the procedures of the text's cell; none, where there is no such cell
+abbrev pub AreProceduresOf : World → List ℕ → List Proc → Type 0
+AreProceduresOf w text ps = (ps ≡ []) ⊎ ((cell : world.Cell) × Accepts w text cell × (cell.procedures ≡ ps))
+
+-- there are no more places for the bodies in effect than before, or than names that were there and these procedures
+abbrev pub TakesFewPlaces : {L : Type 0} → Runner L → Runner L → List Proc → Type 0
+TakesFewPlaces old new ps = (n : ℕ) → places_in old.procedures ≤ n → length old.entries + length ps ≤ n → places_in new.procedures ≤ n
 
 -- the program of this cell and this code, whose bodies begin there
 pub record IsMadeOf (cell : Cell) (book : LinkedCode) (first : ℕ) (program : Program) : Type 0 where

@@ -6,7 +6,7 @@ ghost use Rattle.janus_syntax.specs.View.{plain_procedure, plain_cell};
 ghost use Rattle.janus_check.specs.Checked.{cell_in, heads_called};
 ghost use Rattle.janus_code.specs.Slotted.{HasEntries, all_slots};
 ghost use Rattle.kernel_runner.specs.Procedures.{kept_in};
-ghost use Rattle.kernel_loader.specs.Keeping.{IsKeptBehind, AreBodiesBehind, KeepsOlder, KeepsDefined};
+ghost use Rattle.kernel_loader.specs.Keeping.{IsKeptBehind, AreBodiesBehind, KeepsOlder, KeepsDefined, HasFewPlaces};
 
 use janus_check::Checked;
 use janus_code::flatten_procedure;
@@ -30,6 +30,7 @@ pub fn keep_all(
     ensures count { OnOk result (length (kept_in kept.new) ≡ length (kept_in kept.old) + length procedures.now) }
     ensures older { KeepsOlder kept.old kept.new }
     ensures defined { KeepsDefined kept.old kept.new }
+    ensures few { HasFewPlaces kept.old kept.new entries.now }
 {
     for i in 0..procedures.len() {
         keep(alloc, checked, &procedures[i], entries, kept)?;
@@ -50,6 +51,7 @@ fn keep(
     ensures ok { OnOk result (IsKeptBehind kept.old kept.new (procedure_in entries.now (plain_procedure (procedure_view procedure.now)))) }
     ensures err { OnErr result (kept_in kept.new ≡ kept_in kept.old) }
     ensures defined { KeepsDefined kept.old kept.new }
+    ensures few { HasFewPlaces kept.old kept.new entries.now }
 {
     let Ok(flat) = flatten_procedure(alloc, checked, procedure, entries) else {
         return Err(AllocError);

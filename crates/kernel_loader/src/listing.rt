@@ -1,5 +1,5 @@
 //! The names of a cell's procedures, each with a number in the table of procedures' names.
-ghost use Rattle.std.specs.Prelude.{OnOk, map};
+ghost use Rattle.std.specs.Prelude.{◌≤◌, ◌+◌, OnOk, length, map};
 ghost use Rattle.janus_names.specs.Numbers.{GoOn};
 ghost use Rattle.janus_slots.specs.Law.{AreListed};
 ghost use Rattle.janus_syntax.specs.Tree.{procedures_view};
@@ -15,6 +15,7 @@ pub fn list_all(entries: &mut Names, procedures: &[Procedure]) -> Result<(), All
     ensures listed { OnOk result (AreListed entries.new (map plain_procedure (procedures_view procedures.now))) }
     ensures onward { GoOn entries.old entries.new }
     ensures only { AddNamesOf entries.old entries.new (map plain_procedure (procedures_view procedures.now)) }
+    ensures few { length entries.new ≤ length entries.old + length procedures.now }
 {
     for i in 0..procedures.len() {
         let _number = entries.add(procedures[i].name.text.as_str())?;

@@ -1,6 +1,6 @@
 //! A cell's text, made a program that the runner can run.
 ghost use Rattle.std.specs.Prelude.{◌≡◌, ◌+◌, ℕ, List, IfOk, IfErr, OnOk, OnErr, length};
-ghost use Rattle.janus_meaning.specs.Syntax.{names_of};
+ghost use Rattle.janus_meaning.specs.Syntax.{Proc, names_of};
 ghost use Rattle.janus_meaning.specs.World.{declare, entered};
 ghost use Rattle.janus_names.specs.Numbers.{GoOn};
 ghost use Rattle.janus_slots.specs.Slots.{names_in, block_in, procedures_in};
@@ -18,8 +18,8 @@ ghost use Rattle.kernel_runner.specs.Program.{cell_of_program, procedures_of, Is
 ghost use Rattle.kernel_runner.specs.declared.program.Program.{Program as TheProgram};
 ghost use Rattle.kernel_runner.specs.Runner.{ShownWorld, over, Is, Between, world_of, steps_of};
 ghost use Rattle.kernel_loader.specs.Defined.{in_a_row};
-ghost use Rattle.kernel_loader.specs.Keeping.{AreBodiesBehind, KeepsOlder, KeepsDefined};
-ghost use Rattle.kernel_loader.specs.Loading.{ShowsKnown, KeepsShown, AddNamesOf, IsMadeOf};
+ghost use Rattle.kernel_loader.specs.Keeping.{AreBodiesBehind, KeepsOlder, KeepsDefined, HasFewPlaces};
+ghost use Rattle.kernel_loader.specs.Loading.{ShowsKnown, KeepsShown, AddNamesOf, IsMadeOf, AreProceduresOf, TakesFewPlaces};
 
 use crate::checking::cell_of_text;
 use crate::keeping::{keep_all, slots_law};
@@ -64,6 +64,8 @@ pub fn load<L: Ledger>(
     ensures steps { steps_of runner.new ≡ steps_of runner.old }
     ensures entries { GoOn runner.old.entries runner.new.entries }
     ensures shown { KeepsShown runner.old runner.new }
+    // Of what is refused no more places are left for its bodies than it has procedures.
+    ensures few { (ps : List Proc) × AreProceduresOf (world_of (in_a_row procedures.now) runner.old) text.now ps × TakesFewPlaces runner.old runner.new ps }
 {
     let Ok(env) = known_over(alloc, &runner.counted.store, procedures) else {
         return Err(Refusal::Memory);
@@ -104,6 +106,7 @@ fn link<L: Ledger>(
     ensures steps { steps_of runner.new ≡ steps_of runner.old }
     ensures entries { GoOn runner.old.entries runner.new.entries }
     ensures shown { KeepsShown runner.old runner.new }
+    ensures few { TakesFewPlaces runner.old runner.new (plain_cell (cell_in checked.now)).procedures }
 {
     let known = runner.entries.len();
     match list_and_link(alloc, checked, runner) {
@@ -135,6 +138,7 @@ fn list_and_link<L: Ledger>(
     ensures steps { steps_of runner.new ≡ steps_of runner.old }
     ensures entries { GoOn runner.old.entries runner.new.entries }
     ensures shown { KeepsShown runner.old runner.new }
+    ensures few { TakesFewPlaces runner.old runner.new (plain_cell (cell_in checked.now)).procedures }
 {
     checked.formed_law();
     list_all(&mut runner.entries, &checked.cell().procedures)?;
@@ -164,6 +168,7 @@ fn keep_and_link(
     ensures count { OnOk result (length (kept_in kept.new) ≡ length (kept_in kept.old) + length (plain_cell (cell_in checked.now)).procedures) }
     ensures older { KeepsOlder kept.old kept.new }
     ensures defined { KeepsDefined kept.old kept.new }
+    ensures few { HasFewPlaces kept.old kept.new entries.now }
 {
     keep_all(alloc, checked, &checked.cell().procedures, entries, kept)?;
     book_of(alloc, checked, entries)

@@ -22,4 +22,5 @@ loop-i-preserved c =
       more.0,
       more.1,
       λ stack d. c.keep.ensures.defined stack (h.3 stack d),
+      λ n places names. c.keep.ensures.few n (h.4 n places names) names,
     )

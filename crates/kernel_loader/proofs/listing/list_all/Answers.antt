@@ -1,4 +1,4 @@
-use Rattle.std.proofs.Common.{ℕ, List, map, take, sym, subst, add-one, Contains}
+use Rattle.std.proofs.Common.{ℕ, List, length, map, take, sym, ap, subst, arith, add-one, Contains}
 use Rattle.janus_meaning.specs.Syntax.{Name, Proc}
 use Rattle.janus_names.specs.Numbers.{IsMet, GoOn}
 use Rattle.janus_slots.specs.Law.{AreListed}
@@ -8,11 +8,16 @@ use Rattle.janus_syntax.specs.declared.tree.Procedure as Defined
 use Rattle.kernel_runner.proofs.Growing.{no_more, more_yet}
 use Rattle.kernel_loader.proofs.Sighted.{adds_onward, listed_more}
 use Rattle.kernel_loader.specs.Loading.{AddNamesOf}
-use Rattle.kernel_loader.proofs.Named.{named_here, none_added, one_added}
+use Rattle.kernel_loader.proofs.Named.{named_here, none_added, added_count, one_added}
 use Rattle.kernel_loader.proofs.listing.list_all.Goals as goal
 
 pub loop-i-init : goal.loop-i-init
-loop-i-init c = (tt, no_more c.args.entries.now, none_added c.args.entries.now (map plain_procedure (procedures_view c.args.procedures.now)))
+loop-i-init c = (
+      tt,
+      no_more c.args.entries.now,
+      none_added c.args.entries.now (map plain_procedure (procedures_view c.args.procedures.now)),
+      omega arith,
+    )
 
 pub loop-i-preserved : goal.loop-i-preserved
 loop-i-preserved c =
@@ -31,9 +36,13 @@ loop-i-preserved c =
       more_yet c.args.entries.now c.loop-i.entries c.add.new.self c.loop-i.invariant.1 onward,
       one_added c.args.entries.now c.loop-i.entries c.add.new.self c.in_ok-_number._number c.as_str.result.now ps
           c.loop-i.invariant.2 here c.in_ok-_number.ensures.added,
+      omega (arith, c.loop-i.invariant.3, added_count c.loop-i.entries c.add.new.self c.in_ok-_number._number c.as_str.result.now c.in_ok-_number.ensures.added),
     )
 
 pub returns-in_err-_number-clause-only : goal.returns-in_err-_number-clause-only
 returns-in_err-_number-clause-only c =
     let ps : List Proc = map plain_procedure (procedures_view c.args.procedures.now) in
     subst (λ (l : List Name). AddNamesOf c.args.entries.now l ps) (sym c.in_err-_number.ensures.err) c.loop-i.invariant.2
+
+pub returns-in_err-_number-clause-few : goal.returns-in_err-_number-clause-few
+returns-in_err-_number-clause-few c = omega (arith, ap length c.in_err-_number.ensures.err, c.loop-i.invariant.3, c.loop-i-test.true)

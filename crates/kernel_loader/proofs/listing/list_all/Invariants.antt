@@ -1,4 +1,4 @@
-use Rattle.std.proofs.Common.{map, take}
+use Rattle.std.proofs.Common.{◌≤◌, ◌+◌, length, map, take}
 use Rattle.janus_names.specs.Numbers.{GoOn}
 use Rattle.janus_slots.specs.Law.{AreListed}
 use Rattle.janus_syntax.specs.Tree.{procedures_view}
@@ -10,3 +10,4 @@ abbrev pub invariant-loop-i : goal.invariant-loop-i
 invariant-loop-i l =
     AreListed l.entries (map plain_procedure (procedures_view (take l.i l.procedures))) × GoOn l.fn.entries l.entries
     × AddNamesOf l.fn.entries l.entries (map plain_procedure (procedures_view l.procedures))
+    × (length l.entries ≤ length l.fn.entries + l.i)
