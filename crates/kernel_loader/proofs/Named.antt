@@ -1,6 +1,7 @@
 -- Which names come into a table of names of procedures.
 use Rattle.std.proofs.Common.{◌≡◌, ◌<◌, ◌≤◌, ◌+◌, ℕ, zero, suc, List, [], ◌∷◌, length, length-append, get_or, map, Some, None, ap, ◌∙◌, sym, subst, arith}
 use Rattle.std.proofs.Common.{Contains, inl, inr, ⊎_elim}
+use Rattle.std.proofs.lemmas.List.{length-map}
 use Rattle.std.proofs.lemmas.Option.{slice_get_past}
 use Rattle.janus_meaning.specs.Syntax.{Name, Proc}
 use Rattle.janus_names.specs.Numbers.{IsNumbered, Adds}
@@ -21,6 +22,12 @@ named_here (z ∷ ys) zero y l e = (0, omega arith, ap (λ (z : Defined.Procedur
 named_here (z ∷ ys) (suc i) y l e =
     let h : Contains (names_defined (map plain_procedure (procedures_view ys))) (plain_procedure (procedure_view y)).name = named_here ys i y (omega arith) e in
     (suc h.0, omega (arith, h.1), h.2)
+
+-- the names of so many procedures are few
+pub few_listed : (old new : List Name) (ys : List Defined.Procedure) (ps : List Proc) (n : ℕ) → map plain_procedure (procedures_view ys) ≡ ps →
+    length new ≤ length old + length ys → length old + length ps ≤ n → length new ≤ n
+few_listed old new ys ps n same few more =
+    omega (arith, few, more, ap length same, length-map (procedures_view ys) plain_procedure, length-map ys procedure_view)
 
 pub none_added : (old : List Name) (ps : List Proc) → AddNamesOf old old ps
 none_added old ps n x behind at = let bad : None ≡ Some x = sym (slice_get_past old n behind) ∙ at in cc

@@ -1,9 +1,9 @@
 -- What a runner shows where it stands, at the end of its code, and where it turns round.
-use Rattle.std.proofs.Common.{◌≡◌, ◌≢◌, inl, inr, ℕ, ◌+◌, ◌<◌, ◌≤◌, Bool, ◌&&◌, true, false, not, List, [], ◌∷◌, refl, sym, ap, ◌∙◌, subst, length, arith}
+use Rattle.std.proofs.Common.{◌≡◌, ◌≢◌, inl, inr, ℕ, ◌+◌, ◌-◌, ◌<◌, ◌≤◌, Bool, ◌&&◌, true, false, not, List, [], ◌∷◌, refl, sym, ap, ◌∙◌, subst, length, arith}
 use Rattle.std.proofs.lemmas.List.{reverse-reverse}
 use Rattle.std.specs.Prelude.{reverse}
 use Rattle.janus_meaning.specs.Fault.{StepLimit}
-use Rattle.janus_meaning.specs.Syntax.{Name}
+use Rattle.janus_meaning.specs.Syntax.{Name, Proc}
 use Rattle.janus_meaning.specs.Store.{Store}
 use Rattle.janus_meaning.specs.Stepping.{mirror}
 use Rattle.janus_meaning.specs.Meaning.{Block, Part, Exec as BlockExec}
@@ -14,12 +14,17 @@ use Rattle.janus_meaning.proofs.Worlds.{worlds_start_and_end}
 use Rattle.janus_slots.specs.Slots.{names_in, in_slots, under_names, outside_in, procedures_in}
 use Rattle.janus_slots.proofs.Whole.{names_size, size_same, twice_same, under_named}
 use Rattle.janus_machine.specs.FrameCalls.{Caller, given_back}
-use Rattle.janus_machine.specs.StoreState.{IsWhole, declared_store, shown_store}
+use Rattle.janus_machine.specs.StoreState.{StoreState, IsWhole, declared_store, shown_store}
 use Rattle.janus_machine.specs.Open.{Agrees}
 use Rattle.janus_machine.specs.Nested.{AreOpenCalls}
 use Rattle.janus_machine.specs.Cursors.{place_of, has_ended, IsStanding}
 use Rattle.janus_machine.specs.Cursor.{calls_of, are_no_calls}
-use Rattle.janus_machine.specs.Steps.{Refuses}
+use Rattle.janus_machine.specs.Counts.{steps_taken}
+use Rattle.janus_machine.specs.Steps.{Refuses, SliceEndsBy}
+use Rattle.janus_machine.specs.declared.machine.End as ends
+use Rattle.janus_machine.specs.declared.machine.End.TheVariants as end
+use Rattle.janus_machine.specs.declared.machine.Stepped.{Stepped}
+use Rattle.janus_machine.specs.declared.machine.Stepped.TheVariants.{Went, Ended, Fault}
 use Rattle.janus_machine.specs.Law.{seen_at}
 use Rattle.janus_meaning.specs.Faults.{fault_of}
 use Rattle.janus_meaning.specs.declared.fault.Fault as machine
@@ -30,7 +35,8 @@ use Rattle.janus_machine.specs.declared.cursor.Cursor.{Cursor}
 use Rattle.janus_machine.specs.declared.procedures.Procedures.{Procedures}
 use Rattle.janus_machine.proofs.Seen.{seen_is}
 use Rattle.kernel_machine.specs.Language.{CodePart, CodeExec, CodeStop, run_block}
-use Rattle.kernel_runner.specs.Runner.{Place, at_count, start_at, block_of, slots_of, world_inside, Stands}
+use Rattle.kernel_machine.specs.StepsOfSlices.{steps_on}
+use Rattle.kernel_runner.specs.Runner.{Place, at_count, start_at, block_of, slots_of, world_inside, Stands, Comes, progress_at}
 use Rattle.kernel_runner.specs.declared.program.Program.{Program}
 use Rattle.kernel_runner.specs.declared.runner.Runner.{Runner}
 use Rattle.kernel_runner.proofs.Going.{run_means, back_means, the_same, stops_at}
@@ -215,6 +221,11 @@ whole_at_start runner program at none h =
       slots = ap in_slots start ∙ twice_same (start_at at).store ∙ sym start;
     }
 
+-- it stands at a count by another name
+pub stands_at : {L : Type 0} (runner : Runner L) (program : Program) (at : Place) (n k : ℕ) (back : Bool) → n ≡ k → Stands runner program (at_count n at) back →
+    Stands runner program (at_count k at) back
+stands_at runner program at n k back e h = subst (λ (x : ℕ). Stands runner program (at_count x at) back) e h
+
 -- ---- by why a slice ends, after t steps of m
 
 module _ {L : Type 0} (runner : Runner L) (program : Program) (at : Place) (t m : ℕ) (s : Stands runner program (at_count (at.count + t) at) false) where
@@ -248,7 +259,36 @@ module _ {L : Type 0} (runner : Runner L) (program : Program) (at : Place) (t m 
       ((n : ℕ) (u : World) → CodeExec at.code at.world n u → at.count + x < n)) all
       (stands_part runner program (at_count (at.count + t) at) false s, λ n u e. not_ended runner program (at_count (at.count + t) at) s going n u e)
 
--- it stands at a count by another name
-pub stands_at : {L : Type 0} (runner : Runner L) (program : Program) (at : Place) (n k : ℕ) (back : Bool) → n ≡ k → Stands runner program (at_count n at) back →
-    Stands runner program (at_count k at) back
-stands_at runner program at n k back e h = subst (λ (x : ℕ). Stands runner program (at_count x at) back) e h
+  -- whatever ends it
+  pub comes : (e : ends.End) (n : ℕ) → t ≤ m → n ≡ runner.cursor.count →
+      SliceEndsBy (procedures_in runner.entries (start_at at).procedures) (stacks_in (start_at at).store) m t runner.procedures program.book runner.cursor
+      runner.counted.store e →
+      Comes program at (at.count + m) (progress_at e n) runner
+  comes end.Cut n low is why = record {
+    reaches = run_went why.0 why.1;
+    is = stands_at runner program at _ _ false (ap (λ (x : ℕ). at.count + x) why.0) s;
+    whole = tt;
+  }
+  comes end.Ended n low is why = record {
+    reaches = run_ended n low is why;
+    is = stands_at runner program at _ _ false (sym (is ∙ s.counted)) s;
+    whole = whole_at_end runner program (at_count (at.count + t) at) s why;
+  }
+  comes (end.Fault f) n low is why = record {
+    reaches = run_stopped n f why.0 is why.1 why.2;
+    is = stands_at runner program at _ _ false (sym (is ∙ s.counted)) s;
+    whole = tt;
+  }
+
+-- and so many steps are told
+pub steps_told : (ps : List Proc) (k m t : ℕ) (procedures : Procedures) (book : LinkedCode) (cursor : Cursor) (store : StoreState) (e : ends.End) (n c : ℕ)
+    → n - c ≡ t → SliceEndsBy ps k m t procedures book cursor store e → steps_on c m (progress_at e n) ≡ t
+steps_told ps k m t procedures book cursor store end.Cut n c is why = sym why.0
+steps_told ps k m t procedures book cursor store end.Ended n c is why = is
+steps_told ps k m t procedures book cursor store (end.Fault f) n c is why = is
+
+-- a step is one at most
+pub one_taken : (r : Stepped) → steps_taken r ≤ 1
+one_taken Went = omega arith
+one_taken Ended = omega arith
+one_taken (Fault f) = omega arith

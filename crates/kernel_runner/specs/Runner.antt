@@ -21,6 +21,9 @@ use Rattle.janus_machine.specs.Procedures.{kept_in}
 use Rattle.kernel_runner.specs.Program.{cell_of_program, procedures_of, IsReady, with_bodies}
 use Rattle.kernel_runner.specs.declared.program.Program.{Program}
 use Rattle.kernel_machine.specs.Reached.{Reaches}
+use Rattle.janus_machine.specs.declared.machine.End.{End}
+use Rattle.janus_machine.specs.declared.machine.End.TheVariants as end
+use Rattle.janus_machine.specs.declared.machine.End.TheVariants.{Cut, Fault}
 use Rattle.kernel_machine.specs.declared.progress.Progress.{Progress}
 use Rattle.kernel_machine.specs.declared.progress.Progress.TheVariants.{Went, Ended, Stopped}
 use Rattle.kernel_runner.specs.declared.runner.Runner.{Runner}
@@ -216,6 +219,12 @@ Enters program old new = (from : ShownWorld) → CanEnter old program from → I
 
 abbrev pub EntersInverse : {L : Type 0} → Program → Runner L → Runner L → Type 0
 EntersInverse program old new = (from : ShownWorld) → CanReturn old program from → Is new (Inside program (inverse_entry program from) false)
+
+-- how far a run came whose slice ended for this reason, at this count
+abbrev pub progress_at : End → ℕ → Progress
+progress_at Cut n = Went
+progress_at end.Ended n = Ended n
+progress_at (Fault f) n = Stopped n f
 
 -- how many steps are taken in all, where there were m at most
 abbrev pub count_after : ℕ → Progress → ℕ

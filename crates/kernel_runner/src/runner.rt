@@ -14,14 +14,18 @@ ghost use Rattle.janus_names.specs.Numbers.{IsUnmet};
 ghost use Rattle.janus_machine.specs.StoreState.{IsWhole, shown_store};
 ghost use Rattle.janus_machine.specs.Procedures.{kept_in};
 ghost use Rattle.janus_machine.specs.Bodies.{AreDefined, AreBelow};
+ghost use Rattle.janus_machine.specs.Cursors.{has_ended};
+ghost use Rattle.janus_machine.specs.Steps.{end_of};
 ghost use Rattle.janus_meaning.specs.Writes.{IsWritten};
 ghost use Rattle.kernel_runner.specs.Runner.{ShownWorld, over, Becomes, IsDeclaredOver, count_of, Is, Between, IsInside};
-ghost use Rattle.kernel_runner.specs.Runner.{writes_of, steps_of, KeepsCounts, CameBy};
+ghost use Rattle.kernel_runner.specs.Runner.{writes_of, steps_of, KeepsCounts, CameBy, progress_at};
 ghost use Rattle.kernel_runner.specs.Runner.{CanEnter, CanReturn, CanLeave, Enters, EntersInverse, Runs, Turns, GoesBack, Leaves};
 ghost use Rattle.kernel_machine.specs.StepsOfSlices.{steps_on, steps_back};
 
 use crate::program::Program;
-use janus_machine::{Book, CountedStore, Cursor, End, Procedures, RoomFault, Store, slice};
+use janus_machine::{
+    Book, CountedStore, Cursor, End, Procedures, RoomFault, Stepped, Store, slice, step,
+};
 use janus_names::Names;
 use janus_syntax::tree::Declaration;
 use kernel_machine::Progress;
@@ -125,12 +129,26 @@ impl<L: Ledger> Runner<L> {
             procedures: &self.procedures,
         };
         let sliced = slice(&book, &mut self.cursor, &mut self.counted, m);
-        let count = self.cursor.count();
-        match sliced.end {
-            End::Ended => Progress::Ended(count),
-            End::Fault(fault) => Progress::Stopped(count, fault),
-            End::Cut => Progress::Went,
-        }
+        progress(sliced.end, self.cursor.count())
+    }
+
+    /// Takes one step, as a run of one does, where the code has not ended.
+    pub fn step(&mut self, program: &Program) -> Progress
+        requires inside { IsInside self.old program.now false }
+        requires more { has_ended self.old.cursor ≡ false }
+        ensures runs { Runs program.now 1 result self.old self.new }
+        ensures procedures { self.new.procedures ≡ self.old.procedures }
+        ensures entries { self.new.entries ≡ self.old.entries }
+        ensures written { IsWritten (steps_on (count_of self.old) 1 result) (writes_of self.old) (writes_of self.new) }
+        ensures counted { steps_of self.new ≡ steps_of self.old + steps_on (count_of self.old) 1 result }
+        ensures came { CameBy program.now 1 (steps_on (count_of self.old) 1 result) self.old self.new }
+    {
+        let book = Book {
+            code: &program.book,
+            procedures: &self.procedures,
+        };
+        let stepped = step(&book, &mut self.cursor, &mut self.counted);
+        progress(end(stepped), self.cursor.count())
     }
 
     /// Turns round where it stands: the next steps go back.
@@ -192,6 +210,28 @@ impl<L: Ledger> Runner<L> {
     {
         self.procedures.forget(program.first);
         self.entries.truncate(program.first_name);
+    }
+}
+
+/// How far a run came whose slice ended for this reason, at this count.
+fn progress(end: End, count: u64) -> Progress
+    ensures { result ≡ progress_at end count }
+{
+    match end {
+        End::Cut => Progress::Went,
+        End::Ended => Progress::Ended(count),
+        End::Fault(fault) => Progress::Stopped(count, fault),
+    }
+}
+
+/// Why the slice of one step ends that did this.
+fn end(stepped: Stepped) -> End
+    ensures { result ≡ end_of stepped }
+{
+    match stepped {
+        Stepped::Went => End::Cut,
+        Stepped::Ended => End::Ended,
+        Stepped::Fault(fault) => End::Fault(fault),
     }
 }
 

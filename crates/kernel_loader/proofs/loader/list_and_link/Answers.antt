@@ -1,4 +1,4 @@
-use Rattle.std.proofs.Common.{◌≡◌, ℕ, ◌+◌, List, length, map, take, refl, sym, ap, ◌∙◌, subst}
+use Rattle.std.proofs.Common.{◌≡◌, ℕ, ◌+◌, ◌≤◌, List, length, map, take, refl, sym, ap, ◌∙◌, subst}
 use Rattle.janus_meaning.specs.Syntax.{Name, Proc, names_of}
 use Rattle.janus_meaning.specs.Formed.{IsBlk, AreProcs}
 use Rattle.janus_slots.specs.Slots.{block_in, procedures_in}
@@ -14,6 +14,7 @@ use Rattle.kernel_runner.specs.direction.Direction.TheVariants.{Forward}
 use Rattle.kernel_runner.specs.linked_code.LinkedCode.{LinkedCode}
 use Rattle.kernel_runner.specs.Program.{tree_of}
 use Rattle.kernel_runner.specs.Procedures.{kept_in}
+use Rattle.kernel_loader.proofs.Named.{few_listed}
 use Rattle.kernel_loader.proofs.Sighted.{names_here, entries_here}
 use Rattle.kernel_loader.proofs.Made.{all_kept, shows_more, bodies_within, ready_made}
 use Rattle.kernel_loader.specs.Loading.{AddNamesOf}
@@ -100,3 +101,23 @@ returns-in-Err-clause-only g c =
     let same : map plain_procedure (procedures_view c.deref.result.now) ≡ (plain_cell (cell_in c.args.checked.now)).procedures =
     ap (λ l. map plain_procedure (procedures_view l)) c.deref.ensures.value ∙ ap (λ (t : tree.Cell). (plain_cell t).procedures) c.cell.ensures in
     subst (λ (ps : List Proc). AddNamesOf c.args.runner.now.entries c.list_all.new.entries ps) same c.list_all.ensures.only
+
+pub returns-in_err-list_all-clause-few : goal.returns-in_err-list_all-clause-few
+returns-in_err-list_all-clause-few g c = λ n places more. places
+
+pub returns-in-Ok-clause-few : goal.returns-in-Ok-clause-few
+returns-in-Ok-clause-few g c = λ n places more.
+    let same : map plain_procedure (procedures_view c.deref.result.now) ≡ (plain_cell (cell_in c.args.checked.now)).procedures =
+    ap (λ l. map plain_procedure (procedures_view l)) c.deref.ensures.value ∙ ap (λ (t : tree.Cell). (plain_cell t).procedures) c.cell.ensures in
+    c.keep_and_link.ensures.few n places
+    (few_listed c.args.runner.now.entries c.list_all.new.entries c.deref.result.now (plain_cell (cell_in c.args.checked.now)).procedures n same
+    c.list_all.ensures.few more)
+
+pub returns-in-Err-clause-few : goal.returns-in-Err-clause-few
+returns-in-Err-clause-few g c = λ n places more.
+    let same : map plain_procedure (procedures_view c.deref.result.now) ≡ (plain_cell (cell_in c.args.checked.now)).procedures =
+    ap (λ l. map plain_procedure (procedures_view l)) c.deref.ensures.value ∙ ap (λ (t : tree.Cell). (plain_cell t).procedures) c.cell.ensures in
+    subst (λ (k : ℕ). k ≤ n) (sym c.forget.ensures.places)
+    (c.keep_and_link.ensures.few n places
+    (few_listed c.args.runner.now.entries c.list_all.new.entries c.deref.result.now (plain_cell (cell_in c.args.checked.now)).procedures n same
+    c.list_all.ensures.few more))

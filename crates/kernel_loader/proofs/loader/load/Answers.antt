@@ -1,4 +1,4 @@
-use Rattle.std.proofs.Common.{◌+◌, length, rules, refl, sym, ap, ◌∙◌, subst}
+use Rattle.std.proofs.Common.{◌+◌, [], length, rules, refl, sym, ap, ◌∙◌, subst, inl, inr}
 use Rattle.janus_meaning.specs.World.{World, declare}
 use Rattle.janus_slots.specs.Slots.{names_in}
 use Rattle.janus_slots.specs.Law.{AreListed}
@@ -73,3 +73,25 @@ returns-in_err-checked-clause-refuses g c =
     let known : IsKnownOf c.in-Ok.env w = record { names = c.in-Ok.ensures.names; heads = c.in-Ok.ensures.heads } in
     let told : Refuses w c.args.text.now c.in_err-checked.field-0.0 = c.in_err-checked.ensures.refuses w known in
     search (rules, told)
+
+-- few places are left, whether it is linked or refused
+
+pub returns-in-Ok-link-clause-few : goal.returns-in-Ok-link-clause-few
+returns-in-Ok-link-clause-few g c =
+    let w : World = world_of (in_a_row c.args.procedures.now) c.args.runner.now in
+    let known : IsKnownOf c.in-Ok.env w = record { names = c.in-Ok.ensures.names; heads = c.in-Ok.ensures.heads } in
+    let cell : Cell = cell_in c.in_ok-checked.checked in
+    ((plain_cell cell).procedures, inr (plain_cell cell, c.in_ok-checked.ensures.accepts w known, refl), c.link.ensures.few)
+
+pub returns-in-Err-link-clause-few : goal.returns-in-Err-link-clause-few
+returns-in-Err-link-clause-few g c =
+    let w : World = world_of (in_a_row c.args.procedures.now) c.args.runner.now in
+    let known : IsKnownOf c.in-Ok.env w = record { names = c.in-Ok.ensures.names; heads = c.in-Ok.ensures.heads } in
+    let cell : Cell = cell_in c.in_ok-checked.checked in
+    ((plain_cell cell).procedures, inr (plain_cell cell, c.in_ok-checked.ensures.accepts w known, refl), c.link.ensures.few)
+
+pub returns-in_err-checked-clause-few : goal.returns-in_err-checked-clause-few
+returns-in_err-checked-clause-few g c = ([], inl refl, λ n places more. places)
+
+pub returns-in-Err-clause-few : goal.returns-in-Err-clause-few
+returns-in-Err-clause-few g c = ([], inl refl, λ n places more. places)
