@@ -43,6 +43,8 @@ pub use Rattle.kernel_machine.specs.contracts.post as contracts_of_post
 -- Procedures that are lent, and the view of the shown world; and the trees of nodes.
 pub use Rattle.kernel_history.specs.Defined
 pub use Rattle.kernel_history.specs.NodeTrees
+-- What a runner does that is taken out with its open cell.
+pub use Rattle.kernel_history.specs.Runner
 -- The code's own words: the minutes as it writes them, and how its fields are the machine.
 pub mod Written
 pub mod MachineParts

@@ -35,6 +35,7 @@ pub use janus_syntax::{Cell, Keyword, Procedure, Sign, Span, SyntaxFault, Token,
 pub use kernel_history::{OpenCell, StackView, Store, ValueView, View, names_in_sight};
 pub use kernel_machine::{
     Begun, CellText, CheckFault, Event, Extent, Fault, Job, MINUTES_LIMIT, Outcome, Phase,
-    PostFault, QUEUE_LIMIT, Refusal, STEP_LIMIT, STEPS_OF_A_SLICE, Sliced, Told, TravelEnd,
+    PostFault, Progress, QUEUE_LIMIT, Refusal, STEP_LIMIT, STEPS_OF_A_SLICE, Sliced, Told,
+    TravelEnd,
 };
 pub use machine_laws::laws;

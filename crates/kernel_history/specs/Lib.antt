@@ -14,3 +14,4 @@ pub mod Came
 pub use Rattle.kernel_loader.specs.StoreState
 -- Of kernel_loader, given again.
 pub use Rattle.kernel_loader.specs.Defined
+pub use Rattle.kernel_loader.specs.Runner

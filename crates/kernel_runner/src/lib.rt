@@ -4,7 +4,7 @@
 //!   and the bodies of its procedures are kept. `kernel_loader` makes one of a text.
 //! - `Runner` has the one store, the procedures in effect with the table of their names, and the place in the code of the open cell. Code and store
 //!   have slots alone; that a run of slots is one of names is a law of `janus_slots`. Contracts see a runner's configuration: it shows
-//!   a world, or is at a place in a program's code. `enter` and `enter_inverse` lead inside a cell, `run` takes steps onward, `turn` faces round,
+//!   a world, or is at a place in a program's code. `enter` and `enter_inverse` lead inside a cell, `run` takes steps onward and `step` one, `turn` faces round,
 //!   `back` takes steps back, `leave` takes back what the begin declared and defined, and `forget` drops what was loaded for a cell. Of these `enter`
 //!   alone takes memory.
 //!

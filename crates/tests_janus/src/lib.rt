@@ -18,6 +18,7 @@ mod questions;
 mod rows;
 mod schedules;
 mod statements;
+mod steps;
 mod stores;
 mod streams;
 mod subject;

@@ -1,5 +1,5 @@
 //! What the rows of a block are about.
-use crate::{limits, lines, rows, stores, texts, transcripts};
+use crate::{limits, lines, rows, steps, stores, texts, transcripts};
 use std::alloc::AllocError;
 use std::fmt::Debug;
 use tests_rows::Sheet;
@@ -24,6 +24,7 @@ impl Subject for Plain<'_> {
             "lines" => lines::answer(call, sheet),
             "limits" => limits::answer(call, sheet),
             "rows" => rows::answer(call, sheet),
+            "steps" => steps::answer(call, sheet),
             _ => transcripts::answer(call, sheet),
         }
     }
