@@ -3,7 +3,7 @@ use Rattle.std.proofs.Common.{◌≡◌, ◌≢◌, inl, inr, ℕ, ◌+◌, ◌-
 use Rattle.std.proofs.lemmas.List.{reverse-reverse}
 use Rattle.std.specs.Prelude.{reverse}
 use Rattle.janus_meaning.specs.Fault.{StepLimit}
-use Rattle.janus_meaning.specs.Syntax.{Name, Proc}
+use Rattle.janus_meaning.specs.Syntax.{Name}
 use Rattle.janus_meaning.specs.Store.{Store}
 use Rattle.janus_meaning.specs.Stepping.{mirror}
 use Rattle.janus_meaning.specs.Meaning.{Block, Part, Exec as BlockExec}
@@ -14,7 +14,7 @@ use Rattle.janus_meaning.proofs.Worlds.{worlds_start_and_end}
 use Rattle.janus_slots.specs.Slots.{names_in, in_slots, under_names, outside_in, procedures_in}
 use Rattle.janus_slots.proofs.Whole.{names_size, size_same, twice_same, under_named}
 use Rattle.janus_machine.specs.FrameCalls.{Caller, given_back}
-use Rattle.janus_machine.specs.StoreState.{StoreState, IsWhole, declared_store, shown_store}
+use Rattle.janus_machine.specs.StoreState.{IsWhole, declared_store, shown_store}
 use Rattle.janus_machine.specs.Open.{Agrees}
 use Rattle.janus_machine.specs.Nested.{AreOpenCalls}
 use Rattle.janus_machine.specs.Cursors.{place_of, has_ended, IsStanding}
@@ -36,6 +36,7 @@ use Rattle.janus_machine.specs.declared.procedures.Procedures.{Procedures}
 use Rattle.janus_machine.proofs.Seen.{seen_is}
 use Rattle.kernel_machine.specs.Language.{CodePart, CodeExec, CodeStop, run_block}
 use Rattle.kernel_machine.specs.StepsOfSlices.{steps_on}
+use Rattle.kernel_machine.specs.declared.progress.Progress.{Progress}
 use Rattle.kernel_runner.specs.Runner.{Place, at_count, start_at, block_of, slots_of, world_inside, Stands, Comes, progress_at}
 use Rattle.kernel_runner.specs.declared.program.Program.{Program}
 use Rattle.kernel_runner.specs.declared.runner.Runner.{Runner}
@@ -260,32 +261,40 @@ module _ {L : Type 0} (runner : Runner L) (program : Program) (at : Place) (t m 
       (stands_part runner program (at_count (at.count + t) at) false s, λ n u e. not_ended runner program (at_count (at.count + t) at) s going n u e)
 
   -- whatever ends it
-  pub comes : (e : ends.End) (n : ℕ) → t ≤ m → n ≡ runner.cursor.count →
+  comes_at : (e : ends.End) (n : ℕ) → t ≤ m → n ≡ runner.cursor.count →
       SliceEndsBy (procedures_in runner.entries (start_at at).procedures) (stacks_in (start_at at).store) m t runner.procedures program.book runner.cursor
       runner.counted.store e →
       Comes program at (at.count + m) (progress_at e n) runner
-  comes end.Cut n low is why = record {
+  comes_at end.Cut n low is why = record {
     reaches = run_went why.0 why.1;
     is = stands_at runner program at _ _ false (ap (λ (x : ℕ). at.count + x) why.0) s;
     whole = tt;
   }
-  comes end.Ended n low is why = record {
+  comes_at end.Ended n low is why = record {
     reaches = run_ended n low is why;
     is = stands_at runner program at _ _ false (sym (is ∙ s.counted)) s;
     whole = whole_at_end runner program (at_count (at.count + t) at) s why;
   }
-  comes (end.Fault f) n low is why = record {
+  comes_at (end.Fault f) n low is why = record {
     reaches = run_stopped n f why.0 is why.1 why.2;
     is = stands_at runner program at _ _ false (sym (is ∙ s.counted)) s;
     whole = tt;
   }
 
--- and so many steps are told
-pub steps_told : (ps : List Proc) (k m t : ℕ) (procedures : Procedures) (book : LinkedCode) (cursor : Cursor) (store : StoreState) (e : ends.End) (n c : ℕ)
-    → n - c ≡ t → SliceEndsBy ps k m t procedures book cursor store e → steps_on c m (progress_at e n) ≡ t
-steps_told ps k m t procedures book cursor store end.Cut n c is why = sym why.0
-steps_told ps k m t procedures book cursor store end.Ended n c is why = is
-steps_told ps k m t procedures book cursor store (end.Fault f) n c is why = is
+  pub comes : (ran : Progress) (e : ends.End) (n : ℕ) → ran ≡ progress_at e n → t ≤ m → n ≡ runner.cursor.count →
+      SliceEndsBy (procedures_in runner.entries (start_at at).procedures) (stacks_in (start_at at).store) m t runner.procedures program.book runner.cursor
+      runner.counted.store e →
+      Comes program at (at.count + m) ran runner
+  comes ran e n same low is why = subst (λ (x : Progress). Comes program at (at.count + m) x runner) (sym same) (comes_at e n low is why)
+
+  -- so many steps are told
+  pub told : (e : ends.End) (n c : ℕ) → n - c ≡ t →
+      SliceEndsBy (procedures_in runner.entries (start_at at).procedures) (stacks_in (start_at at).store) m t runner.procedures program.book runner.cursor
+      runner.counted.store e →
+      steps_on c m (progress_at e n) ≡ t
+  told end.Cut n c is why = sym why.0
+  told end.Ended n c is why = is
+  told (end.Fault f) n c is why = is
 
 -- a step is one at most
 pub one_taken : (r : Stepped) → steps_taken r ≤ 1
