@@ -66,7 +66,7 @@ number_among n [] f k e = let bad : no_slot ≡ slot k = e in cc
 number_among n (h ∷ es) f k e = number_here (same_name f h) n k (length es) (number_from (suc n) es f) (number_among (suc n) es f k) e
 
 pub named_among : (es : List Name) (p : Proc) (k : ℕ) → (procedure_in es p).name ≡ slot k → k < length es
-named_among es p k e = number_among 0 es p.name k e
+named_among es p k e = omega (arith, number_among 0 es p.name k e)
 
 -- ---- results
 

@@ -34,3 +34,14 @@ returns-clause-few c = λ n places names.
     let is = c.in-Ok.ensures.procedure all_slots are_all numbered in
     let among = named_among es p body.name (name_of_flat es p flat is numbered body c.in_ok-body.ensures.name) in
     c.add.ensures.few n places (omega (arith, among, names))
+
+pub returns-in_err-_index-clause-few : goal.returns-in_err-_index-clause-few
+returns-in_err-_index-clause-few c = λ n places names.
+    let p = plain_procedure (procedure_view c.args.procedure.now) in
+    let es = c.args.entries.now in
+    let flat = c.in-Ok.flat.procedure in
+    let body = c.in_ok-body.body in
+    let numbered = c.in-Ok.ensures.wide all_slots c.slots_law.ensures in
+    let is = c.in-Ok.ensures.procedure all_slots are_all numbered in
+    let among = named_among es p body.name (name_of_flat es p flat is numbered body c.in_ok-body.ensures.name) in
+    c.add.ensures.few n places (omega (arith, among, names))

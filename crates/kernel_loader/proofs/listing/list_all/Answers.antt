@@ -13,11 +13,11 @@ use Rattle.kernel_loader.proofs.listing.list_all.Goals as goal
 
 pub loop-i-init : goal.loop-i-init
 loop-i-init c = (
-      tt,
-      no_more c.args.entries.now,
-      none_added c.args.entries.now (map plain_procedure (procedures_view c.args.procedures.now)),
-      omega arith,
-    )
+  tt,
+  no_more c.args.entries.now,
+  none_added c.args.entries.now (map plain_procedure (procedures_view c.args.procedures.now)),
+  omega arith,
+)
 
 pub loop-i-preserved : goal.loop-i-preserved
 loop-i-preserved c =

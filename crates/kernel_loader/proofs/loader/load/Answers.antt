@@ -4,7 +4,7 @@ use Rattle.janus_slots.specs.Slots.{names_in}
 use Rattle.janus_slots.specs.Law.{AreListed}
 use Rattle.janus_syntax.specs.Tree.{Cell}
 use Rattle.janus_syntax.specs.View.{plain_cell}
-use Rattle.janus_check.specs.Checked.{known_in}
+use Rattle.janus_check.specs.Checked.{cell_in, known_in}
 use Rattle.janus_check.specs.Names.{Known}
 use Rattle.kernel_machine.specs.Text.{Accepts, Refuses}
 use Rattle.kernel_runner.specs.StoreState.{shown_store}
@@ -83,8 +83,8 @@ returns-in-Ok-link-clause-few g c =
     let cell : Cell = cell_in c.in_ok-checked.checked in
     ((plain_cell cell).procedures, inr (plain_cell cell, c.in_ok-checked.ensures.accepts w known, refl), c.link.ensures.few)
 
-pub returns-in-Err-link-clause-few : goal.returns-in-Err-link-clause-few
-returns-in-Err-link-clause-few g c =
+pub returns-clause-few : goal.returns-clause-few
+returns-clause-few g c =
     let w : World = world_of (in_a_row c.args.procedures.now) c.args.runner.now in
     let known : IsKnownOf c.in-Ok.env w = record { names = c.in-Ok.ensures.names; heads = c.in-Ok.ensures.heads } in
     let cell : Cell = cell_in c.in_ok-checked.checked in
@@ -93,5 +93,5 @@ returns-in-Err-link-clause-few g c =
 pub returns-in_err-checked-clause-few : goal.returns-in_err-checked-clause-few
 returns-in_err-checked-clause-few g c = ([], inl refl, λ n places more. places)
 
-pub returns-in-Err-clause-few : goal.returns-in-Err-clause-few
-returns-in-Err-clause-few g c = ([], inl refl, λ n places more. places)
+pub returns-in_default-clause-few : goal.returns-in_default-clause-few
+returns-in_default-clause-few g c = ([], inl refl, λ n places more. places)
