@@ -59,7 +59,7 @@ fn answer_job<L: Ledger>(blank: Blank, job: Job, sheet: &mut Sheet)
             let _posted = kernel.post(1, job);
             let _begun = kernel.begin();
             match kernel.into_open_cell() {
-                Some(mut open) => tell_steps(&mut open, sheet),
+                Some(mut cell) => tell_steps(&mut cell, sheet),
                 None => sheet.write("no cell is open"),
             }
         }
@@ -68,21 +68,21 @@ fn answer_job<L: Ledger>(blank: Blank, job: Job, sheet: &mut Sheet)
 }
 
 /// Steps a cell to its end or to a fault, and tells what came of it.
-fn tell_steps<L: Ledger>(open: &mut OpenCell<L>, sheet: &mut Sheet)
-    requires { IsInside open.old.runner open.old.program false }
+fn tell_steps<L: Ledger>(cell: &mut OpenCell<L>, sheet: &mut Sheet)
+    requires { IsInside cell.old.runner cell.old.program false }
 {
     let mut asked = 0usize;
     let mut last = Progress::Went;
     for _ in 0..MOST {
-        if matches!(last, Progress::Went) && !open.runner.cursor.is_ended() {
-            last = open.runner.step(&open.program);
+        if matches!(last, Progress::Went) && !cell.runner.cursor.is_ended() {
+            last = cell.runner.step(&cell.program);
             asked = asked.saturating_add(1);
         }
     }
     sheet.show(&asked);
     sheet.write(" asked for, ");
     tell_last(last, sheet);
-    tell_store(&open.runner.counted.store, sheet);
+    tell_store(&cell.runner.counted.store, sheet);
 }
 
 /// How the last step came out.
