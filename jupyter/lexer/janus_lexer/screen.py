@@ -8,6 +8,7 @@ import locale
 import os
 import re
 import shutil
+import signal
 import sys
 import textwrap
 import time
@@ -134,7 +135,7 @@ class Screen:
         walk.waits = self.waits
         self.set_colours()
         self.arrive()
-        self.message = 'Right goes one step on, Left one back, G to the end or the fault; ? lists all keys'
+        self.message = ', '.join([*walk.before, 'Right goes one step on, Left one back, G to the end or the fault; ? lists all keys'])
 
     def set_colours(self):
         curses.curs_set(0)
@@ -454,6 +455,8 @@ def main(given):
 
 def show(words):
     locale.setlocale(locale.LC_ALL, '')
+    for it in signal.SIGTERM, signal.SIGHUP:
+        signal.signal(it, lambda number, _: sys.exit(128 + number))       # so that the programs that it started are ended too
     os.environ.setdefault('ESCDELAY', '25')
     walk = None
     try:

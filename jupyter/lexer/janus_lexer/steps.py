@@ -48,10 +48,10 @@ class View:
 
 
 class Child:
-    """The program, with one question under way at most. It has a session of its own, so that Ctrl-C in the terminal doesn't end it."""
+    """The program, with one question under way at most."""
     def __init__(self, words):
         self.words, self.heard = words, ''
-        self.process = subprocess.Popen(words, stdin=subprocess.PIPE, stdout=subprocess.PIPE, stderr=subprocess.PIPE, start_new_session=True)
+        self.process = subprocess.Popen(words, stdin=subprocess.PIPE, stdout=subprocess.PIPE, stderr=subprocess.PIPE)
 
     def ask(self, commands):
         self.heard = ''
@@ -92,6 +92,7 @@ class Walk:
         self.view = self.wait('list\n')
         listed = re.search(r'^[> ] (\d+) ', '\n'.join(self.view.raw), re.M)
         self.first_line = int(listed[1]) if listed else 1
+        self.before = [it for it in self.view.said if it.startswith('cell ') and ' ok node ' not in it]         # cells that left nothing behind
         self.view.said = []
 
     def wait(self, commands):
