@@ -135,7 +135,7 @@ class Screen:
         walk.waits = self.waits
         self.set_colours()
         self.arrive()
-        self.message = ', '.join([*walk.before, 'Right goes one step on, Left one back, G to the end or the fault; ? lists all keys'])
+        self.message = ', '.join([*walk.before, 'Right: one step on. Left: one back. G: to the end or the fault. ?: all keys'])
 
     def set_colours(self):
         curses.curs_set(0)
@@ -181,7 +181,8 @@ class Screen:
         if self.walk.view.count != at:
             self.before = at
         self.arrive()
-        if is_search and self.walk.view.said and not self.is_bad and not self.walk.was_stopped():
+        said = self.walk.view.said[:1]
+        if is_search and said and not said[0].startswith('refused') and not self.walk.was_stopped():
             self.message = f"not found: {self.message}; ' leads back to step {at}"
 
     def waits(self):
@@ -287,7 +288,7 @@ class Screen:
         self.put(top, left, ' Calls' + (f', and {hidden} more outside' if hidden > 0 else ''), width, curses.A_UNDERLINE)
         for row, call in enumerate(calls[max(hidden, 0):], 1):
             word, name, line = call.split()[0], CALL.match(call)[1], CALL.match(call)[2]
-            self.put(top + row, left, f' {word} {name}  line {line}' + (', runs backward' if call.endswith(' inverse') else ''), width)
+            self.put(top + row, left, f' {word} {name}  line {line}' + (', backward' if call.endswith(' inverse') else ''), width)
 
     def bar(self, width):
         count, end = self.walk.view.count, self.scout.end
