@@ -107,22 +107,22 @@ class Scout:
         self.child.ask('to-end\n')
 
     def look(self):
-        """Whether something is known that wasn't before."""
         if self.child is None:
-            return False
+            return
         try:
             view = self.child.hear(0)
         except Ended:
-            return self.close()
+            self.close()
+            return
         if view:
             self.end, self.is_fault = view.count, view.is_fault()
-        return self.close() if view or time.monotonic() > self.until else False
+        if view or time.monotonic() > self.until:
+            self.close()
 
     def close(self):
         if self.child:
             self.child.close()
         self.child = None
-        return True
 
 
 class Screen:
@@ -412,8 +412,7 @@ class Screen:
             self.draw()
             self.window.timeout(250 if self.scout.child else -1)
             key = self.window.getch()
-            if self.scout.look():
-                continue
+            self.scout.look()
             if key >= 0 and key != curses.KEY_RESIZE and self.obey(key):
                 return
 
