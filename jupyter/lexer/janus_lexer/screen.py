@@ -464,7 +464,7 @@ def show(words):
             source = file.read().split('\n')
         walk = Walk(words)
         curses.setupterm()
-        curses.wrapper(lambda window: serve(window, walk, words, source))
+        serve(walk, words, source)
     except (OSError, Ended) as error:
         print(f'janus-steps-screen: {error}', file=sys.stderr)
         return 1
@@ -479,13 +479,20 @@ def show(words):
     return 0
 
 
-def serve(window, walk, words, source):
-    curses.raw()
-    screen = Screen(window, walk, words, words[1], source)
+def serve(walk, words, source):
+    window, screen = curses.initscr(), None                               # not curses.wrapper, which paints all black
     try:
+        curses.noecho()
+        curses.raw()
+        screen = Screen(window, walk, words, words[1], source)
         screen.serve()
     finally:
-        screen.scout.close()
+        if screen:
+            screen.scout.close()
+        window.keypad(False)
+        curses.noraw()
+        curses.echo()
+        curses.endwin()
 
 
 if __name__ == '__main__':
