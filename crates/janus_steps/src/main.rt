@@ -11,11 +11,20 @@ use steps_program::{RunFault, run};
 const USAGE: &str =
     "usage: janus-steps FILE [--cell N]     (in a terminal, janus-steps-screen FILE [--cell N] draws what it tells)";
 
+/// The commands, after the usage.
+const COMMANDS: &str =
+    "step [N], back [N], next, finish, to LINE, back-to LINE, to-fault, to-end, to-start, until EXP, back-until EXP, watch NAME,
+back-watch NAME, show, where, calls, list, count, quit; each on a line of standard input";
+
 fn main(rt: HostRuntime) -> anyhow::Result<ExitCode> {
     let alloc = rt.alloc();
     let words = env::args(&rt)?.collect::<Vec<String>>(rt.alloc())?;
-    if let Some(answer) = answer_of(words.as_slice()) {
-        println!(rt; "{answer}")?;
+    if is_one_of(words.as_slice(), "-h", "--help") {
+        println!(rt; "{USAGE}\n{COMMANDS}")?;
+        return Ok(ExitCode::SUCCESS);
+    }
+    if is_one_of(words.as_slice(), "-V", "--version") {
+        println!(rt; "janus-steps 1.0.0")?;
         return Ok(ExitCode::SUCCESS);
     }
     let Some((path, cell)) = choice_of(words.as_slice()) else {
@@ -40,21 +49,18 @@ fn tell(rt: &HostRuntime, fault: RunFault) -> anyhow::Result<()> {
     Ok(())
 }
 
-/// What is answered to a word that asks for the usage or the version.
-fn answer_of(words: &[String]) -> Option<&'static str> {
+/// Whether the only word is this option, in its short or its long form.
+fn is_one_of(words: &[String], short: &str, long: &str) -> bool {
     match words {
-        [_, word] if word.as_str() == "--help" || word.as_str() == "-h" => Some(USAGE),
-        [_, word] if word.as_str() == "--version" || word.as_str() == "-V" => Some(
-            "janus-steps 1.0.0",
-        ),
-        _ => None,
+        [_, word] => word.as_str() == short || word.as_str() == long,
+        _ => false,
     }
 }
 
 /// The file, and the number of its cell, if one is told.
 fn choice_of(words: &[String]) -> Option<(&str, Option<usize>)> {
     match words {
-        [_, path] => Some((path.as_str(), None)),
+        [_, path] if !path.as_str().starts_with('-') => Some((path.as_str(), None)),
         [_, path, option, number] if option.as_str() == "--cell" => match number.parse::<usize>() {
             Ok(number) => Some((path.as_str(), Some(number))),
             Err(_) => None,

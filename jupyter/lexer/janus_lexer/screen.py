@@ -3,6 +3,7 @@
 
 usage: janus-steps-screen [--program FILE] FILE [--cell N]         (--program: a janus-steps elsewhere than beside this one or in PATH)
 """
+import contextlib
 import curses
 import locale
 import os
@@ -43,6 +44,7 @@ SCOUT = 20                      # seconds after which the cell's end is looked f
 MOST_SEEN = 256                 # so many calls are remembered with the values that were shown there
 NARROW = 60                     # columns below which the values are under the source
 ESCAPE, CTRL_C = 27, 3
+RUNNING = 'running; Esc stops'
 BACKSPACES = (curses.KEY_BACKSPACE, 8, 127)
 PLAIN = {'bar': '|', 'full': '#', 'empty': '-', 'more': '~', 'line': '-'}
 SIGNS = {'bar': '\u2502', 'full': '\u2588', 'empty': '\u2591', 'more': '\u2026', 'line': '\u2500'}
@@ -138,7 +140,8 @@ class Screen:
         self.message = ', '.join([*walk.before, 'Right: one step on. Left: one back. G: to the end or the fault. ?: all keys'])
 
     def set_colours(self):
-        curses.curs_set(0)
+        with contextlib.suppress(curses.error):
+            curses.curs_set(0)                                            # not every terminal can hide its cursor
         self.window.keypad(True)
         self.colours = {name: curses.A_BOLD for name in ('changed', 'bad', 'mark')}
         self.colours['faint'] = curses.A_NORMAL
@@ -175,8 +178,6 @@ class Screen:
     def go(self, move, is_search=False):
         """Moves, and remembers where it was. A search that finds nothing ends at an end of the cell, which is told."""
         at = self.walk.view.count
-        self.message = 'running; Esc stops'
-        self.draw()
         move()
         if self.walk.view.count != at:
             self.before = at
@@ -189,7 +190,8 @@ class Screen:
         """Looks at the keys while an answer is awaited."""
         self.window.timeout(0)
         key = self.window.getch()
-        if key == curses.KEY_RESIZE:
+        if key == curses.KEY_RESIZE or self.message != RUNNING:
+            self.message = RUNNING
             self.draw()
         return key in (ESCAPE, CTRL_C)
 
@@ -341,6 +343,8 @@ class Screen:
                 return None
             if key in BACKSPACES or key in ('\x08', '\x7f'):
                 text = text[:-1]
+            elif key == '\x15':                                           # Ctrl-U
+                text = ''
             elif isinstance(key, str) and key.isprintable():
                 text += key
 
@@ -461,7 +465,7 @@ def show(words):
     walk = None
     try:
         with open(words[1], encoding='utf-8', errors='replace', newline='\n') as file:
-            source = file.read().split('\n')
+            source = [line.rstrip('\r') for line in file.read().split('\n')]
         walk = Walk(words)
         curses.setupterm()
         serve(walk, words, source)
