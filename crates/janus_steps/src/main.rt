@@ -13,8 +13,8 @@ const USAGE: &str =
 
 /// The commands, after the usage.
 const COMMANDS: &str =
-    "step [N], back [N], next, finish, to LINE, back-to LINE, to-fault, to-end, to-start, until EXP, back-until EXP, watch NAME,
-back-watch NAME, show, where, calls, list, count, quit; each on a line of standard input";
+    "Each line of standard input is a command: step [N], back [N], next, finish, to LINE, back-to LINE, to-fault, to-end, to-start,
+until EXP, back-until EXP, watch NAME, back-watch NAME, show, where, calls, list, count or quit.";
 
 fn main(rt: HostRuntime) -> anyhow::Result<ExitCode> {
     let alloc = rt.alloc();
