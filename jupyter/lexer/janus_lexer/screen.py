@@ -167,8 +167,10 @@ class Screen:
 
     def line_of_body(self, view):
         """Where a procedure that begins or ends stands in the source."""
+        if view.words not in ('begin', 'end') or not view.procedure:
+            return None
         head = re.compile(rf'\bprocedure\s+{view.procedure}\b')
-        return next((at for at in range(len(self.source), 0, -1) if view.is_stop and view.procedure and head.search(self.source[at - 1])), None)
+        return next((at for at in range(len(self.source), 0, -1) if head.search(self.source[at - 1])), None)
 
     def words_of(self, view):
         said = ', '.join([*view.said[:1], *view.read])
@@ -279,7 +281,7 @@ class Screen:
                 self.put(top + row, left, f' {len(values) - row} more: v shows all', width, self.colours['faint'])
             elif name in self.changed:
                 was = self.changed[name]
-                behind = '   was ' + was.split('= ', 1)[-1] if was and len(was) + len(line) < width else ''
+                behind = '   was ' + (was.split(' =', 1)[1].strip() or 'empty') if was and len(was) + len(line) < width else ''
                 self.put(top + row, left, '*' + line + behind, width, self.colours['changed'])
             else:
                 self.put(top + row, left, ' ' + line, width)
@@ -388,7 +390,7 @@ class Screen:
         elif key == curses.KEY_LEFT or key in BACKSPACES or sign == 'h':
             self.go(lambda: walk.go(f'back {number or 1}'))
         elif key in (curses.KEY_DOWN, curses.KEY_ENTER) or sign in ('\n', '\r', 'j', 'n') and sign:
-            self.go(lambda: walk.go('next'))
+            self.go(walk.next)
         elif key == curses.KEY_UP or sign in ('k', 'p') and sign:
             self.go(walk.previous)
         elif key in (curses.KEY_HOME, curses.KEY_END) or sign in ('g', 'G') and sign:

@@ -34,7 +34,7 @@ class View:
         self.raw = lines[:last]
         self.said = [it for it in self.raw if not PLACE.match(it) and not it.startswith('  ')]
         self.read = [it.strip() for it in self.raw if it.startswith('  ')][bool(self.line):] if self.is_fault() else []
-        self.is_stop = bool(STOP.match(self.words))
+        self.is_stop = bool(STOP.match(self.words)) and self.words != 'before skip'       # a part that was left out, mostly
 
     def is_fault(self):
         return any(it.startswith('fault ') for it in self.said)
@@ -130,6 +130,13 @@ class Walk:
             before = self.view.count
             self.go(f'back-to {self.view.line_of_call()}')
             if self.view.count == before or self.was_stopped():
+                return
+
+    def next(self):
+        """Goes on to the next statement or test, passing over calls."""
+        while True:
+            self.go('next')
+            if self.view.is_stop or self.view.said:
                 return
 
     def previous(self):
