@@ -35,9 +35,10 @@ v  all values in full                         :    a command of janus-steps
 PageUp, PageDown  scroll the source           q    quit
 Esc, Ctrl-C   stop what takes long
 
-The mark > is at the statement or test that the next step makes; < where the
-procedure runs backward, because it was uncalled. A * is before each value that
-is another than when this call was last shown, with what it was behind it.'''
+The mark > is at the next statement or test, < if the procedure runs backward
+because it was uncalled, and . if the next step has no place of its own.
+A * is before each value that has changed since this call was last shown; the
+old value is after it.'''
 KEYS = {False: 'Right Left step  Down Up statement  f F call  g G ends  w u t seek  ? help  q quit',
         True: '\u2192 \u2190 step   \u2193 \u2191 statement   f F call   g G ends   w u t seek   ? help   q quit'}
 SCOUT = 20                      # seconds after which the cell's end is looked for no more
@@ -281,8 +282,8 @@ class Screen:
                 self.put(top + row, left, f' {len(values) - row} more: v shows all', width, self.colours['faint'])
             elif name in self.changed:
                 was = self.changed[name]
-                behind = '   was ' + (was.split(' =', 1)[1].strip() or 'empty') if was and len(was) + len(line) < width else ''
-                self.put(top + row, left, '*' + line + behind, width, self.colours['changed'])
+                old = '   was ' + (was.split(' =', 1)[1].strip() or 'empty') if was and len(was) + len(line) < width else ''
+                self.put(top + row, left, '*' + line + old, width, self.colours['changed'])
             else:
                 self.put(top + row, left, ' ' + line, width)
 
