@@ -4,7 +4,13 @@ define(['jquery', 'base/js/namespace', 'base/js/events', '../page/session.js', '
 function ($, Jupyter, events, Session, Panel, memory, pace, Cells, places, Turns, tools) {
 'use strict';
 
-const NOTICE = 6000;                    // ms
+const NOTICE = 6000, LONG_NOTICE = 30000;           // ms
+
+// The code cell that is selected, or null.
+function selected() {
+    const cell = Jupyter.notebook.get_selected_cell();
+    return cell && cell.cell_type === 'code' ? cell : null;
+}
 
 class Page extends Session {
     constructor() {
@@ -19,7 +25,7 @@ class Page extends Session {
         tools.make({
             undo: () => this.move({op: 'undo', n: 1}), redo: () => this.move({op: 'redo', n: 1}),
             backwards: () => this.backwards(Jupyter.notebook.get_selected_cell()), toggle: () => this.show(!$('body').hasClass('janus-open')),
-            focus: () => this.focus_tree(),
+            focus: () => this.focus_tree(), steps: () => this.step_through(selected()),
         });
         this.show(memory.was_open());
     }
@@ -40,8 +46,14 @@ class Page extends Session {
 
     notify(text, kind) {
         const widget = Jupyter.notification_area.widget('janus');
-        if (kind === 'bad') widget.danger(text, NOTICE); else widget.warning(text, NOTICE);
+        if (kind === 'done') widget.info(text, LONG_NOTICE);
+        else if (kind === 'bad') widget.danger(text, NOTICE);
+        else widget.warning(text, NOTICE);
     }
+
+    path() { return Jupyter.notebook.notebook_path; }
+
+    contents() { return Jupyter.notebook.contents; }
 
     // ---- the panel, at the page's right side
     place_panel() {

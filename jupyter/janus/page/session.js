@@ -1,7 +1,9 @@
 // A session: what a page knows of one kernel of Janus, and what follows from what the conversation tells and from what the user does.
 //
-// Each frontend makes its own kind of it, which has `marks`, `panel` and `places`, and the calls `is_running` and `notify`.
-define(['./history.js', './conversation.js', './memory.js', './explain.js', './texts.js'], function (History, Conversation, memory, explain, texts) {
+// Each frontend makes its own kind of it, which has `marks`, `panel` and `places`, and the calls `is_running`, `notify`, `path`, the notebook's, and
+// `contents`, by which files are read and written.
+define(['./history.js', './conversation.js', './memory.js', './explain.js', './texts.js', './steps.js'],
+function (History, Conversation, memory, explain, texts, steps) {
 'use strict';
 
 const FRAME = 8, PAUSE = 100, LONG_PAUSE = 300, KEEP = 1000, AT_LAST = 10000;       // ms
@@ -50,6 +52,30 @@ class Session {
         const behind = steps > 1 ? ', and before it ' + texts.count(steps - 1, 'cell') + ' that ran after it, the newest first' : '';
         move.said = 'Node ' + node + ' ran backwards' + behind + '.';
         this.conversation.move(move);
+    }
+
+    // Writes the session up to the cell as a file for janus-steps, and says how to start it.
+    step_through(cell) {
+        const code = cell ? cell.get_text() : '', history = this.history, nodes = steps.way(history, this.marks.node_of.get(cell));
+        if (code.trim() === '') this.tell('There is nothing to step through: select a cell of a notebook that has a text of Janus.', 'warn');
+        else if (nodes === null || !steps.are_named(history, nodes)) this.tell(steps.UNKNOWN, 'warn');
+        else if (steps.asked(history, nodes) === null) this.write_steps(nodes, code, []);
+        else this.conversation.send('history_request', steps.asked(history, nodes), reply => this.write_steps(nodes, code, reply.content.history || []));
+    }
+
+    async write_steps(nodes, code, inputs) {
+        const above = steps.texts_of(this.history, nodes, inputs), path = steps.name(this.path());
+        try {
+            const old = await this.contents().get(path, {type: 'file', format: 'text', content: true}).catch(function () { return null; });
+            if (above === null) this.tell(steps.UNKNOWN, 'warn');
+            else if (old !== null && !steps.is_ours(old.content)) this.tell('There is another file ' + path + ', which is left as it is: rename it.', 'warn');
+            else {
+                await this.contents().save(path, {type: 'file', format: 'text', content: steps.file(above, code)});
+                this.tell(steps.written(path, above.length), 'done');
+            }
+        } catch (error) {
+            this.tell('The file ' + path + ' can\'t be written: ' + error.message, 'bad');
+        }
     }
 
     // ---- what the conversation tells

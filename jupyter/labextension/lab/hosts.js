@@ -1,6 +1,6 @@
-// What a session needs of its notebook or console: {widget, context, toolbar, title, cells, selected, leave, changed}: the widget, its session
-// context and toolbar, and calls for a text, the widgets of its code cells, the one that is selected, to give it the focus, and, where cells come
-// and go, to be told of it.
+// What a session needs of its notebook or console: {widget, context, toolbar, contents, title, path, cells, selected, leave, changed}: the widget, its
+// session context and toolbar, what reads and writes files, and calls for its title and path, the widgets of its code cells, the one that is selected,
+// to give it the focus, and, where cells come and go, to be told of it.
 define([], function () {
 'use strict';
 
@@ -9,7 +9,9 @@ function code(widgets) { return widgets.filter(function (it) { return it.model.t
 function host(app, panel) {
     return {
         widget: panel, context: panel.sessionContext, toolbar: panel.toolbar,
+        contents: app.serviceManager.contents,
         title: function () { return panel.title.label; },
+        path: function () { return panel.sessionContext.path; },
         leave: function () { app.shell.activateById(panel.id); },
     };
 }

@@ -3,7 +3,7 @@ define(['../session.js', '../panel.js', '../memory.js', './kernel.js', './cells.
 function (Session, Panel, memory, Kernel, Cells, places, turns, apputils) {
 'use strict';
 
-const NOTICE = 6000;                    // ms
+const NOTICE = 6000, LONG_NOTICE = 30000;           // ms
 const ENDING = /^(restarting|autorestarting|terminating|dead)$/;
 
 class LabSession extends Session {
@@ -89,10 +89,17 @@ class LabSession extends Session {
 
     backwards_of(widget) { this.backwards(widget && this.marks.of(widget)); }
 
+    step_through_of(widget) { this.step_through(widget && widget.model.type === 'code' ? this.marks.of(widget) : null); }
+
     // It is said elsewhere too where the panel isn't in sight.
     notify(text, kind) {
-        if (this.panel.element.offsetParent === null) apputils.Notification[kind === 'bad' ? 'error' : 'warning'](text, {autoClose: NOTICE});
+        const how = {bad: 'error', done: 'info'}[kind] || 'warning';
+        if (this.panel.element.offsetParent === null) apputils.Notification[how](text, {autoClose: kind === 'done' ? LONG_NOTICE : NOTICE});
     }
+
+    path() { return this.host.path(); }
+
+    contents() { return this.host.contents; }
 
     // With those that another session of this page with the same kernel kept, as a console's beside a notebook's.
     pairs() { return Array.from(new Map(memory.pairs_of(this.conversation.run).concat(super.pairs()))); }

@@ -9,6 +9,8 @@ const TOOLS = [
         act: session => session.move({op: 'redo', n: 1})},
     {id: 'janus:backwards', key: 'W', button: 'Backwards', label: 'Run Selected Cell Backwards',
         help: 'Run the selected cell backwards, and first everything that ran after it', act: session => session.backwards_of(session.host.selected())},
+    {id: 'janus:steps', button: 'Steps', label: 'Step Through This Cell', help: 'Step through the selected cell, forward and back, in a terminal',
+        act: session => session.step_through_of(session.host.selected())},
     {id: 'janus:history', key: 'T', button: 'History', label: 'Show or Hide History', help: 'Show or hide the history', act: (session, side) => side.toggle()},
     {id: 'janus:tree', key: 'G', label: 'Go to Tree of Histories', help: 'Go to the tree of histories, where arrows and Enter work',
         act: (session, side) => side.focus(session)},
@@ -32,7 +34,7 @@ function make_button(commands, tool) {
     const button = document.createElement('button');
     button.type = 'button';
     button.className = 'janus-tool ' + tool.id.replace(':', '-');
-    button.title = 'Janus: ' + tool.help + ' (' + tool.key + ')';
+    button.title = 'Janus: ' + tool.help + (tool.key ? ' (' + tool.key + ')' : '');
     button.setAttribute('aria-label', tool.button);
     button.textContent = tool.button;
     button.addEventListener('mousedown', function (event) { event.preventDefault(); });             // the focus stays in the notebook

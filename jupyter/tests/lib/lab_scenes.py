@@ -12,7 +12,7 @@ from lab_page import (S, add, click_node, go_to, known, marked, marks, message, 
                       words_below)
 from lab_server import READY
 
-BUTTONS = ['Undo', 'Redo', 'Backwards', 'History']
+BUTTONS = ['Undo', 'Redo', 'Backwards', 'Steps', 'History']
 FORWARD = ['x1 = 5', 'x2 = 8', 'n = 0']
 WORLD = ['x1 = 0', 'x2 = 0', 'n = 4']
 ZEROS = ['x1 = 0', 'x2 = 0', 'n = 0']
@@ -208,7 +208,8 @@ def completion(stage):
     comes('Tab completes by the kernel', lambda: (source(page, index) == 'uncall', source(page, index)))
 
 
-LABELS = ['Undo the Newest Cell', 'Redo the Cell Undone Last', 'Run Selected Cell Backwards', 'Show or Hide History', 'Go to Tree of Histories']
+LABELS = ['Undo the Newest Cell', 'Redo the Cell Undone Last', 'Run Selected Cell Backwards', 'Step Through This Cell', 'Show or Hide History',
+          'Go to Tree of Histories']
 COMMANDS = '''var c = jupyterapp.commands, all = c.keyBindings, ours = all.filter(function (it) { return /^janus:/.test(it.command); });
     var focus = document.activeElement;
     function meets(it) { try { return !!focus.closest(it.selector) || focus.matches(it.selector); } catch (error) { return false; } }
