@@ -4,6 +4,7 @@ import signal
 import threading
 import time
 
+import panel
 from checks import check, comes, figure, wait
 from panel import BRIEF, click_node, known, shown, stands
 
@@ -39,8 +40,13 @@ def rush(frontend, seed):
 
 
 def crowd(stage):
-    page = stage.page
-    page.run(1)
+    stage.page.run(1)
+    crowded(stage, panel)
+
+
+def crowded(stage, view):
+    """Three frontends in a rush. The view is that of the page: panel or lab_page."""
+    page, stands, known = stage.page, view.stands, view.known
     stands(page, 1, 1)
     frontends = [stage.frontend() for _ in range(3)]
     threads = [threading.Thread(target=rush, args=(it, seed), daemon=True) for seed, it in enumerate(frontends)]
@@ -127,9 +133,13 @@ def thousand(stage):
 
 
 def fell_behind(stage):
+    stage.page.run(1)
+    left_behind(stage, panel)
+
+
+def left_behind(stage, view):
     """The notebook's server stands still while another frontend works, so that the kernel hangs up on it or broadcasts are lost."""
-    page, frontend, server = stage.page, stage.frontend(), stage.theatre.server.process
-    page.run(1)
+    page, frontend, server, stands, known = stage.page, stage.frontend(), stage.theatre.server.process, view.stands, view.known
     stands(page, 1, 1)
     parent = grow(frontend, 100)
     stands(page, frontend.ask('state')['node'], 101)

@@ -2,8 +2,9 @@
 import threading
 import time
 
+import lab_page
 from checks import check, comes, figure
-from crowds import grow, paced
+from crowds import crowded, grow, left_behind, paced
 from lab_page import BRIEF, S, known, run, shown, stands
 
 CLICK = 50              # ms, from a click to the drawing of what it brought, at 1,000 nodes
@@ -34,6 +35,16 @@ METER = S + '''window.work = {longest: 0, total: 0};
     function meter(owner, name) { var old = owner[name]; owner[name] = function () { var begun = performance.now(), out = old.apply(this, arguments);
         var took = performance.now() - begun; window.work.total += took; window.work.longest = Math.max(window.work.longest, took); return out; }; }
     meter(s.conversation, 'hear'); meter(s.conversation, 'release_all'); meter(s, 'update'); meter(s, 'keep'); meter(s.panel.tree, 'place')'''
+
+
+def crowd(stage):
+    run(stage.page, 1)
+    crowded(stage, lab_page)
+
+
+def fell_behind(stage):
+    run(stage.page, 1)
+    left_behind(stage, lab_page)
 
 
 def drawing(page, what):
@@ -109,4 +120,4 @@ def flood(stage):
     check(shown(page)['visible'], 'and is in sight')
 
 
-SCENES = [thousand, ten_thousand, flood]
+SCENES = [crowd, thousand, ten_thousand, fell_behind, flood]

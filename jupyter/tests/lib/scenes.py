@@ -4,8 +4,9 @@ import time
 from selenium.webdriver.common.action_chains import ActionChains
 from selenium.webdriver.common.keys import Keys
 
+import tutorial
 from checks import check, comes, figure, wait
-from panel import click_node, known, marks, message, shown, stands, tokens, words_below
+from panel import BARS, click_node, known, marks, message, shown, stands, tokens, words_below
 
 ENDLESS = 'int turn from turn = 0 loop turn += 1 until 0'
 WORLD = ['x1 = 0', 'x2 = 0', 'n = 4']
@@ -67,6 +68,7 @@ def buttons(stage):
     page.click('#janus-undo')
     stands(page, 3, 4, FORWARD, 'Undo by the button brings the third cell\'s values back')
     check(shown(page)['changed'] == ['x1', 'x2', 'n'], 'the values that changed are marked', shown(page)['changed'])
+    check(page.js(BARS) == ['solid'] * 3, 'a bar stands before each, beside the colour', page.js(BARS))
     check(second.ask('state')['world'] == FORWARD, 'the kernel says so to another frontend')
     comes('the undone cell is marked', lambda: marks(page) == ['+1', '+2', '+3', '-4'])
     page.click('#janus-redo')
@@ -362,6 +364,21 @@ def run_all_interrupted(stage):
     stands(page, 4, 4, WORLD, 'Run All works after it')
 
 
+def run_tutorial(stage):
+    page = stage.page
+    stage.write('tutorial.ipynb', tutorial.notebook())
+    page.js('Jupyter.notebook.set_dirty(false); Jupyter.notebook.session.delete()')
+    time.sleep(1)
+    page.notebook = 'tutorial.ipynb'
+    page.load()
+    run_all(page)
+    stands(page, tutorial.NODES, tutorial.NODES, what='Run All of the tutorial goes through to its end', timeout=120)
+    code = [it for it in page.cells() if it['type'] == 'code']
+    check([it['prompt'] for it in code] == list(range(1, 22)) and message(page) == '', 'and stops nowhere', message(page))
+    shown = [it['output'] for it in code]
+    check(tutorial.differs(shown) == [], 'each cell shows what it has to', tutorial.differs(shown))
+
+
 # ---- keyboard and screen reader
 def keyboard(stage):
     page = stage.page
@@ -553,6 +570,6 @@ def no_errors(stage):
 
 
 SCENES = [highlighting, buttons, clicks, refused_moves, refusals, procedures, interrupt, waiting, second_frontend, late_join, reload_page, restart, earlier_run,
-          run_all_stops, run_all_goes_on, run_all_interrupted, keyboard, screen_reader, slider, slider_on_branch, past_the_shown, near_limits,
+          run_all_stops, run_all_goes_on, run_all_interrupted, run_tutorial, keyboard, screen_reader, slider, slider_on_branch, past_the_shown, near_limits,
           backwards, no_errors]
 LAST = [other_language]         # behind it a server may take a minute to end the kernel of Python
