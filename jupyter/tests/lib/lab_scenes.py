@@ -1,13 +1,12 @@
 """The scenes of jupyter/tests/lab: each is played on a page of its own with a kernel of its own. `stage` has the page, its server and further frontends."""
-import os
 import re
-import signal
 import time
 
 from selenium.webdriver.common.by import By
 from selenium.webdriver.common.keys import Keys
 
 import tutorial
+from browser import kill_kernel
 from checks import check, comes, figure, wait
 from lab_page import (S, add, click_node, go_to, known, marked, marks, message, place, prompts, run, run_example, select, shown, source, stands,
                       words_below)
@@ -609,21 +608,11 @@ def restart(stage):
     page.click('.janus-undo')
     stands(page, 0, 1, [], 'Undo works')
     marked(page, ['-1', 'gone', 'gone', 'gone'], 'and is marked')
-
-
-def kill_kernel(connection):
-    """Ends the kernel whose command line names the connection file; answers how many there were."""
-    name, ended = os.path.basename(connection), 0
-    for pid in filter(str.isdigit, os.listdir('/proc')):
-        try:
-            with open(f'/proc/{pid}/cmdline') as file:
-                given = file.read().split('\0')
-            if os.path.basename(given[0]) == 'janus-kernel' and name in ' '.join(given):
-                os.kill(int(pid), signal.SIGKILL)
-                ended += 1
-        except OSError:
-            pass
-    return ended
+    page.command('notebook:restart-run-all')
+    wait('the question', lambda: page.js('return document.querySelectorAll(".jp-Dialog button.jp-mod-accept").length') == 1)
+    page.click('.jp-Dialog button.jp-mod-accept')
+    stands(page, 4, 4, WORLD, 'Restart and Run All runs all in a new kernel', 120)
+    marked(page, ['+1', '+2', '+3', '+4'], 'and all are marked')
 
 
 def connection(stage):

@@ -5,6 +5,7 @@ from selenium.webdriver.common.action_chains import ActionChains
 from selenium.webdriver.common.keys import Keys
 
 import tutorial
+from browser import kill_kernel
 from checks import check, comes, figure, wait
 from panel import BARS, click_node, known, marks, message, shown, stands, tokens, words_below
 
@@ -364,6 +365,23 @@ def run_all_interrupted(stage):
     stands(page, 4, 4, WORLD, 'Run All works after it')
 
 
+def ended_kernel(stage):
+    """The kernel dies while cells wait for the one that runs."""
+    page = stage.page
+    page.js('Jupyter.notebook.get_cell(2).set_text(arguments[0])', ENDLESS)
+    run_all(page)
+    stands(page, 1, 1, what='the first cell ran')
+    comes('the others wait', lambda: [it['prompt'] for it in page.cells()][2:5] == ['*'] * 3)
+    check(kill_kernel(stage.connection) == 1, 'the kernel of this page was killed')
+    stands(page, 0, 0, [], 'the server starts it anew, and the page stands at node 0', 120)
+    wanted = 'Stopped because the kernel ended: 2 cells after it did not run.'
+    comes('it is said why the others did not run', lambda: (message(page) == wanted, message(page)))
+    comes('none waits then', lambda: '*' not in [it['prompt'] for it in page.cells()][3:5])
+    page.js('$(".modal").modal("hide")')
+    page.run(1)
+    stands(page, 1, 1, what='a cell of the new run is node 1')
+
+
 def run_tutorial(stage):
     page = stage.page
     stage.write('tutorial.ipynb', tutorial.notebook())
@@ -569,7 +587,7 @@ def no_errors(stage):
     check(not errors, 'the browser\'s console has no error of the page\'s parts', errors)
 
 
-SCENES = [highlighting, buttons, clicks, refused_moves, refusals, procedures, interrupt, waiting, second_frontend, late_join, reload_page, restart, earlier_run,
-          run_all_stops, run_all_goes_on, run_all_interrupted, run_tutorial, keyboard, screen_reader, slider, slider_on_branch, past_the_shown, near_limits,
-          backwards, no_errors]
+SCENES = [highlighting, buttons, clicks, refused_moves, refusals, procedures, interrupt, waiting, second_frontend, late_join, reload_page, restart,
+          earlier_run, run_all_stops, run_all_goes_on, run_all_interrupted, ended_kernel, run_tutorial, keyboard, screen_reader, slider, slider_on_branch,
+          past_the_shown, near_limits, backwards, no_errors]
 LAST = [other_language]         # behind it a server may take a minute to end the kernel of Python
