@@ -40,15 +40,19 @@ class Frontend:
         return self.send('execute_request', {'code': code, 'silent': False, **more})
 
     def stop(self, asked, timeout=200):
-        """Interrupts a cell until its end is heard, since an interrupt before it began to run interrupts nothing."""
-        until = time.time() + timeout
-        while time.time() < until:
+        """Interrupts a cell until its end is heard, since an interrupt before it began to run interrupts nothing. No later cell is interrupted."""
+        until, sent, ended = time.time() + timeout, 0, None
+        while ended is None and time.time() < until:
             self.client.control_channel.send(self.client.session.msg('interrupt_request', {}))
+            sent += 1
             try:
-                return self.heard(asked, 'idle', 1)
+                ended = self.heard(asked, 'idle', 1)
             except AssertionError:
                 continue
-        raise AssertionError('the cell was not interrupted')
+        for _ in range(sent):
+            self.client.get_control_msg(timeout=60)
+        if ended is None:
+            raise AssertionError('the cell was not interrupted')
 
     def run(self, code, **more):
         return self.heard(self.begin(code, **more), 'idle')
