@@ -121,7 +121,7 @@ def missing_package(stage):
     time.sleep(.3)
     page.keys(Keys.SHIFT, Keys.ENTER, Keys.NULL)
     comes('the notebook works without it', lambda: ('x1 = 41' in page.js(OUTPUT), page.js(OUTPUT)), 60)
-    has_tokens(page, '.jp-Notebook', 'procedure', 'int')
+    has_tokens(page, '.jp-Notebook', 'uncall', 'int')
     page.load()
     check(page.js('return jupyterapp.hasPlugin("janus-history:history")'), 'with the package the history is there again')
 
