@@ -522,8 +522,10 @@ def run_all_tagged(stage):
     marked(page, ['+1', '+2', '+3', '', '+4', '', ''], 'with the marks of those that ran')
 
 
-OUTPUTS = S + '''return s.host.cells().map(function (it) {
-    return Array.from(it.node.querySelectorAll(".jp-OutputArea-output")).map(function (out) { return out.textContent.trim(); }).join("\\n"); })'''
+# The counts and outputs of all cells, also of those that are not drawn.
+RESULTS = S + '''return s.host.cells().map(function (it) {
+    var outputs = it.model.outputs.toJSON().map(function (out) { return out.evalue || [].concat(out.data['text/plain']).join(''); });
+    return [it.model.executionCount, outputs.join('\\n')]; })'''
 
 
 def run_tutorial(stage):
@@ -535,8 +537,9 @@ def run_tutorial(stage):
     page.load()
     page.command('notebook:run-all-cells')
     stands(page, tutorial.NODES, tutorial.NODES, what='Run All of the tutorial goes through to its end', timeout=120)
-    check('*' not in prompts(page) and message(page) == '', 'and stops nowhere', message(page))
-    comes('each cell shows what it has to', lambda: (tutorial.differs(page.js(OUTPUTS)) == [], tutorial.differs(page.js(OUTPUTS))))
+    comes('and stops nowhere', lambda: ([it[0] for it in page.js(RESULTS)] == list(range(1, 22)) and message(page) == '', page.js(RESULTS), message(page)))
+    shown = [it[1] for it in page.js(RESULTS)]
+    check(tutorial.differs(shown) == [], 'each cell shows what it has to', tutorial.differs(shown))
 
 
 # ---- several frontends, and kernels that come and go
