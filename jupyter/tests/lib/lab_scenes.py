@@ -538,8 +538,8 @@ def run_tutorial(stage):
     page.command('notebook:run-all-cells')
     stands(page, tutorial.NODES, tutorial.NODES, what='Run All of the tutorial goes through to its end', timeout=120)
     comes('and stops nowhere', lambda: ([it[0] for it in page.js(RESULTS)] == list(range(1, 22)) and message(page) == '', page.js(RESULTS), message(page)))
-    shown = [it[1] for it in page.js(RESULTS)]
-    check(tutorial.differs(shown) == [], 'each cell shows what it has to', tutorial.differs(shown))
+    came = [it[1] for it in page.js(RESULTS)]
+    check(tutorial.differs(came) == [], 'each cell shows what it has to', tutorial.differs(came))
 
 
 # ---- several frontends, and kernels that come and go
