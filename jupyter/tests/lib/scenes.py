@@ -59,8 +59,8 @@ def highlighting(stage):
 # ---- undo, redo and goto
 def buttons(stage):
     page = stage.page
-    names = page.js('return $("#janus-buttons:visible button").map(function () { return $(this).text().trim(); }).get()')
-    check(names == ['Undo', 'Redo', 'Backwards', 'History'], 'the four buttons', names)
+    names = 'return $("#janus-buttons:visible button").map(function () { return $(this).text().trim(); }).get()'
+    comes('the four buttons', lambda: (page.js(names) == ['Undo', 'Redo', 'Backwards', 'History'], page.js(names)))
     run_example(page)
     check(known(page)['parent'] == [-1, 0, 1, 2, 3], 'the tree is a chain of four', known(page))
     check(marks(page) == ['+1', '+2', '+3', '+4'], 'cells are marked with their nodes', marks(page))
