@@ -30,6 +30,8 @@ function onload() {
         page.conversation.lose();
         page.restarted();
     });
+    // The server has started a kernel anew that died, and says no more of it: it is there once it answers.
+    events.on('kernel_autorestarting.Kernel', function (event, data) { data.kernel.kernel_info(function () { see(page, data.kernel); }); });
     events.on('execute.CodeCell', function (event, data) {
         page.marks.began(data.cell);
         places.clear(data.cell);

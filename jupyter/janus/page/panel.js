@@ -69,7 +69,6 @@ class Panel {
         this.timeline.stop();
         this.tree.followed = '';
         this.limits('');
-        this.message('');
     }
 
     // Whether something on the way between two nodes may have changed a name: a cell can change no name that it doesn't have.

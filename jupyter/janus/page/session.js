@@ -102,7 +102,9 @@ class Session {
         if (is_whole && inputs.length === this.history.nodes && inputs.length >= this.conversation.count) this.conversation.name(inputs);
     }
 
+    // Called as a run ends, and again as the next is met. What was said in between, as why cells did not run, stays.
     restarted() {
+        if (this.history.known) this.message('');
         this.is_warned = false;
         this.inputs = null;
         this.marks.restarted();

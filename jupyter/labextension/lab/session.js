@@ -62,6 +62,7 @@ class LabSession extends Session {
         }
         this.history.clear();
         this.panel.clear();
+        this.message('');
         this.turned(this);
     }
 

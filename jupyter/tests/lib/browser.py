@@ -76,6 +76,21 @@ class Server:
             self.process.wait()
 
 
+def kill_kernel(connection):
+    """Ends the kernel whose command line names the connection file; answers how many there were."""
+    name, ended = os.path.basename(connection), 0
+    for pid in filter(str.isdigit, os.listdir('/proc')):
+        try:
+            with open(f'/proc/{pid}/cmdline') as file:
+                given = file.read().split('\0')
+            if os.path.basename(given[0]) == 'janus-kernel' and name in ' '.join(given):
+                os.kill(int(pid), signal.SIGKILL)
+                ended += 1
+        except OSError:
+            pass
+    return ended
+
+
 def browser(profile, width=1500, height=1000):
     options = Options()
     options.binary_location = shutil.which('chromium')

@@ -4,6 +4,8 @@ import signal
 import threading
 import time
 
+import panel
+import stillness
 from checks import check, comes, figure, wait
 from panel import BRIEF, click_node, known, shown, stands
 
@@ -12,9 +14,8 @@ DRAW = 4                # ms, the median of a drawing while the tree is scrolled
 WORK = 100              # ms, the longest that the page's own parts may take in one go
 MOST_OPEN = 400         # cells that were sent and have no reply, at most
 STILL, GOAL = 100, 50   # ms, the longest that the page may not look at anything, and what is aimed at
-# A beat of 10 ms, and a meter on what the page's own parts take.
-GAPS = '''window.gaps = []; window.work = {longest: 0, total: 0}; var last = performance.now();
-    window.beat = setInterval(function () { var now = performance.now(); window.gaps.push(now - last); last = now; }, 10);
+# A meter on what the page's own parts take.
+METER = '''window.work = {longest: 0, total: 0};
     function meter(owner, name) { var old = owner[name]; owner[name] = function () { var begun = performance.now(), out = old.apply(this, arguments);
         var took = performance.now() - begun; window.work.total += took; window.work.longest = Math.max(window.work.longest, took); return out; }; }
     meter(Jupyter.janus.conversation, 'hear'); meter(Jupyter.janus, 'update'); meter(Jupyter.janus, 'keep');
@@ -39,8 +40,13 @@ def rush(frontend, seed):
 
 
 def crowd(stage):
-    page = stage.page
-    page.run(1)
+    stage.page.run(1)
+    crowded(stage, panel)
+
+
+def crowded(stage, view):
+    """Three frontends in a rush. The view is that of the page: panel or lab_page."""
+    page, stands, known = stage.page, view.stands, view.known
     stands(page, 1, 1)
     frontends = [stage.frontend() for _ in range(3)]
     threads = [threading.Thread(target=rush, args=(it, seed), daemon=True) for seed, it in enumerate(frontends)]
@@ -127,9 +133,13 @@ def thousand(stage):
 
 
 def fell_behind(stage):
+    stage.page.run(1)
+    left_behind(stage, panel)
+
+
+def left_behind(stage, view):
     """The notebook's server stands still while another frontend works, so that the kernel hangs up on it or broadcasts are lost."""
-    page, frontend, server = stage.page, stage.frontend(), stage.theatre.server.process
-    page.run(1)
+    page, frontend, server, stands, known = stage.page, stage.frontend(), stage.theatre.server.process, view.stands, view.known
     stands(page, 1, 1)
     parent = grow(frontend, 100)
     stands(page, frontend.ask('state')['node'], 101)
@@ -171,8 +181,9 @@ def flood(stage):
     page, frontend = stage.page, stage.frontend()
     page.run(1)
     stands(page, 1, 1)
-    page.js(GAPS)
-    out, clicks = [], []
+    page.js(METER)
+    out, clicks, watch = [], [], stillness.Watch(page.driver)
+    page.js(stillness.BEGIN)
     thread = threading.Thread(target=paced, args=(frontend, 10, 1000, out), daemon=True)
     thread.start()
     while thread.is_alive():
@@ -181,15 +192,19 @@ def flood(stage):
         clicks.append(time.time() - begun)
         time.sleep(.2)
     thread.join()
-    gaps = sorted(page.js('clearInterval(window.beat); return window.gaps'))
+    beats = page.js(stillness.END)
+    time.sleep(.1)
+    watch.end()
+    gaps, own = sorted(ended - begun for begun, ended in beats), watch.own(beats)
     figure('cells sent, in seconds', (out[0][0], round(out[0][1], 1)))
     figure('the page\'s beats of 10 ms: median, longest, ms', (round(gaps[len(gaps) // 2], 1), round(gaps[-1], 1)))
     figure('the History button while it went on, median and longest, ms', (round(sorted(clicks)[len(clicks) // 2] * 1000), round(max(clicks) * 1000)))
     work = page.js('return window.work')
     figure('the page\'s own parts: longest in one go, in all, ms', (round(work['longest'], 1), round(work['total'])))
     check(work['longest'] < WORK, f'the page\'s own parts never take {WORK} ms in one go', work)
-    figure(f'beats that came more than {GOAL} ms late', sum(it > GOAL for it in gaps))
-    check(gaps[-1] < STILL, f'the page never stands still for {STILL} ms', gaps[-5:])
+    figure('the longest without the waits for a processor, ms', [round(it, 1) for it in own[-3:]])
+    figure(f'beats that came more than {GOAL} ms late, in all and without such waits', (sum(it > GOAL for it in gaps), sum(it > GOAL for it in own)))
+    check(own[-1] < STILL, f'the page never stands still for {STILL} ms', own[-5:], gaps[-5:])
     if not shown(page)['visible']:
         page.click('#janus-history')
     now = frontend.ask('state')         # behind all its cells

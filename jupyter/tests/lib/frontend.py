@@ -25,7 +25,7 @@ class Frontend:
         until = time.time() + timeout
         while time.time() < until:
             try:
-                message = self.client.get_iopub_msg(timeout=5)
+                message = self.client.get_iopub_msg(timeout=min(5, max(.1, until - time.time())))
             except Exception:
                 continue
             is_idle = message['msg_type'] == 'status' and message['content']['execution_state'] == 'idle'
@@ -38,6 +38,21 @@ class Frontend:
 
     def begin(self, code, **more):
         return self.send('execute_request', {'code': code, 'silent': False, **more})
+
+    def stop(self, asked, timeout=200):
+        """Interrupts a cell until its end is heard, since an interrupt before it began to run interrupts nothing. No later cell is interrupted."""
+        until, sent, ended = time.time() + timeout, 0, None
+        while ended is None and time.time() < until:
+            self.client.control_channel.send(self.client.session.msg('interrupt_request', {}))
+            sent += 1
+            try:
+                ended = self.heard(asked, 'idle', 1)
+            except AssertionError:
+                continue
+        for _ in range(sent):
+            self.client.get_control_msg(timeout=60)
+        if ended is None:
+            raise AssertionError('the cell was not interrupted')
 
     def run(self, code, **more):
         return self.heard(self.begin(code, **more), 'idle')

@@ -2,8 +2,10 @@
 import threading
 import time
 
+import lab_page
+import stillness
 from checks import check, comes, figure
-from crowds import grow, paced
+from crowds import crowded, grow, left_behind, paced
 from lab_page import BRIEF, S, known, run, shown, stands
 
 CLICK = 50              # ms, from a click to the drawing of what it brought, at 1,000 nodes
@@ -27,13 +29,21 @@ DRAWN = '''var t = janus_history.found().panel.tree, most = t.box.scrollHeight -
     var jumped = many.map(draw(function (i) { return most * ((i * 37) % 80) / 80; }));
     return {scrolled: middle(scrolled), jumped: middle(jumped), most: Math.max.apply(null, scrolled.concat(jumped)),
         elements: t.svg.getElementsByTagName("*").length, lanes: t.layout.lines.length}'''
-# A beat of 10 ms, and a meter on what the extension takes in one go, which is called once.
-BEAT = '''window.gaps = []; var last = performance.now();
-    window.beat = setInterval(function () { var now = performance.now(); window.gaps.push(now - last); last = now; }, 10)'''
+# A meter on what the extension takes in one go, which is called once.
 METER = S + '''window.work = {longest: 0, total: 0};
     function meter(owner, name) { var old = owner[name]; owner[name] = function () { var begun = performance.now(), out = old.apply(this, arguments);
         var took = performance.now() - begun; window.work.total += took; window.work.longest = Math.max(window.work.longest, took); return out; }; }
     meter(s.conversation, 'hear'); meter(s.conversation, 'release_all'); meter(s, 'update'); meter(s, 'keep'); meter(s.panel.tree, 'place')'''
+
+
+def crowd(stage):
+    run(stage.page, 1)
+    crowded(stage, lab_page)
+
+
+def fell_behind(stage):
+    run(stage.page, 1)
+    left_behind(stage, lab_page)
 
 
 def drawing(page, what):
@@ -80,14 +90,17 @@ def ten_thousand(stage):
 
 
 def beats(page, frontend, seconds):
-    """The gaps between the page's beats under 1,000 cells a second, rising."""
-    out = []
-    page.js(BEAT)
+    """The gaps between the page's beats under 1,000 cells a second, rising, and the same without the machine's doing."""
+    out, watch = [], stillness.Watch(page.driver)
+    page.js(stillness.BEGIN)
     thread = threading.Thread(target=paced, args=(frontend, seconds, 1000, out), daemon=True)
     thread.start()
     thread.join()
+    came = page.js(stillness.END)
+    time.sleep(.1)
+    watch.end()
     figure('cells sent, in seconds', (out[0][0], round(out[0][1], 1)))
-    return sorted(page.js('clearInterval(window.beat); return window.gaps'))
+    return sorted(ended - begun for begun, ended in came), watch.own(came)
 
 
 def flood(stage):
@@ -95,12 +108,13 @@ def flood(stage):
     run(page, 1)
     stands(page, 1, 1)
     page.js(METER)
-    gaps = beats(page, frontend, 5)
+    gaps, own = beats(page, frontend, 5)
     work = page.js('return window.work')
     figure('the page\'s beats of 10 ms: median, longest, ms', (round(gaps[len(gaps) // 2], 1), [round(it, 1) for it in gaps[-3:]]))
     figure('the extension: longest in one go, in all, ms', (round(work['longest'], 1), round(work['total'])))
-    figure(f'beats that came more than {GOAL} ms late', sum(it > GOAL for it in gaps))
-    check(gaps[-1] < STILL, f'the page never stands still for {STILL} ms', gaps[-5:])
+    figure('the longest without the waits for a processor, ms', [round(it, 1) for it in own[-3:]])
+    figure(f'beats that came more than {GOAL} ms late, in all and without such waits', (sum(it > GOAL for it in gaps), sum(it > GOAL for it in own)))
+    check(own[-1] < STILL, f'the page never stands still for {STILL} ms', own[-5:], gaps[-5:])
     check(work['longest'] < WORK, f'the extension never takes {WORK} ms in one go', work)
     check(work['total'] < SHARE * sum(gaps), 'nor a fifth of the time in all', work, sum(gaps))
     now = frontend.ask('state')         # behind all its cells
@@ -109,4 +123,4 @@ def flood(stage):
     check(shown(page)['visible'], 'and is in sight')
 
 
-SCENES = [thousand, ten_thousand, flood]
+SCENES = [crowd, thousand, ten_thousand, fell_behind, flood]

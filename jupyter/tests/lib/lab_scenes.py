@@ -1,21 +1,23 @@
 """The scenes of jupyter/tests/lab: each is played on a page of its own with a kernel of its own. `stage` has the page, its server and further frontends."""
-import os
 import re
-import signal
 import time
 
 from selenium.webdriver.common.by import By
 from selenium.webdriver.common.keys import Keys
 
+import tutorial
+from browser import kill_kernel
 from checks import check, comes, figure, wait
 from lab_page import (S, add, click_node, go_to, known, marked, marks, message, place, prompts, run, run_example, select, shown, source, stands,
                       words_below)
 from lab_server import READY
+from panel import BARS
 
 BUTTONS = ['Undo', 'Redo', 'Backwards', 'Steps', 'History']
 FORWARD = ['x1 = 5', 'x2 = 8', 'n = 0']
 WORLD = ['x1 = 0', 'x2 = 0', 'n = 4']
 ZEROS = ['x1 = 0', 'x2 = 0', 'n = 0']
+END_SESSIONS = 'var all = jupyterapp.serviceManager.sessions; Array.from(all.running()).forEach(function (it) { all.shutdown(it.id); })'
 ENDLESS = 'int z from z = 0 loop z += 2 z -= 1 until z = 0 - 1'
 TOKENS = '''var out = {}; document.querySelectorAll(arguments[0] + ' .cm-line span').forEach(function (it) {
     if (!it.children.length) out[it.textContent] = getComputedStyle(it).color; }); return out'''
@@ -83,6 +85,47 @@ def files(stage):
     has_tokens(page, '.jp-FileEditor', 'int', '%%', '%undo 1', '// one')
 
 
+# What is shared with the extension lacks a package.
+LESS = '''var all = window._JUPYTERLAB = window._JUPYTERLAB || {}, name = 'janus-history';
+    Object.defineProperty(all, name, {configurable: true, set: function (it) {
+        var init = it.init, less = null;
+        it.init = function (shared) {
+            less = less || Object.assign({}, shared);
+            delete less['@codemirror/view'];
+            return init(less);
+        };
+        Object.defineProperty(all, name, {value: it});
+    }})'''
+OUTPUT = '''var it = jupyterapp.shell.currentWidget.content.widgets[1]; return it.outputArea.node.textContent'''
+IS_IDLE = '''var it = window.jupyterapp && jupyterapp.shell.currentWidget, session = it && it.sessionContext && it.sessionContext.session;
+    return !!(session && session.kernel && session.kernel.status === 'idle' && it.content.widgets.length > 1)'''
+
+
+def missing_package(stage):
+    page = stage.page
+    page.js('window.onbeforeunload = null')
+    added = page.driver.execute_cdp_cmd('Page.addScriptToEvaluateOnNewDocument', {'source': LESS})
+    page.console()
+    try:
+        page.fetch()
+        wait('the notebook and its kernel', lambda: page.js(IS_IDLE), 180, .3)
+    finally:
+        page.driver.execute_cdp_cmd('Page.removeScriptToEvaluateOnNewDocument', added)
+    said, line = [it for it in page.console('WARNING', 'SEVERE') if 'janus-history' in it], 'janus-history: JupyterLab shares no @codemirror/view.'
+    check(len(said) == 1 and line in said[0], 'one line of the console says which package is missing', said)
+    check(page.js('return !jupyterapp.hasPlugin("janus-history:history") && jupyterapp.isPluginActivated("janus-history:language")'),
+          'the history is left out, and the language is there')
+    check(page.js('return document.querySelectorAll(".janus-tool, #janus-panel").length') == 0, 'nothing of the history is shown')
+    page.js('''var nb = jupyterapp.shell.currentWidget.content; nb.activeCellIndex = 1; nb.mode = "command"; nb.activate(); nb.deselectAll();
+        nb.widgets[1].model.sharedModel.setSource('int x1 x1 += 41')''')
+    time.sleep(.3)
+    page.keys(Keys.SHIFT, Keys.ENTER, Keys.NULL)
+    comes('the notebook works without it', lambda: ('x1 = 41' in page.js(OUTPUT), page.js(OUTPUT)), 60)
+    has_tokens(page, '.jp-Notebook', 'uncall', 'int')
+    page.load()
+    check(page.js('return jupyterapp.hasPlugin("janus-history:history")'), 'with the package the history is there again')
+
+
 # ---- what is done with cells
 def buttons(stage):
     page = stage.page
@@ -100,6 +143,7 @@ def buttons(stage):
         return [getComputedStyle(it.querySelector('.jp-OutputArea-output')).textDecorationLine, it.querySelector('.janus-sign').textContent]''')
     check(struck == ['line-through', 'undone \u00b7 node 4'], 'its output is struck through, and it says so', struck)
     check(shown(page)['redo'] == [4] and shown(page)['changed'] == ['x1', 'x2', 'n'], 'the way of a redo and the changed values are shown', shown(page))
+    check(page.js(BARS) == ['solid'] * 3, 'a bar stands before each, beside the colour', page.js(BARS))
     page.click('.janus-undo')
     stands(page, 2, 4, WORLD)
     page.click('.janus-redo')
@@ -140,6 +184,23 @@ def tree(stage):
     stands(page, 0, 5, [], 'the slider leads to the start')
     page.keys(Keys.END)
     stands(page, 5, 5, what='and back along the favourites')
+
+
+def slider_on_branch(stage):
+    page = stage.page
+    run_example(page)
+    click_node(page, 2)
+    stands(page, 2, 4, WORLD)
+    index = add(page, 'x1 += 100')
+    run(page, index)
+    stands(page, 5, 5, ['x1 = 100', 'x2 = 0', 'n = 4'])
+    comes('behind a new branch the slider goes along it', lambda: (shown(page)['slider'], shown(page)['longest']) == (3, 3))
+    page.js('document.querySelector("#janus-slider").focus()')
+    page.keys(Keys.ARROW_LEFT)
+    stands(page, 2, 5, WORLD)
+    page.keys(Keys.ARROW_RIGHT)
+    stands(page, 5, 5, ['x1 = 100', 'x2 = 0', 'n = 4'], 'and back down the same branch')
+    check(shown(page)['step'] == 'cell 3 of 3: node 5, In [5] x1 += 100', 'and it is said', shown(page)['step'])
 
 
 def backwards(stage):
@@ -294,17 +355,27 @@ CONTRAST = '''function parts(it) { var n = it.match(/[0-9.]+/g).map(Number); ret
             return [Math.round(100 * (Math.max(a, b) + .05) / (Math.min(a, b) + .05)) / 100, it.className.baseVal || it.className || it.tagName]; })
         .sort(function (a, b) { return a[0] - b[0]; })[0]'''
 TEXTS = ', '.join(('#janus-panel b', '.janus-where', '.janus-go label', '.janus-step', '.janus-world-head', '.janus-values th', '.janus-values td',
-                   '.janus-message', '.janus-others li', '.janus-words', '.janus-tool', '.janus-sign', '#janus-panel .node .num',
-                   '#janus-panel .node .count', '#janus-panel .node .code'))
+                   '.janus-message', '.janus-others li', '.janus-words', '.janus-tool', '.janus-sign', '.janus-past', '.janus-limits',
+                   '#janus-panel .node .num', '#janus-panel .node .count', '#janus-panel .node .code'))
+
+
+OUT_OF_SIGHT = '''return arguments[0].split(', ').filter(function (css) {
+    return !Array.from(document.querySelectorAll(css)).some(function (it) { return it.textContent.trim() && it.getClientRects().length; }); })'''
 
 
 def themes(stage):
     page = stage.page
     run_example(page)
+    run(page, add(page, 'int a[40]'))
+    stage.frontend().run('skip')
+    stands(page, 6, 6)
+    run(page, add(page, 'x1 += 1 a[39] += 1'))
     page.click('.janus-undo')
     run(page, add(page, 'x1 += x1'))
     go_to(page, 77)
-    stands(page, 3, 4)
+    stands(page, 6, 7)
+    page.js(S + 's.conversation.limits.cell(450001); s.changed()')
+    comes('a text of each kind is in sight', lambda: (page.js(OUT_OF_SIGHT, TEXTS) == [], page.js(OUT_OF_SIGHT, TEXTS)))
     for theme in ('JupyterLab Dark', 'JupyterLab Light'):
         page.js('return jupyterapp.commands.execute("apputils:change-theme", {theme: arguments[0]}).then(function () { return 1; })', theme)
         comes(f'the theme is {theme}', lambda: page.js('return document.body.dataset.jpThemeName') == theme, 60)
@@ -452,6 +523,26 @@ def run_all_tagged(stage):
     marked(page, ['+1', '+2', '+3', '', '+4', '', ''], 'with the marks of those that ran')
 
 
+# The counts and outputs of all cells, also of those that are not drawn.
+RESULTS = S + '''return s.host.cells().map(function (it) {
+    var outputs = it.model.outputs.toJSON().map(function (out) { return out.evalue || [].concat(out.data['text/plain']).join(''); });
+    return [it.model.executionCount, outputs.join('\\n')]; })'''
+
+
+def run_tutorial(stage):
+    page = stage.page
+    stage.write('tutorial.ipynb', tutorial.notebook())
+    page.js(END_SESSIONS)
+    time.sleep(1)
+    page.notebook = 'tutorial.ipynb'
+    page.load()
+    page.command('notebook:run-all-cells')
+    stands(page, tutorial.NODES, tutorial.NODES, what='Run All of the tutorial goes through to its end', timeout=120)
+    comes('and stops nowhere', lambda: ([it[0] for it in page.js(RESULTS)] == list(range(1, 22)) and message(page) == '', page.js(RESULTS), message(page)))
+    came = [it[1] for it in page.js(RESULTS)]
+    check(tutorial.differs(came) == [], 'each cell shows what it has to', tutorial.differs(came))
+
+
 # ---- several frontends, and kernels that come and go
 def second_frontend(stage):
     page = stage.page
@@ -521,21 +612,11 @@ def restart(stage):
     page.click('.janus-undo')
     stands(page, 0, 1, [], 'Undo works')
     marked(page, ['-1', 'gone', 'gone', 'gone'], 'and is marked')
-
-
-def kill_kernel(connection):
-    """Ends the kernel whose command line names the connection file; answers how many there were."""
-    name, ended = os.path.basename(connection), 0
-    for pid in filter(str.isdigit, os.listdir('/proc')):
-        try:
-            with open(f'/proc/{pid}/cmdline') as file:
-                given = file.read().split('\0')
-            if os.path.basename(given[0]) == 'janus-kernel' and name in ' '.join(given):
-                os.kill(int(pid), signal.SIGKILL)
-                ended += 1
-        except OSError:
-            pass
-    return ended
+    page.command('notebook:restart-run-all')
+    wait('the question', lambda: page.js('return document.querySelectorAll(".jp-Dialog button.jp-mod-accept").length') == 1)
+    page.click('.jp-Dialog button.jp-mod-accept')
+    stands(page, 4, 4, WORLD, 'Restart and Run All runs all in a new kernel', 120)
+    marked(page, ['+1', '+2', '+3', '+4'], 'and all are marked')
 
 
 def connection(stage):
@@ -556,6 +637,28 @@ def connection(stage):
     stands(page, 1, 1, what='a cell of the new run is node 1')
 
 
+def ended_kernel(stage):
+    """The kernel dies while cells wait for the one that runs, and is shut down for good."""
+    page = stage.page
+    source(page, 2, ENDLESS)
+    select(page, 1)
+    page.command('notebook:run-all-cells')
+    comes('two cells wait behind one that runs', lambda: (prompts(page) == ['1', '*', '*', '*'], prompts(page)), 60)
+    check(kill_kernel(stage.connection) == 1, 'the kernel of this page was killed')
+    stands(page, 0, 0, [], 'the server starts it anew, and the page stands at node 0', 120)
+    wanted = 'Stopped because the kernel ended: 2 cells after it did not run.'
+    comes('it is said why the others did not run', lambda: (message(page) == wanted, message(page)))
+    comes('none waits then', lambda: ('*' not in prompts(page), prompts(page)))
+    page.js(S + 'window.kept = panel; kept.sessionContext.shutdown()')
+    comes('behind a kernel that was shut down there are no buttons', lambda: page.js('return document.querySelectorAll(".janus-tool").length') == 0, 60)
+    check(not page.js('return jupyterapp.commands.isEnabled("janus:undo")'), 'nor its commands')
+    page.js('kept.sessionContext.changeKernel({name: "janus"})')
+    comes('with a new one they come back', lambda: (shown(page)['tools'] == BUTTONS, shown(page)['tools']), 60)
+    wait('the state', lambda: page.js(READY), 60)
+    run(page, 1)
+    stands(page, 1, 1, ZEROS, 'and serve it')
+
+
 def second_page(stage):
     page = stage.page
     run_example(page)
@@ -570,6 +673,10 @@ def second_page(stage):
     stands(other, 4, 4, WORLD, 'Redo in the first is seen in the second')
     comms = stage.frontend().comms()
     check(len([it for it in comms if it.startswith('janus-panel-')]) == 1, 'both share one comm', comms)
+    page.js(S + 'panel.sessionContext.session.kernel.restart()')
+    stands(page, 0, 0, [], 'after a restart the first stands at node 0', 120)
+    stands(other, 0, 0, [], 'and so does the second, which nobody told', 60)
+    marked(other, ['gone'] * 4, 'its cells are from an earlier run')
 
 
 def other_kernel(stage):
@@ -611,6 +718,17 @@ def console(stage):
     page.js(EXECUTE, 'x1 += 9')
     stands(page, 3, 3, ['x1 = 9', 'x2 = 0', 'n = 4'], 'a cell of the console is node 3')
     comes('and marked there', lambda: (marks(page)[:1] == ['+3'], marks(page)))
+    page.click('.jp-ConsolePanel .janus-undo')
+    stands(page, 2, 3, WORLD, 'Undo in the console takes it back')
+    page.click('.jp-ConsolePanel .janus-redo')
+    stands(page, 3, 3, ['x1 = 9', 'x2 = 0', 'n = 4'], 'and Redo brings it again')
+    page.click('.jp-ConsolePanel .janus-history')
+    comes('History in the console hides the panel', lambda: not shown(page)['visible'])
+    page.click('.jp-ConsolePanel .janus-history')
+    comes('and shows it', lambda: shown(page)['visible'])
+    page.js(S + 'panel.console.promptCell.model.sharedModel.setSource("uncall fib(x1, x2, n) // back")')
+    has_tokens(page, '.jp-CodeConsole', 'uncall', '// back')
+    page.js(S + 'panel.console.promptCell.model.sharedModel.setSource("")')
     page.js('jupyterapp.shell.activateById(kept.id)')
     comes('the panel follows to the notebook', lambda: (not page.js(in_console), shown(page)['title']))
     stands(page, 3, 3, ['x1 = 9', 'x2 = 0', 'n = 4'], 'which has heard the console\'s cell')
@@ -642,13 +760,41 @@ def two_notebooks(stage):
     comes('a closed notebook leaves nothing', lambda: page.js('return janus_history.sessions.size') == 1)
 
 
+@only('lab')
+def one_kernel(stage):
+    """Two notebooks on one kernel."""
+    page = stage.page
+    run_example(page, 2)
+    stage.write('beside.ipynb', {**EMPTY, 'cells': [{**EMPTY['cells'][0], 'source': 'x1 += 7'}]})
+    page.js(S + '''window.kept = panel;
+        jupyterapp.commands.execute("docmanager:open", {path: "beside.ipynb", kernel: {id: panel.sessionContext.session.kernel.id}})''')
+    comes('the panel follows to a second notebook', lambda: (shown(page)['title'] == 'beside.ipynb', shown(page)['title']), 60)
+    stands(page, 2, 2, WORLD, 'which stands where the kernel does', 60)
+    run(page, 0)
+    stands(page, 3, 3, ['x1 = 7', 'x2 = 0', 'n = 4'], 'its cell is node 3, and has the names of the first')
+    marked(page, ['+3'], 'and is marked')
+    page.js('jupyterapp.commands.execute("janus:undo")')
+    stands(page, 2, 3, WORLD)
+    page.js('jupyterapp.commands.execute("janus:undo")')
+    stands(page, 1, 3, ZEROS, 'it undoes a cell of the first')
+    page.js('jupyterapp.shell.activateById(kept.id)')
+    stands(page, 1, 3, ZEROS, 'which stands there too')
+    marked(page, ['+1', '-2', 'gone', 'gone'], 'and marks its cell')
+    comms = stage.frontend().comms()
+    check(len([it for it in comms if it.startswith('janus-panel-')]) == 1, 'both share one comm', comms)
+    page.js('''var it = Array.from(janus_history.sessions.keys()).find(function (w) { return w !== kept; }); it.context.model.dirty = false; it.dispose()''')
+    comes('where the second is closed', lambda: page.js('return janus_history.sessions.size') == 1)
+    page.click('.janus-redo')
+    stands(page, 2, 3, WORLD, 'the first goes on')
+
+
 def big(stage):
     """A notebook of which most cells are out of sight, in each way that Lab has to leave them out."""
     page = stage.page
     cells = [{'cell_type': 'code', 'id': f'c{i}', 'metadata': {}, 'outputs': [], 'execution_count': None,
               'source': 'x += 1\n' + '// filler\n' * 8 if i else 'int x'} for i in range(120)]
     stage.write('big.ipynb', {**EMPTY, 'cells': cells})
-    page.js('var all = jupyterapp.serviceManager.sessions; Array.from(all.running()).forEach(function (it) { all.shutdown(it.id); })')
+    page.js(END_SESSIONS)
     time.sleep(1)
     page.notebook = 'big.ipynb'
     page.load()
@@ -710,6 +856,6 @@ def pose(stage):
     time.sleep(1.5)
 
 
-SCENES = [loads, colours, files, buttons, tree, backwards, keyboard, completion, commands, screen_reader, themes, refusals, procedures, waiting,
-          past_the_shown, near_limits, run_all, run_all_tagged,
-          second_frontend, late_join, reload_page, restart, connection, second_page, other_kernel, console, two_notebooks, big, other_pages]
+SCENES = [loads, colours, files, buttons, tree, slider_on_branch, backwards, keyboard, completion, commands, screen_reader, themes, refusals, procedures,
+          waiting, past_the_shown, near_limits, run_all, run_all_tagged, run_tutorial, second_frontend, late_join, reload_page, restart, connection,
+          ended_kernel, second_page, other_kernel, console, two_notebooks, one_kernel, big, other_pages, missing_package]

@@ -96,10 +96,13 @@ class Page:
         self.load()
 
     def load(self):
+        self.fetch()
+        wait('the page with its kernel', lambda: self.js(READY), 180, .3)
+
+    def fetch(self):
         path = f'/lab/tree/{self.notebook}?reset&token=' if self.server.program == 'lab' else f'/notebooks/{self.notebook}?token='
         self.show()
         self.driver.get(self.server.url + path + TOKEN)
-        wait('the page with its kernel', lambda: self.js(READY), 180, .3)
 
     def show(self):
         if self.driver.current_window_handle != self.handle:
@@ -135,9 +138,13 @@ class Page:
     def command(self, name, **given):
         self.js('jupyterapp.commands.execute(arguments[0], arguments[1])', name, given)
 
-    def errors(self):
+    def console(self, *levels):
+        """What the browser's console says since it was asked last."""
         self.show()
-        return [it['message'] for it in self.driver.get_log('browser') if it['level'] == 'SEVERE']
+        return [it['message'] for it in self.driver.get_log('browser') if it['level'] in levels]
+
+    def errors(self):
+        return self.console('SEVERE')
 
     def picture(self, path):
         self.show()

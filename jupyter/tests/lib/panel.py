@@ -12,6 +12,7 @@ SHOWN = '''function numbers(css) { return $(css).map(function () { return Number
     here: numbers('#janus-panel .node.here')[0], on: numbers('#janus-panel .node.on'), drawn: numbers('#janus-panel .node'),
     others: $('.janus-others li').map(function () { return $(this).text(); }).get(), step: $('.janus-step').text(),
     slider: Number($('#janus-slider').val()), longest: Number($('#janus-slider').attr('max')), visible: $('#janus-panel').is(':visible')}'''
+BARS = '''return Array.from(document.querySelectorAll('.janus-changed th')).map(function (it) { return getComputedStyle(it).borderLeftStyle; })'''
 MARKS = '''return Jupyter.notebook.get_cells().filter(function (it) { return it.cell_type === 'code'; }).map(function (it) {
     var e = it.element, n = (e.find('.janus-sign').text().match(/\\d+/) || ['?'])[0];
     return e.hasClass('janus-undone') ? '-' + n : e.hasClass('janus-in') ? '+' + n : e.hasClass('janus-maybe') ? n + '?' :

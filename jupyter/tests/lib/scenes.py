@@ -4,8 +4,10 @@ import time
 from selenium.webdriver.common.action_chains import ActionChains
 from selenium.webdriver.common.keys import Keys
 
+import tutorial
+from browser import kill_kernel
 from checks import check, comes, figure, wait
-from panel import click_node, known, marks, message, shown, stands, tokens, words_below
+from panel import BARS, click_node, known, marks, message, shown, stands, tokens, words_below
 
 ENDLESS = 'int turn from turn = 0 loop turn += 1 until 0'
 WORLD = ['x1 = 0', 'x2 = 0', 'n = 4']
@@ -57,8 +59,8 @@ def highlighting(stage):
 # ---- undo, redo and goto
 def buttons(stage):
     page = stage.page
-    names = page.js('return $("#janus-buttons:visible button").map(function () { return $(this).text().trim(); }).get()')
-    check(names == ['Undo', 'Redo', 'Backwards', 'Steps', 'History'], 'the five buttons', names)
+    names = 'return $("#janus-buttons:visible button").map(function () { return $(this).text().trim(); }).get()'
+    comes('the five buttons', lambda: (page.js(names) == ['Undo', 'Redo', 'Backwards', 'Steps', 'History'], page.js(names)))
     run_example(page)
     check(known(page)['parent'] == [-1, 0, 1, 2, 3], 'the tree is a chain of four', known(page))
     check(marks(page) == ['+1', '+2', '+3', '+4'], 'cells are marked with their nodes', marks(page))
@@ -67,6 +69,7 @@ def buttons(stage):
     page.click('#janus-undo')
     stands(page, 3, 4, FORWARD, 'Undo by the button brings the third cell\'s values back')
     check(shown(page)['changed'] == ['x1', 'x2', 'n'], 'the values that changed are marked', shown(page)['changed'])
+    check(page.js(BARS) == ['solid'] * 3, 'a bar stands before each, beside the colour', page.js(BARS))
     check(second.ask('state')['world'] == FORWARD, 'the kernel says so to another frontend')
     comes('the undone cell is marked', lambda: marks(page) == ['+1', '+2', '+3', '-4'])
     page.click('#janus-redo')
@@ -362,6 +365,38 @@ def run_all_interrupted(stage):
     stands(page, 4, 4, WORLD, 'Run All works after it')
 
 
+def ended_kernel(stage):
+    """The kernel dies while cells wait for the one that runs."""
+    page = stage.page
+    page.js('Jupyter.notebook.get_cell(2).set_text(arguments[0])', ENDLESS)
+    run_all(page)
+    stands(page, 1, 1, what='the first cell ran')
+    comes('the others wait', lambda: [it['prompt'] for it in page.cells()][2:5] == ['*'] * 3)
+    check(kill_kernel(stage.connection) == 1, 'the kernel of this page was killed')
+    stands(page, 0, 0, [], 'the server starts it anew, and the page stands at node 0', 120)
+    wanted = 'Stopped because the kernel ended: 2 cells after it did not run.'
+    comes('it is said why the others did not run', lambda: (message(page) == wanted, message(page)))
+    comes('none waits then', lambda: '*' not in [it['prompt'] for it in page.cells()][3:5])
+    page.js('$(".modal").modal("hide")')
+    page.run(1)
+    stands(page, 1, 1, what='a cell of the new run is node 1')
+
+
+def run_tutorial(stage):
+    page = stage.page
+    stage.write('tutorial.ipynb', tutorial.notebook())
+    page.js('Jupyter.notebook.set_dirty(false); Jupyter.notebook.session.delete()')
+    time.sleep(1)
+    page.notebook = 'tutorial.ipynb'
+    page.load()
+    run_all(page)
+    stands(page, tutorial.NODES, tutorial.NODES, what='Run All of the tutorial goes through to its end', timeout=120)
+    code = [it for it in page.cells() if it['type'] == 'code']
+    check([it['prompt'] for it in code] == list(range(1, 22)) and message(page) == '', 'and stops nowhere', message(page))
+    shown = [it['output'] for it in code]
+    check(tutorial.differs(shown) == [], 'each cell shows what it has to', tutorial.differs(shown))
+
+
 # ---- keyboard and screen reader
 def keyboard(stage):
     page = stage.page
@@ -552,7 +587,7 @@ def no_errors(stage):
     check(not errors, 'the browser\'s console has no error of the page\'s parts', errors)
 
 
-SCENES = [highlighting, buttons, clicks, refused_moves, refusals, procedures, interrupt, waiting, second_frontend, late_join, reload_page, restart, earlier_run,
-          run_all_stops, run_all_goes_on, run_all_interrupted, keyboard, screen_reader, slider, slider_on_branch, past_the_shown, near_limits,
-          backwards, no_errors]
+SCENES = [highlighting, buttons, clicks, refused_moves, refusals, procedures, interrupt, waiting, second_frontend, late_join, reload_page, restart,
+          earlier_run, run_all_stops, run_all_goes_on, run_all_interrupted, ended_kernel, run_tutorial, keyboard, screen_reader, slider, slider_on_branch,
+          past_the_shown, near_limits, backwards, no_errors]
 LAST = [other_language]         # behind it a server may take a minute to end the kernel of Python
