@@ -1,8 +1,11 @@
 pub mod Walking
 pub mod Where
+pub mod Bodies
 pub mod Walk
 pub mod Standing
+pub mod Stops
 pub mod Sights
+pub mod Values
 -- Of kernel_runner, given again.
 pub use Rattle.kernel_runner.specs.Runner
 -- Of kernel_machine, given again.
