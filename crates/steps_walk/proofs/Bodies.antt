@@ -1,15 +1,17 @@
 -- Which procedure a call runs.
-use Rattle.std.proofs.Common.{◌≡◌, ℕ, zero, suc, ◌<◌, ◌≤◌, List, [], ◌∷◌, ◌++◌, length, map, take, get_or, Bool, true, false, refl, ap, ◌∙◌, sym, subst, arith}
+use Rattle.std.proofs.Common.{◌≡◌, ℕ, zero, suc, ◌+◌, ◌<◌, ◌≤◌, List, [], ◌∷◌, ◌++◌, length, map, take, drop, get_or, Bool, true, false, refl, ap, ◌∙◌, sym}
+use Rattle.std.proofs.Common.{arith, add-one}
 use Rattle.std.specs.Prelude.{Contains, Some, None}
-use Rattle.std.proofs.lemmas.List.{map-append}
-use Rattle.std.proofs.Math.Seq.{take-length}
+use Rattle.std.proofs.lemmas.List.{map-append, append_assoc, append-nil, drop_all}
+use Rattle.std.proofs.Math.Seq.{take-length, drop-cons}
 use Rattle.janus_meaning.specs.Fault.{Fine}
-use Rattle.janus_meaning.specs.Syntax.{Name, Proc}
+use Rattle.janus_meaning.specs.Syntax.{Name, Proc, names_of}
 use Rattle.janus_meaning.specs.Store.{find, pick, same_name}
 use Rattle.janus_meaning.specs.World.{Cell, World, define}
 use Rattle.janus_meaning.proofs.Stores.{same_name_self, same_name_true}
-use Rattle.janus_syntax.specs.Tree.{procedure_view, procedures_view}
-use Rattle.janus_syntax.specs.View.{plain_procedure}
+use Rattle.janus_syntax.specs.Tree.{parameter_view, parameters_view, procedure_view, procedures_view}
+use Rattle.janus_syntax.specs.View.{plain_parameter, plain_procedure}
+use Rattle.janus_syntax.specs.declared.tree.Parameter.{Parameter}
 use Rattle.janus_syntax.specs.declared.tree.Procedure.{Procedure}
 use Rattle.kernel_machine.specs.State.{node_at, world_at}
 use Rattle.kernel_machine.specs.Legal.{IsLegal}
@@ -115,3 +117,26 @@ module _ (program : Program) (tree : HistoryTree) (name : Name) where
 
   pub none_here : ((rest : List Proc) → find name (define (plains program.cell.procedures.items) rest) ≡ find name rest) → SameAbove tree.position
   none_here none = none (world_at (past_of tree) tree.position).procedures
+
+-- ---- the names of parameters
+
+-- those of parameters of a text
+abbrev pub names : List Parameter → List Name
+names ps = names_of (map plain_parameter (parameters_view ps))
+
+module _ {X : Type 0} (f : X → Name) (ps : List Parameter) where
+  pub next_name : (told more : List X) (s : X) (i : ℕ) (p : Parameter) → i < length ps → p ≡ get_or ps i p → more ≡ told ++ s ∷ [] →
+      f s ≡ (plain_parameter (parameter_view p)).0 → map f told ++ names (drop i ps) ≡ names ps → map f more ++ names (drop (i + 1) ps) ≡ names ps
+  next_name told more s i p within is e name h =
+      let next : names (drop i ps) ≡ (plain_parameter (parameter_view p)).0 ∷ names (drop (i + 1) ps) =
+      ap names (drop-cons ps i p within) ∙ ap (λ q. names (q ∷ drop (suc i) ps)) (sym is)
+      ∙ ap (λ n. (plain_parameter (parameter_view p)).0 ∷ names (drop n ps)) (sym (add-one i)) in
+      ap (λ l. map f l ++ names (drop (i + 1) ps)) e
+      ∙ ap (λ l. l ++ names (drop (i + 1) ps)) (map-append f told (s ∷ []))
+      ∙ append_assoc (map f told) (f s ∷ []) (names (drop (i + 1) ps))
+      ∙ ap (λ x. map f told ++ x ∷ names (drop (i + 1) ps)) name
+      ∙ ap (λ l. map f told ++ l) (sym next) ∙ h
+
+  pub all_names : (told : List X) (i : ℕ) → length ps ≤ i → map f told ++ names (drop i ps) ≡ names ps → map f told ≡ names ps
+  all_names told i past h =
+      sym (append-nil (map f told)) ∙ ap (λ l. map f told ++ names l) (sym (drop_all i ps past)) ∙ h

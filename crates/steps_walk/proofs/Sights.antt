@@ -1,7 +1,7 @@
 -- The slot of a name among those in sight.
 use Rattle.std.proofs.Common.{◌≡◌, ℕ, zero, suc, ◌+◌, ◌-◌, ◌<◌, ◌≤◌, List, [], ◌∷◌, ◌++◌, length, map, drop, reverse, get_or, Bool, true, false, cond, refl}
 use Rattle.std.proofs.Common.{ap, ◌∙◌, sym, subst, arith, inl, inr}
-use Rattle.std.specs.Prelude.{slice_get, Option, Some, None, unwrap_or}
+use Rattle.std.specs.Prelude.{slice_get, Option, Some, None, IfSome, unwrap_or}
 use Rattle.std.proofs.lemmas.Bool.{cases_lt}
 use Rattle.std.proofs.lemmas.List.{length-map, length-append, length-reverse, reverse-append, reverse-reverse}
 use Rattle.std.proofs.lemmas.Option.{slice_get-get_or, slice_get_within}
@@ -11,6 +11,7 @@ use Rattle.janus_meaning.specs.Store.{same_name}
 use Rattle.janus_meaning.proofs.Stores.{same_name_self, same_name_true}
 use Rattle.janus_names.specs.Numbers.{IsNumbered, IsUnmet, HaveOneNumber}
 use Rattle.janus_slots.specs.Slots.{slot, slot_in, no_slot}
+use Rattle.janus_places.specs.Table.{slot_of}
 use Rattle.steps_walk.proofs.Bodies.{false_unless}
 
 -- ---- lists
@@ -186,3 +187,9 @@ slot_below (y ∷ xs) x b e = by (same_name x y) refl
         let same : b ≡ length xs = slot_number b (length xs) (e ∙ ap (λ v. cond v (slot (length xs)) (slot_in xs x)) t) in
         omega (arith, same)
     by false t = let low = slot_below xs x b (e ∙ ap (λ v. cond v (slot (length xs)) (slot_in xs x)) t) in omega (arith, low)
+
+-- what is found in a table
+pub of_number : (names : List Name) (x : Name) (r : Option ℕ) → IfSome r (λ k. IsNumbered names k x) → (r ≡ None → IsUnmet names x) → HaveOneNumber names →
+    slot_of r ≡ slot_in (reverse names) x
+of_number names x None met unmet one = none_in_table names x (unmet refl)
+of_number names x (Some k) met unmet one = slot_in_table names x k met one

@@ -66,3 +66,6 @@ pub no_value : (s : Store) (g : List Name) (x : Name) (k : ℕ) → slot k ≡ s
 no_value s g x k e past =
     let size = length_listed s in
     sym (look_there s g x k e ∙ ap (λ o. read_slot (value_or_lent o)) (slice_get_past (listed s) k (omega (arith, size, past))))
+
+pub unknown : (s : Store) (g : List Name) (x : Name) → no_slot ≡ slot_in g x → Bad Broken ≡ look x (sighted s g)
+unknown s g x e = sym (look_none s g x e)

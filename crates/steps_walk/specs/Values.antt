@@ -24,7 +24,7 @@ sighted s [] = Bare
 sighted s (x ∷ g) = Slot x (value_or_lent (slice_get (listed s) (length g))) (sighted s g)
 
 -- a name that is not in sight, or stands for another kind of value, is no part of a well-formed expression
-abbrev pub fault_told : NoValue → Res ℤ
+abbrev pub fault_told : {A : Type 0} → NoValue → Res A
 fault_told Unknown = Bad Broken
 fault_told Kind = Bad Broken
 fault_told (Fault f) = Bad (fault_of f)
@@ -33,17 +33,17 @@ abbrev pub told : Result ℤ NoValue → Res ℤ
 told (Ok n) = Fine n
 told (Err e) = fault_told e
 
--- the value of a name that is lent
-abbrev pub found_value : Result ValueView NoValue → Res Val
-found_value (Ok v) = Fine (shown v)
-found_value (Err e) = Bad Broken
+-- the value of a name that is lent, if it is in sight
+abbrev pub found_value : Option ValueView → Res Val
+found_value None = Bad Broken
+found_value (Some v) = Fine (shown v)
 
 -- the elements of an array that is lent
 abbrev pub found_array : Result (Bor (List ℤ)) NoValue → Res (List ℤ)
 found_array (Ok items) = Fine items.now
-found_array (Err e) = Bad Broken
+found_array (Err e) = fault_told e
 
 -- the values of a stack that is lent, the newest first
 abbrev pub found_stack : Result StackView NoValue → Res (List ℤ)
 found_stack (Ok values) = Fine (held values)
-found_stack (Err e) = Bad Broken
+found_stack (Err e) = fault_told e

@@ -52,6 +52,7 @@ impl Body {
 }
 
 /// The names of parameters; the only error is want of memory.
+#[tactic(auto, using(crate::proofs::Bodies::next_name, crate::proofs::Bodies::all_names))]
 fn names_of(alloc: Global, parameters: &[Parameter]) -> Result<Vec<String>, AllocError>
     ensures { IfOk result (λ names. map string_bytes names.items ≡ names_of (map plain_parameter (parameters_view parameters.now))) }
 {

@@ -29,20 +29,21 @@ pub enum NoValue {
     Fault(ValueFault),
 }
 
-/// The value of a name in sight.
+/// The value of a name, if it is in sight.
+#[tactic(auto, using(crate::proofs::Values::unknown, crate::proofs::Values::lent_value, crate::proofs::Values::no_value))]
 fn value_of<'a, L: Ledger>(
     walk: &'a Walk<L>,
     sight: &Sight<'_>,
     name: &str,
-) -> Result<ValueView<'a>, NoValue>
+) -> Option<ValueView<'a>>
     ensures { (g : List Name) → AreInSight sight.now g → found_value result ≡ look name.now (sighted (slots_in walk.now) g) }
 {
     let Some(slot) = sight.slot(name) else {
-        return Err(NoValue::Unknown);
+        return None;
     };
     match walk.value(slot) {
-        Some(value) => Ok(value),
-        None => Err(NoValue::Unknown),
+        Some(value) => Some(value),
+        None => None,
     }
 }
 
@@ -50,9 +51,10 @@ fn value_of<'a, L: Ledger>(
 fn variable<L: Ledger>(walk: &Walk<L>, sight: &Sight<'_>, name: &str) -> Result<i32, NoValue>
     ensures { (g : List Name) → AreInSight sight.now g → told result ≡ and_then (look name.now (sighted (slots_in walk.now) g)) number_in }
 {
-    match value_of(walk, sight, name)? {
-        ValueView::Number(number) => Ok(number),
-        _ => Err(NoValue::Kind),
+    match value_of(walk, sight, name) {
+        Some(ValueView::Number(number)) => Ok(number),
+        Some(ValueView::Array(_)) | Some(ValueView::Stack(_)) => Err(NoValue::Kind),
+        None => Err(NoValue::Unknown),
     }
 }
 
@@ -64,9 +66,10 @@ fn array<'a, L: Ledger>(
 ) -> Result<&'a [i32], NoValue>
     ensures { (g : List Name) → AreInSight sight.now g → found_array result ≡ and_then (look name.now (sighted (slots_in walk.now) g)) array_in }
 {
-    match value_of(walk, sight, name)? {
-        ValueView::Array(items) => Ok(items),
-        _ => Err(NoValue::Kind),
+    match value_of(walk, sight, name) {
+        Some(ValueView::Array(items)) => Ok(items),
+        Some(ValueView::Number(_)) | Some(ValueView::Stack(_)) => Err(NoValue::Kind),
+        None => Err(NoValue::Unknown),
     }
 }
 
@@ -78,9 +81,10 @@ fn stack<'a, L: Ledger>(
 ) -> Result<StackView<'a>, NoValue>
     ensures { (g : List Name) → AreInSight sight.now g → found_stack result ≡ and_then (look name.now (sighted (slots_in walk.now) g)) stack_in }
 {
-    match value_of(walk, sight, name)? {
-        ValueView::Stack(values) => Ok(values),
-        _ => Err(NoValue::Kind),
+    match value_of(walk, sight, name) {
+        Some(ValueView::Stack(values)) => Ok(values),
+        Some(ValueView::Number(_)) | Some(ValueView::Array(_)) => Err(NoValue::Kind),
+        None => Err(NoValue::Unknown),
     }
 }
 

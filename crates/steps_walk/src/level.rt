@@ -43,6 +43,7 @@ impl<L: Ledger> Walk<L> {
 
     /// Where the walk stands in the innermost code, for i as many as there are open calls; else where the i-th open call stands, the outermost being 0.
     /// None where the body was not met.
+    #[tactic(auto, using(crate::proofs::Levels::own_code, crate::proofs::Levels::called_code))]
     pub fn level(&self, i: usize) -> Option<Level>
         requires { i ≤ calls_in self.now }
         ensures here { IfSome result (λ level. i ≡ calls_in self.now → IsHere self.now level) }
@@ -67,6 +68,7 @@ impl<L: Ledger> Walk<L> {
     }
 
     /// Where the walk stands, and what stands there in the text.
+    #[tactic(auto, using(crate::proofs::Standing::tells))]
     pub fn stand(&self) -> Option<(Level, Spot)>
         ensures { IfSome result (TellsPlace self.now) }
     {
@@ -76,6 +78,7 @@ impl<L: Ledger> Walk<L> {
     }
 
     /// The place in the innermost code, for i as many as there are open calls; else that of the i-th open call in its caller's code.
+    #[tactic(auto, using(crate::proofs::Levels::place_of_call))]
     fn place_in(&self, i: usize) -> usize
         requires { i ≤ calls_in self.now }
         ensures here { i ≡ calls_in self.now →
@@ -94,6 +97,7 @@ impl<L: Ledger> Walk<L> {
 
     /// Whether the inverse runs in the code of the i-th open call's caller, and in the innermost for i as many as there are open calls: each call that is
     /// uncalled turns round.
+    #[tactic(auto, using(crate::proofs::Calls::turned_out, crate::proofs::Calls::same_out))]
     fn faces_inverse(&self, i: usize) -> bool
         requires { i ≤ calls_in self.now }
         ensures { result ≡ faces_inverse (way_at self.now i) }
@@ -110,6 +114,7 @@ impl<L: Ledger> Walk<L> {
     }
 
     /// The number of the procedure in whose body the i-th level stands; none for the outermost, which is the cell's own code.
+    #[tactic(auto, using(crate::proofs::Levels::called_at))]
     fn called(&self, i: usize) -> Option<usize>
         requires { i ≤ calls_in self.now }
         ensures { IsCalledAt self.now i result }

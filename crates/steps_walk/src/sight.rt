@@ -48,6 +48,7 @@ impl<'a> Base<'a> {
 }
 
 /// The slot of a declared name: its number.
+#[tactic(auto, using(crate::proofs::Sights::of_number))]
 fn declared_slot(names: &Names, name: &str) -> Option<usize>
     ensures { slot_of result ≡ slot_in (reverse names.now) name.now }
 {
@@ -56,6 +57,7 @@ fn declared_slot(names: &Names, name: &str) -> Option<usize>
 }
 
 /// The slot of a parameter: how many stand behind it.
+#[tactic(auto, using(crate::proofs::Sights::found_none))]
 fn parameter_slot(names: &[String], name: &str) -> Option<usize>
     ensures { slot_of result ≡ slot_in (map string_bytes names.now) name.now }
 {
@@ -83,13 +85,18 @@ impl<'a> Sight<'a> {
     ghost use Rattle.steps_walk.specs.Sights.{AreInSight};
 
     /// The slot of the newest of this name, which hides the others.
+    #[tactic(auto, using(crate::proofs::InSight::local, crate::proofs::InSight::few_locals, crate::proofs::InSight::under_locals))]
     pub fn slot(&self, name: &str) -> Option<usize>
         ensures { (g : List Name) → AreInSight self.now g → slot_of result ≡ slot_in g name.now }
     {
-        match self.table.local(self.at, name) {
-            Some(below) => self.base.len().checked_add(below),
-            None => self.base.slot(name),
+        let Some(below) = self.table.local(self.at, name) else {
+            return self.base.slot(name);
+        };
+        let base = self.base.len();
+        if below > usize::MAX - base {
+            return None;
         }
+        Some(base + below)
     }
 
     /// The names in sight, the newest first; the only error is want of memory.

@@ -92,6 +92,7 @@ impl<L: Ledger> Walk<L> {
     }
 
     /// Meets the bodies in which the open calls run, the innermost among them; an error for want of memory, after which some of them are met.
+    #[tactic(auto, using(crate::proofs::Moving::met_none, crate::proofs::Moving::met_both))]
     pub fn meet_calls(&mut self, alloc: Global) -> Result<(), AllocError>
         requires { IsWalking self.old }
         ensures { KeepsMet self.old self.new }
@@ -104,6 +105,7 @@ impl<L: Ledger> Walk<L> {
     }
 
     /// Meets the body in which the innermost call runs, if one is open; an error for want of memory.
+    #[tactic(auto, using(crate::proofs::Moving::met_none))]
     pub fn meet_here(&mut self, alloc: Global) -> Result<(), AllocError>
         requires { IsWalking self.old }
         ensures { KeepsMet self.old self.new }
@@ -117,6 +119,7 @@ impl<L: Ledger> Walk<L> {
     }
 
     /// Meets the body in effect of the name of a number; an error for want of memory.
+    #[tactic(auto, using(crate::proofs::Moving::met_none, crate::proofs::Meeting::met_pushed, crate::proofs::Meeting::met_kept))]
     fn meet(&mut self, alloc: Global, number: usize) -> Result<(), AllocError>
         requires { IsWalking self.old }
         ensures { KeepsMet self.old self.new }
@@ -131,6 +134,7 @@ impl<L: Ledger> Walk<L> {
     }
 
     /// What is to be kept of the body in effect of the name of a number; the only error is want of memory.
+    #[tactic(auto, using(crate::proofs::Meeting::made))]
     fn made_body(&self, alloc: Global, number: usize) -> Result<Option<Body>, AllocError>
         requires { IsWalking self.now }
         ensures { IfOk result (λ made. IfSome made (IsMet (runner_of self.now).entries (program_of self.now) (tree_of self.now))) }

@@ -1,0 +1,34 @@
+-- The codes and the places of levels.
+use Rattle.std.proofs.Common.{◌≡◌, ℕ, zero, suc, ◌-◌, ◌<◌, List, reverse, refl, ap, ◌∙◌, sym, subst, arith}
+use Rattle.std.specs.Prelude.{slice_get, Option, Some, None}
+use Rattle.janus_machine.specs.declared.cursor.Call.{Call}
+use Rattle.janus_machine.specs.declared.whereabouts.OpenCall.{OpenCall}
+use Rattle.janus_machine.specs.Cursor.{calls_of}
+use Rattle.janus_machine.specs.Whereabouts.{IsCallOf}
+use Rattle.steps_walk.specs.declared.body.Body.{Body}
+use Rattle.steps_walk.specs.declared.walk.Walk.{Walk}
+use Rattle.steps_walk.specs.Walk.{runner_of, bodies_of}
+use Rattle.steps_walk.specs.Standing.{IsCalledAt, IsCodeAt, IsPlaceOf}
+
+module _ {L : Type 0} (w : Walk L) where
+  pub own_code : (i : ℕ) → IsCalledAt w i None → IsCodeAt w i None
+  own_code zero e = refl
+  own_code (suc i) e = absurd e
+
+  pub called_code : (i number k : ℕ) → IsCalledAt w i (Some number) →
+      (body : Body) × (slice_get (bodies_of w) k ≡ Some body) × (body.number ≡ number) → IsCodeAt w i (Some k)
+  called_code zero number k e b = absurd (cc)
+  called_code (suc i) number k e b = record {
+    call = e.0;
+    there = e.1;
+    runs = record { body = b.0; there = b.1; number = b.2 ∙ e.2 };
+  }
+
+  pub called_at : (i : ℕ) (r : OpenCall) → 0 < i → IsCallOf (runner_of w).cursor (i - 1) r → IsCalledAt w i (Some r.procedure)
+  called_at zero r some h = absurd (omega arith)
+  called_at (suc i) r some h =
+      let z : suc i - 1 ≡ i = omega arith in
+      (h.call, subst (λ k. slice_get (reverse (calls_of (runner_of w).cursor)) k ≡ Some h.call) z h.there, h.procedure)
+
+  pub place_of_call : (i : ℕ) (r : OpenCall) → IsCallOf (runner_of w).cursor i r → IsPlaceOf w i r.place
+  place_of_call i r h = (h.call, h.there, h.place)
