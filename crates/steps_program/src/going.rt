@@ -119,6 +119,7 @@ fn arrived<L: Ledger>(
 }
 
 /// Takes a step on, and tells where that has led, if the command goes no further.
+#[tactic(auto, using(crate::proofs::Obeying::led))]
 fn step_on<L: Ledger>(
     alloc: Global,
     walk: &mut Walk<L>,

@@ -163,6 +163,7 @@ fn show<L: Ledger, W: Write>(
 }
 
 /// Takes steps on or back by a command, and tells where they lead.
+#[tactic(auto, using(crate::proofs::Obeying::led))]
 fn go<L: Ledger, W: Write>(
     alloc: Global,
     walk: &mut Walk<L>,
@@ -185,6 +186,7 @@ fn go<L: Ledger, W: Write>(
 }
 
 /// Takes so many steps on, and tells where they lead.
+#[tactic(auto, using(crate::proofs::Obeying::led_on))]
 fn step<L: Ledger, W: Write>(
     alloc: Global,
     walk: &mut Walk<L>,
@@ -201,6 +203,7 @@ fn step<L: Ledger, W: Write>(
 }
 
 /// Takes so many steps back, and tells where they lead.
+#[tactic(auto, using(crate::proofs::Obeying::led_back))]
 fn step_back<L: Ledger, W: Write>(
     alloc: Global,
     walk: &mut Walk<L>,

@@ -28,7 +28,7 @@ use Rattle.steps_walk.specs.Bodies.{plain, IsNewest, IsTextOf, IsDefinedIn, proc
 abbrev pub plains : List Procedure → List Proc
 plains ps = map plain_procedure (procedures_view ps)
 
-take_one : {A : Type 0} (xs : List A) (k : ℕ) (x : A) → k < length xs → get_or xs k x ≡ x → take (suc k) xs ≡ take k xs ++ x ∷ []
+pub take_one : {A : Type 0} (xs : List A) (k : ℕ) (x : A) → k < length xs → get_or xs k x ≡ x → take (suc k) xs ≡ take k xs ++ x ∷ []
 take_one [] k x l e = absurd (omega arith)
 take_one (y ∷ xs) zero x l e = ap (λ z. z ∷ []) e
 take_one (y ∷ xs) (suc k) x l e = ap (λ l. y ∷ l) (take_one xs k x (omega arith) e)

@@ -9,3 +9,4 @@ pub mod Calls
 pub mod Sights
 pub mod InSight
 pub mod Values
+pub mod Naming

@@ -10,3 +10,4 @@ pub mod Values
 pub use Rattle.kernel_runner.specs.Runner
 -- Of kernel_machine, given again.
 pub use Rattle.kernel_machine.specs.declared.progress
+pub use Rattle.kernel_runner.specs.declared.runner

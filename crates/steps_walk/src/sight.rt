@@ -1,5 +1,5 @@
 //! The names in sight with their values.
-ghost use Rattle.std.specs.Prelude.{◌≡◌, ◌≤◌, ◌<◌, List, length, reverse, slice_get, Some, IfSome, IfNone, map, string_bytes};
+ghost use Rattle.std.specs.Prelude.{◌≡◌, ◌≤◌, ◌<◌, List, length, reverse, slice_get, Some, IfSome, IfNone, IfOk, OnOk, ◌++◌, map, string_bytes};
 ghost use Rattle.janus_meaning.specs.Syntax.{Name};
 ghost use Rattle.janus_meaning.specs.World.{size_of, listed};
 ghost use Rattle.janus_slots.specs.Slots.{slot as slot_name, slot_in};
@@ -100,7 +100,9 @@ impl<'a> Sight<'a> {
     }
 
     /// The names in sight, the newest first; the only error is want of memory.
-    pub fn names(&self, alloc: Global) -> Result<Vec<&str>, AllocError> {
+    pub fn names(&self, alloc: Global) -> Result<Vec<&str>, AllocError>
+        ensures { IfOk result (λ names. (g : List Name) → AreInSight self.now g → map (λ name. name.now) names.items ≡ g) }
+    {
         let mut names = self.table.locals(alloc, self.at)?;
         match self.base {
             Base::Declared(declared) => add_declared(&mut names, declared)?,
@@ -111,7 +113,10 @@ impl<'a> Sight<'a> {
 }
 
 /// Adds declared names, the newest first; the only error is want of memory.
-fn add_declared<'a>(all: &mut Vec<&'a str>, names: &'a Names) -> Result<(), AllocError> {
+#[tactic(auto, using(crate::proofs::Naming::next_declared, crate::proofs::Naming::all_declared, crate::proofs::Naming::whole_declared))]
+fn add_declared<'a>(all: &mut Vec<&'a str>, names: &'a Names) -> Result<(), AllocError>
+    ensures { OnOk result (map (λ name. name.now) all.new.items ≡ map (λ name. name.now) all.old.items ++ reverse names.now) }
+{
     let mut left = names.len();
     while left > 0 {
         left -= 1;
@@ -121,7 +126,10 @@ fn add_declared<'a>(all: &mut Vec<&'a str>, names: &'a Names) -> Result<(), Allo
 }
 
 /// Adds the names of parameters; the only error is want of memory.
-fn add_parameters<'a>(all: &mut Vec<&'a str>, names: &'a [String]) -> Result<(), AllocError> {
+#[tactic(auto, using(crate::proofs::Naming::next_parameter, crate::proofs::Naming::all_parameters))]
+fn add_parameters<'a>(all: &mut Vec<&'a str>, names: &'a [String]) -> Result<(), AllocError>
+    ensures { OnOk result (map (λ name. name.now) all.new.items ≡ map (λ name. name.now) all.old.items ++ map string_bytes names.now) }
+{
     for i in 0..names.len() {
         all.push(names[i].as_str())?;
     }

@@ -30,16 +30,16 @@ impl<L: Ledger> Walk<L> {
     ghost use Rattle.steps_walk.specs.Bodies.{IsMet};
 
     /// A walk from where the open cell stands; the only error is want of memory.
-    pub fn of(alloc: Global, open: OpenCell<L>) -> Result<Walk<L>, AllocError>
-        requires { IsEntered open }
+    pub fn of(alloc: Global, entered: OpenCell<L>) -> Result<Walk<L>, AllocError>
+        requires { IsEntered entered }
         ensures walks { IfOk result IsWalking }
-        ensures runner { IfOk result (λ walk. runner_of walk ≡ open.runner) }
-        ensures program { IfOk result (λ walk. program_of walk ≡ open.program) }
+        ensures runner { IfOk result (λ walk. runner_of walk ≡ entered.runner) }
+        ensures program { IfOk result (λ walk. program_of walk ≡ entered.program) }
     {
-        open.runner.entries.one_number_law();
-        let block = Table::of(alloc, &open.program.cell.statements)?;
+        entered.runner.entries.one_number_law();
+        let block = Table::of(alloc, &entered.program.cell.statements)?;
         Ok(Walk {
-            open,
+            open: entered,
             block,
             met: Vec::new(alloc),
         })
