@@ -43,8 +43,8 @@ pub(crate) enum Goal<'a> {
 /// The value of a name in sight.
 pub(crate) fn value_of<'a, L: Ledger>(walk: &'a Walk<L>, name: &str) -> Option<ValueView<'a>> {
     let level = walk.level(walk.open_calls())?;
-    let slot = walk.sight(&level)?.slot(name)?;
-    walk.value(slot)
+    let sight = walk.sight(&level)?;
+    walk.value(sight.slot(name)?)
 }
 
 /// Whether an expression over the names in sight holds.

@@ -5,23 +5,21 @@ use Rattle.janus_machine.specs.declared.cursor.Call.{Call}
 use Rattle.janus_machine.specs.declared.whereabouts.OpenCall.{OpenCall}
 use Rattle.janus_machine.specs.Cursor.{calls_of}
 use Rattle.janus_machine.specs.Whereabouts.{IsCallOf}
-use Rattle.steps_walk.specs.declared.body.Body.{Body}
 use Rattle.steps_walk.specs.declared.walk.Walk.{Walk}
-use Rattle.steps_walk.specs.Walk.{runner_of, bodies_of}
-use Rattle.steps_walk.specs.Standing.{IsCalledAt, IsCodeAt, IsPlaceOf}
+use Rattle.steps_walk.specs.Walk.{runner_of}
+use Rattle.steps_walk.specs.Standing.{IsBodyAt, IsCalledAt, IsCodeAt, IsPlaceOf}
 
 module _ {L : Type 0} (w : Walk L) where
   pub own_code : (i : ℕ) → IsCalledAt w i None → IsCodeAt w i None
   own_code zero e = refl
   own_code (suc i) e = absurd e
 
-  pub called_code : (i number k : ℕ) → IsCalledAt w i (Some number) →
-      (body : Body) × (slice_get (bodies_of w) k ≡ Some body) × (body.number ≡ number) → IsCodeAt w i (Some k)
+  pub called_code : (i number k : ℕ) → IsCalledAt w i (Some number) → IsBodyAt w number k → IsCodeAt w i (Some k)
   called_code zero number k e b = absurd (cc)
   called_code (suc i) number k e b = record {
     call = e.0;
     there = e.1;
-    runs = record { body = b.0; there = b.1; number = b.2 ∙ e.2 };
+    runs = record { body = b.body; there = b.there; number = b.number ∙ e.2 };
   }
 
   pub called_at : (i : ℕ) (r : OpenCall) → 0 < i → IsCallOf (runner_of w).cursor (i - 1) r → IsCalledAt w i (Some r.procedure)

@@ -110,7 +110,9 @@ number_from_is (h ∷ es) k (suc n) f e first =
     ∙ number_from_is es (suc k) n f e (λ j l. first (suc j) (omega arith)) ∙ ap slot z
 
 number_is : (es : List Name) (n : ℕ) (f : Name) → IsNumbered es n f → HaveOneNumber es → number_in es f ≡ slot n
-number_is es n f e one = number_from_is es 0 n f e (λ j l s. absurd (let same : j ≡ n = one j n f s e in omega arith))
+number_is es n f e one =
+    let z : 0 + n ≡ n = omega arith in
+    number_from_is es 0 n f e (λ j l s. let same : j ≡ n = one j n f s e in omega (arith, l, same)) ∙ ap slot z
 
 -- the first of the open calls is the last in the other order
 last_of : (c : Call) (cs : List Call) → slice_get (reverse (c ∷ cs)) (length cs) ≡ Some c

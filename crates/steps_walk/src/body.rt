@@ -75,6 +75,7 @@ fn name_of(parameter: &Parameter) -> &str
 }
 
 /// The newest of the procedures of a cell that has a name: the last one.
+#[tactic(auto, using(crate::proofs::Bodies::same_up_to_all, crate::proofs::Bodies::found, crate::proofs::Bodies::another))]
 fn newest<'a>(procedures: &'a [Procedure], name: &str) -> Option<&'a Procedure>
     ensures some { IfSome result (λ procedure. IsNewest procedures.now name.now procedure.now) }
     ensures none { IfNone result ((rest : List Proc) →
@@ -93,6 +94,7 @@ fn newest<'a>(procedures: &'a [Procedure], name: &str) -> Option<&'a Procedure>
 
 /// The procedure which a call of this name runs where a cell is open over the position of a tree, and the node of the cell that defines it; none of the
 /// open cell.
+#[tactic(auto, using(crate::proofs::Bodies::found_here, crate::proofs::Bodies::none_here, crate::proofs::Bodies::found_there, crate::proofs::Bodies::none_there))]
 pub(crate) fn text_of<'a>(
     program: &'a Program,
     tree: &'a HistoryTree,

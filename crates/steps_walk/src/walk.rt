@@ -1,7 +1,6 @@
 //! The open cell, and its steps.
 ghost use Rattle.std.specs.Prelude.{◌≡◌, ◌+◌, false, IfOk};
 ghost use Rattle.janus_meaning.specs.Writes.{IsWritten};
-ghost use Rattle.janus_syntax.specs.Tree.{block_view};
 ghost use Rattle.kernel_machine.specs.StepsOfSlices.{steps_on, steps_back};
 ghost use Rattle.kernel_runner.specs.Runner.{Runs, count_of, writes_of, steps_of};
 
@@ -24,10 +23,11 @@ pub struct Walk<L: Ledger> {
 }
 
 impl<L: Ledger> Walk<L> {
-    ghost use Rattle.std.specs.Prelude.{IfSome, IfNone, ◌<◌, Some, slice_get, length};
+    ghost use Rattle.std.specs.Prelude.{IfSome};
     ghost use Rattle.steps_walk.specs.Walking.{StepsBack};
-    ghost use Rattle.steps_walk.specs.Walk.{runner_of, program_of, tree_of, bodies_of, IsEntered, IsWalking, Moves, KeepsMet};
+    ghost use Rattle.steps_walk.specs.Walk.{runner_of, program_of, tree_of, IsEntered, IsWalking, Moves, KeepsMet};
     ghost use Rattle.steps_walk.specs.Bodies.{IsMet};
+    ghost use Rattle.steps_walk.specs.Standing.{IsBodyAt};
 
     /// A walk from where the open cell stands; the only error is want of memory.
     pub fn of(alloc: Global, entered: OpenCell<L>) -> Result<Walk<L>, AllocError>
@@ -81,7 +81,7 @@ impl<L: Ledger> Walk<L> {
 
     /// The index of the body that was met of the name of a number.
     pub(crate) fn body_of(&self, number: usize) -> Option<usize>
-        ensures { IfSome result (λ k. (body : Body) × (slice_get (bodies_of self.now) k ≡ Some body) × (body.number ≡ number)) }
+        ensures { IfSome result (IsBodyAt self.now number) }
     {
         for k in 0..self.met.len() {
             if self.met[k].number == number {
