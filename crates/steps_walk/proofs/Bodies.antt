@@ -1,7 +1,8 @@
 -- Which procedure a call runs.
 use Rattle.std.proofs.Common.{◌≡◌, ℕ, zero, suc, ◌+◌, ◌<◌, ◌≤◌, List, [], ◌∷◌, ◌++◌, length, map, take, drop, get_or, Bool, true, false, refl, ap, ◌∙◌, sym}
-use Rattle.std.proofs.Common.{arith, add-one}
-use Rattle.std.specs.Prelude.{Contains, Some, None}
+use Rattle.std.proofs.Common.{◌-◌, subst, arith, add-one}
+use Rattle.std.specs.Prelude.{Contains, Some, None, string_bytes}
+use Rattle.std.proofs.lemmas.List.Elements.{Contains-get_or}
 use Rattle.std.proofs.lemmas.List.{map-append, append_assoc, append-nil, drop_all}
 use Rattle.std.proofs.Math.Seq.{take-length, drop-cons}
 use Rattle.janus_meaning.specs.Fault.{Fine}
@@ -82,6 +83,23 @@ module _ (ps : List Procedure) (name : Name) where
     another d = λ rest.
         with_last rest
         ∙ ap (λ b. pick b (plain p) (find name (define (plains (take k ps)) rest))) (false_unless name (plain p).name d)
+
+-- the last of those that are left has the name, or not
+module _ (ps : List Procedure) (name : Name) (behind : ℕ) (p : Procedure) (some : 0 < behind) (low : behind ≤ length ps) (is : p ≡ get_or ps (behind - 1) p)
+    (h : SameUpTo ps name behind) where
+  before : SameUpTo ps name (suc (behind - 1))
+  before = let z : behind ≡ suc (behind - 1) = omega (arith, some) in subst (SameUpTo ps name) z h
+
+  within : behind - 1 < length ps
+  within = omega (arith, some, low)
+
+  pub found_last : string_bytes p.name.text ≡ name → IsNewest ps name p
+  found_last e =
+      found ps name (behind - 1) p within (sym is) before
+      (subst (Contains ps) (sym is) (Contains-get_or ps (behind - 1) p within)) (sym e)
+
+  pub not_last : ¬ (string_bytes p.name.text ≡ name) → SameUpTo ps name (behind - 1)
+  not_last d = another ps name (behind - 1) p within (sym is) before (λ e. d (sym e))
 
 -- ---- along the path
 

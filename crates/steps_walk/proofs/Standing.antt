@@ -167,10 +167,10 @@ module _ {L : Type 0} (w : Walk L) (walking : IsWalking w) where
       (tells : TellsSpot t level.at spot) where
     called_in : (k : ℕ) (c : Call) (cs : List Call) → calls_of (runner_of w).cursor ≡ c ∷ cs → level.body ≡ Some k →
         Calls w (length cs) k → IsThereInCall w level spot.part spot.span
-    called_in k c cs open body calls =
+    called_in k c cs opened body calls =
         let last : calls.call ≡ c =
         ap (λ (o : Option Call). unwrap_or o c)
-        (sym calls.there ∙ ap (λ (l : List Call). slice_get (reverse l) (length cs)) open ∙ last_of c cs) in
+        (sym calls.there ∙ ap (λ (l : List Call). slice_get (reverse l) (length cs)) opened ∙ last_of c cs) in
         let b : Body = calls.runs.body in
         let within = slice_get_within (bodies_of w) k b calls.runs.there in
         let m : IsMet entries (program_of w) (tree_of w) b =
@@ -188,10 +188,10 @@ module _ {L : Type 0} (w : Walk L) (walking : IsWalking w) where
         let table : IsTableOf t (text_body m.procedure) =
         subst (λ (x : Table). IsTableOf x (text_body m.procedure)) (sym (of_body.2 ∙ ap (λ (x : Body). x.table) same)) m.is.table in
         let book : book_of bodies (program_of w).book (runner_of w).cursor ≡ body_of there.0 =
-        ap (book_in bodies (program_of w).book) open ∙ ap (book_or (program_of w).book) there.1 in
+        ap (book_in bodies (program_of w).book) opened ∙ ap (book_or (program_of w).book) there.1 in
         record {
           number = c.procedure;
-          call = subst (λ (l : List Call). IsInnermostOf l c.procedure) (sym open) refl;
+          call = subst (λ (l : List Call). IsInnermostOf l c.procedure) (sym opened) refl;
           procedure = m.procedure;
           in_effect = in_effect;
           place = here.written.place

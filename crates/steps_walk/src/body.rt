@@ -75,7 +75,6 @@ fn name_of(parameter: &Parameter) -> &str
 }
 
 /// The newest of the procedures of a cell that has a name: the last one.
-#[tactic(auto, using(crate::proofs::Bodies::same_up_to_all, crate::proofs::Bodies::found, crate::proofs::Bodies::another))]
 fn newest<'a>(procedures: &'a [Procedure], name: &str) -> Option<&'a Procedure>
     ensures some { IfSome result (λ procedure. IsNewest procedures.now name.now procedure.now) }
     ensures none { IfNone result ((rest : List Proc) →
@@ -84,8 +83,9 @@ fn newest<'a>(procedures: &'a [Procedure], name: &str) -> Option<&'a Procedure>
     let mut behind = procedures.len();
     while behind > 0 {
         let last = behind - 1;
-        if procedures[last].name.text.as_str() == name {
-            return Some(&procedures[last]);
+        let procedure = &procedures[last];
+        if procedure.name.text.as_str() == name {
+            return Some(procedure);
         }
         behind = last;
     }

@@ -173,11 +173,7 @@ fn either(left: Result<i32, NoValue>, right: Result<i32, NoValue>) -> Result<i32
 }
 
 /// The number of an expression over the names in sight, or why it has none.
-pub fn number_of<L: Ledger>(
-    walk: &Walk<L>,
-    sight: &Sight<'_>,
-    exp: &Exp,
-) -> Result<i32, NoValue>
+pub fn number_of<L: Ledger>(walk: &Walk<L>, sight: &Sight<'_>, exp: &Exp) -> Result<i32, NoValue>
     ensures { (g : List Name) → AreInSight sight.now g → told result ≡ value_of_exp (exp_of exp.now) (sighted (slots_in walk.now) g) }
 {
     match exp {
@@ -196,9 +192,6 @@ pub fn number_of<L: Ledger>(
             number_of(walk, sight, right),
         ),
         Exp::And(left, right) => both(number_of(walk, sight, left), number_of(walk, sight, right)),
-        Exp::Or(left, right) => either(
-            number_of(walk, sight, left),
-            number_of(walk, sight, right),
-        ),
+        Exp::Or(left, right) => either(number_of(walk, sight, left), number_of(walk, sight, right)),
     }
 }
