@@ -3,11 +3,12 @@ use Rattle.std.proofs.Common.{◌≡◌, ℕ, zero, suc, ◌-◌, ◌<◌, List,
 use Rattle.std.specs.Prelude.{slice_get, Option, Some, None}
 use Rattle.janus_machine.specs.declared.cursor.Call.{Call}
 use Rattle.janus_machine.specs.declared.whereabouts.OpenCall.{OpenCall}
-use Rattle.janus_machine.specs.Cursor.{calls_of}
-use Rattle.janus_machine.specs.Whereabouts.{IsCallOf}
+use Rattle.janus_machine.specs.Cursor.{direction_of, calls_of}
+use Rattle.janus_machine.specs.Whereabouts.{IsCallOf, IsWrittenAt, faces_inverse}
+use Rattle.steps_walk.specs.declared.level.Level.{Level}
 use Rattle.steps_walk.specs.declared.walk.Walk.{Walk}
-use Rattle.steps_walk.specs.Walk.{runner_of}
-use Rattle.steps_walk.specs.Standing.{IsBodyAt, IsCalledAt, IsCodeAt, IsPlaceOf}
+use Rattle.steps_walk.specs.Walk.{runner_of, program_of, calls_in}
+use Rattle.steps_walk.specs.Standing.{IsBodyAt, IsCalledAt, IsCodeAt, IsPlaceOf, IsHere, way_outside, way_at}
 
 module _ {L : Type 0} (w : Walk L) where
   pub own_code : (i : ℕ) → IsCalledAt w i None → IsCodeAt w i None
@@ -19,7 +20,7 @@ module _ {L : Type 0} (w : Walk L) where
   called_code (suc i) number k e b = record {
     call = e.0;
     there = e.1;
-    runs = record { body = b.body; there = b.there; number = b.number ∙ e.2 };
+    runs = record { body = b.body; there = b.there; named = b.named ∙ e.2 };
   }
 
   pub called_at : (i : ℕ) (r : OpenCall) → 0 < i → IsCallOf (runner_of w).cursor (i - 1) r → IsCalledAt w i (Some r.procedure)
@@ -30,3 +31,14 @@ module _ {L : Type 0} (w : Walk L) where
 
   pub place_of_call : (i : ℕ) (r : OpenCall) → IsCallOf (runner_of w).cursor i r → IsPlaceOf w i r.place
   place_of_call i r h = (h.call, h.there, h.place)
+
+  -- the innermost level faces as the cursor does
+  pub here_at : (i : ℕ) (level : Level) → i ≡ calls_in w → IsWrittenAt (runner_of w).procedures (program_of w).book (runner_of w).cursor level.at →
+      level.inverse ≡ faces_inverse (way_at w i) → IsHere w level
+  here_at i level e written faces =
+      let z : calls_in w - i ≡ 0 = omega (arith, e) in
+      record {
+        written = written;
+        faces = faces
+            ∙ ap (λ k. faces_inverse (way_outside (direction_of (runner_of w).cursor) (calls_of (runner_of w).cursor) k)) z;
+      }

@@ -176,7 +176,7 @@ module _ {L : Type 0} (w : Walk L) (walking : IsWalking w) where
         let m : IsMet entries (program_of w) (tree_of w) b =
         subst (IsMet entries (program_of w) (tree_of w)) (get_or_from_slice_get (bodies_of w) k b b calls.runs.there)
         (All-get_or (IsMet entries (program_of w) (tree_of w)) (bodies_of w) k b within walking.met) in
-        let number : b.number ≡ c.procedure = calls.runs.number ∙ ap (λ (x : Call). x.procedure) last in
+        let number : b.number ≡ c.procedure = calls.runs.named ∙ ap (λ (x : Call). x.procedure) last in
         let at_node : b.node ≡ level.node =
         sym (node ∙ ap (node_at w) body ∙ ap node_in calls.runs.there) in
         let in_effect : IsInEffect entries (program_of w) (tree_of w) c.procedure level.node m.procedure =

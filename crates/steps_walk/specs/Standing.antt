@@ -32,7 +32,7 @@ use Rattle.steps_walk.specs.Where.{IsThere}
 pub record IsBodyAt {L : Type 0} (w : Walk L) (number k : ℕ) : Type 0 where
   pub body : Body
   pub there : slice_get (bodies_of w) k ≡ Some body
-  pub number : body.number ≡ number
+  pub named : body.number ≡ number
 
 -- the i-th open call, the outermost being 0, runs this body
 pub record Calls {L : Type 0} (w : Walk L) (i k : ℕ) : Type 0 where

@@ -43,7 +43,7 @@ impl<L: Ledger> Walk<L> {
 
     /// Where the walk stands in the innermost code, for i as many as there are open calls; else where the i-th open call stands, the outermost being 0.
     /// None where the body was not met.
-    #[tactic(auto, using(crate::proofs::Levels::own_code, crate::proofs::Levels::called_code))]
+    #[tactic(auto, using(crate::proofs::Levels::own_code, crate::proofs::Levels::called_code, crate::proofs::Levels::here_at))]
     pub fn level(&self, i: usize) -> Option<Level>
         requires { i ≤ calls_in self.now }
         ensures here { IfSome result (λ level. i ≡ calls_in self.now → IsHere self.now level) }

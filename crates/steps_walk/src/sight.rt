@@ -28,7 +28,7 @@ impl<'a> Base<'a> {
 
     /// How many these are.
     fn len(self) -> usize
-        ensures { result ≡ length (base_of self) }
+        ensures { result ≡ length (base_of self.entry) }
     {
         match self {
             Base::Declared(names) => names.len(),
@@ -38,7 +38,7 @@ impl<'a> Base<'a> {
 
     /// The slot of the newest of a name.
     fn slot(self, name: &str) -> Option<usize>
-        ensures { slot_of result ≡ slot_in (base_of self) name.now }
+        ensures { slot_of result ≡ slot_in (base_of self.entry) name.now }
     {
         match self {
             Base::Declared(names) => declared_slot(names, name),
