@@ -3,7 +3,7 @@ use Rattle.janus_machine.specs.Cursor.{direction_of, calls_of}
 use Rattle.janus_machine.specs.Whereabouts.{faces_inverse}
 use Rattle.steps_walk.specs.Standing.{way_outside}
 use Rattle.steps_walk.specs.Walk.{runner_of, calls_in}
-use Rattle.steps_walk.proofs.level.Walk.faces_inverse.Given as goal
+use Rattle.steps_walk.proofs.walk.Walk.faces_inverse.Given as goal
 
 -- so runs the code so many levels outside the innermost
 abbrev pub invariant-loop-left : goal.invariant-loop-left
