@@ -1,16 +1,25 @@
 -- The codes and the places of levels.
-use Rattle.std.proofs.Common.{◌≡◌, ℕ, zero, suc, ◌-◌, ◌<◌, List, reverse, refl, ap, ◌∙◌, sym, subst, arith}
+use Rattle.std.proofs.Common.{◌≡◌, ℕ, zero, suc, ◌-◌, ◌<◌, List, length, get_or, reverse, refl, ap, ◌∙◌, sym, subst, arith}
 use Rattle.std.specs.Prelude.{slice_get, Option, Some, None}
+use Rattle.std.proofs.lemmas.Option.{slice_get-get_or}
 use Rattle.janus_machine.specs.declared.cursor.Call.{Call}
 use Rattle.janus_machine.specs.declared.whereabouts.OpenCall.{OpenCall}
 use Rattle.janus_machine.specs.Cursor.{direction_of, calls_of}
 use Rattle.janus_machine.specs.Whereabouts.{IsCallOf, IsWrittenAt, faces_inverse}
+use Rattle.steps_walk.specs.declared.body.Body.{Body}
 use Rattle.steps_walk.specs.declared.level.Level.{Level}
 use Rattle.steps_walk.specs.declared.walk.Walk.{Walk}
-use Rattle.steps_walk.specs.Walk.{runner_of, program_of, calls_in}
+use Rattle.steps_walk.specs.Walk.{runner_of, program_of, bodies_of, calls_in}
 use Rattle.steps_walk.specs.Standing.{IsBodyAt, IsCalledAt, IsCodeAt, IsPlaceOf, IsHere, way_outside, way_at}
 
 module _ {L : Type 0} (w : Walk L) where
+  pub body_there : (number k : ℕ) (b : Body) → b ≡ get_or (bodies_of w) k b → k < length (bodies_of w) → b.number ≡ number → IsBodyAt w number k
+  body_there number k b is within named = record {
+    body = b;
+    there = slice_get-get_or (bodies_of w) k b within ∙ ap Some (sym is);
+    named = named;
+  }
+
   pub own_code : (i : ℕ) → IsCalledAt w i None → IsCodeAt w i None
   own_code zero e = refl
   own_code (suc i) e = absurd e

@@ -50,7 +50,7 @@ use Rattle.steps_walk.specs.declared.walk.Walk.{Walk}
 use Rattle.steps_walk.specs.Bodies.{plain, text_body, parameters_of, procedures_over, IsInEffect, IsMet}
 use Rattle.steps_walk.specs.Where.{IsThere, names_at, text_block}
 use Rattle.steps_walk.specs.Walk.{runner_of, program_of, tree_of, block_of, bodies_of, calls_in, HasTable, IsWalking, is_outside}
-use Rattle.steps_walk.specs.Standing.{IsHere, IsCodeAt, IsTableAt, IsThereInCall, IsInnermostOf, Calls, TellsSpot, TellsPlace, node_in, node_at}
+use Rattle.steps_walk.specs.Standing.{IsHere, IsCodeAt, IsTableAt, IsTableIn, IsThereInCall, IsInnermostOf, Calls, TellsSpot, TellsPlace, node_in, node_at}
 use Rattle.steps_walk.proofs.Bodies.{false_unless}
 
 no_call : (cs : List Call) → are_no_calls cs ≡ true → cs ≡ []
@@ -184,9 +184,8 @@ module _ {L : Type 0} (w : Walk L) (walking : IsWalking w) where
         (subst (λ (o : Option ℕ). IsInEffect entries (program_of w) (tree_of w) b.number o m.procedure) at_node m.in_effect) in
         let there = in_body c.procedure level.node m.procedure in_effect in
         let of_body = subst (λ (o : Option ℕ). IsTableAt w o t) body of in
-        let same : of_body.0 ≡ b = ap (λ (o : Option Body). unwrap_or o b) (sym of_body.1 ∙ calls.runs.there) in
-        let table : IsTableOf t (text_body m.procedure) =
-        subst (λ (x : Table). IsTableOf x (text_body m.procedure)) (sym (of_body.2 ∙ ap (λ (x : Body). x.table) same)) m.is.table in
+        let same : t ≡ b.table = subst (λ (o : Option Body). IsTableIn o t) calls.runs.there of_body in
+        let table : IsTableOf t (text_body m.procedure) = subst (λ (x : Table). IsTableOf x (text_body m.procedure)) (sym same) m.is.table in
         let book : book_of bodies (program_of w).book (runner_of w).cursor ≡ body_of there.0 =
         ap (book_in bodies (program_of w).book) opened ∙ ap (book_or (program_of w).book) there.1 in
         record {

@@ -62,14 +62,22 @@ node_at w None = None
 node_at w (Some k) = node_in (slice_get (bodies_of w) k)
 
 -- the name of the procedure of that body
+abbrev pub IsNameIn : List Name → Option Body → Name → Type 0
+IsNameIn entries None name = ⊥
+IsNameIn entries (Some body) name = IsNumbered entries body.number name
+
 abbrev pub IsNameAt : {L : Type 0} → Walk L → Option ℕ → Name → Type 0
 IsNameAt w None name = ⊥
-IsNameAt w (Some k) name = (body : Body) × (slice_get (bodies_of w) k ≡ Some body) × IsNumbered (runner_of w).entries body.number name
+IsNameAt w (Some k) name = IsNameIn (runner_of w).entries (slice_get (bodies_of w) k) name
 
 -- the table of that code
+abbrev pub IsTableIn : Option Body → Table → Type 0
+IsTableIn None t = ⊥
+IsTableIn (Some body) t = t ≡ body.table
+
 abbrev pub IsTableAt : {L : Type 0} → Walk L → Option ℕ → Table → Type 0
 IsTableAt w None t = t ≡ block_of w
-IsTableAt w (Some k) t = (body : Body) × (slice_get (bodies_of w) k ≡ Some body) × (t ≡ body.table)
+IsTableAt w (Some k) t = IsTableIn (slice_get (bodies_of w) k) t
 
 -- what stands at a place of the block that a table is of
 abbrev pub TellsSpot : Table → ℕ → Spot → Type 0

@@ -156,8 +156,9 @@ fn combined(
 fn both(left: Result<i32, NoValue>, right: Result<i32, NoValue>) -> Result<i32, NoValue>
     ensures { told result ≡ and_then (told left) (λ a. both_of (nonzero a) (told right)) }
 {
-    if !holds(left?) {
-        return Ok(0);
+    let left = left?;
+    if !holds(left) {
+        return Ok(bit_of(false));
     }
     Ok(bit_of(holds(right?)))
 }
@@ -166,8 +167,9 @@ fn both(left: Result<i32, NoValue>, right: Result<i32, NoValue>) -> Result<i32, 
 fn either(left: Result<i32, NoValue>, right: Result<i32, NoValue>) -> Result<i32, NoValue>
     ensures { told result ≡ and_then (told left) (λ a. either_of (nonzero a) (told right)) }
 {
-    if holds(left?) {
-        return Ok(1);
+    let left = left?;
+    if holds(left) {
+        return Ok(bit_of(true));
     }
     Ok(bit_of(holds(right?)))
 }

@@ -139,7 +139,9 @@ impl<L: Ledger> Walk<L> {
     pub fn procedure_name(&self, level: &Level) -> Option<&str>
         ensures { IfSome result (λ name. IsNameAt self.now level.now.body name.now) }
     {
-        let body = self.met.get(level.body?)?;
+        let Some(body) = self.met.get(level.body?) else {
+            return None;
+        };
         if body.number >= self.open.runner.entries.len() {
             return None;
         }

@@ -117,10 +117,8 @@ impl<'a> Sight<'a> {
 fn add_declared<'a>(all: &mut Vec<&'a str>, names: &'a Names) -> Result<(), AllocError>
     ensures { OnOk result (map (λ name. name.now) all.new.items ≡ map (λ name. name.now) all.old.items ++ reverse names.now) }
 {
-    let mut left = names.len();
-    while left > 0 {
-        left -= 1;
-        all.push(names.name(left))?;
+    for i in 0..names.len() {
+        all.push(names.name(names.len() - 1 - i))?;
     }
     Ok(())
 }

@@ -9,7 +9,10 @@ returns-in-Some c =
     found_here c.args.program.now c.args.tree.now c.args.name.now c.in-Some.procedure.now (rw c.deref.ensures.value at c.in-Some.ensures.some)
 
 pub loop-at-init : goal.loop-at-init
-loop-at-init c =
-    let size = count_of_nodes c.args.tree.now in
-    let known = c.requires.position in
-    (omega (arith, size, known), none_here c.args.program.now c.args.tree.now c.args.name.now (rw c.deref.ensures.value at c.newest.ensures.none))
+loop-at-init c = ?
+
+pub returns-in-Some-newest : goal.returns-in-Some-newest
+returns-in-Some-newest c = ?
+
+pub loop-at-preserved : goal.loop-at-preserved
+loop-at-preserved c = ?
