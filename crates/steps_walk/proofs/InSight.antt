@@ -28,3 +28,7 @@ module _ (s : Sight) (x : Name) (g : List Name) (h : AreInSight s g) where
       slot_of r ≡ slot_in (base_of s.base) x → slot_of r ≡ slot_in g x
   under_locals r none e =
       e ∙ slot_under h.locals (base_of s.base) x (none h.locals h.there) ∙ ap (λ l. slot_in l x) (sym h.names)
+
+-- those of the locals and behind them those of the whole code
+pub listed : (s : Sight) (g : List Name) (h : AreInSight s g) (told all : List Name) → told ≡ h.locals → all ≡ told ++ base_of s.base → all ≡ g
+listed s g h told all e more = more ∙ ap (λ l. l ++ base_of s.base) e ∙ sym h.names

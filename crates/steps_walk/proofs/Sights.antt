@@ -83,7 +83,7 @@ module _ {X : Type 0} (f : X → Name) (xs : List X) (n : Name) where
 slot_of_number : (g : List Name) (x : Name) (k : ℕ) → slice_get (reverse g) k ≡ Some x → ((j : ℕ) → slice_get (reverse g) j ≡ Some x → j ≡ k) →
     slot_in g x ≡ slot k
 slot_of_number [] x k e one = absurd (let l = slice_get_within {A = Name} [] k x e in omega arith)
-slot_of_number (y ∷ g) x k e one = by (same_name x y) refl
+slot_of_number (y ∷ g) x k e one = by (slot_of_number g x k) (same_name x y) refl
   where
     all : List Name
     all = reverse g ++ y ∷ []
@@ -109,16 +109,17 @@ slot_of_number (y ∷ g) x k e one = by (same_name x y) refl
               absurd (d (ap (λ (o : Option Name). unwrap_or o x) (sym at))))
         ]
 
-    by : (b : Bool) → same_name x y ≡ b → slot_in (y ∷ g) x ≡ slot k
-    by true t =
+    by : (slice_get (reverse g) k ≡ Some x → ((j : ℕ) → slice_get (reverse g) j ≡ Some x → j ≡ k) → slot_in g x ≡ slot k) →
+        (b : Bool) → same_name x y ≡ b → slot_in (y ∷ g) x ≡ slot k
+    by left true t =
         let same : x ≡ y = same_name_true x y t in
         ap (λ b. cond b (slot (length g)) (slot_in g x)) t
         ∙ ap slot (there (length g) (get_last g y ∙ ap Some (sym same)))
-    by false t =
+    by left false t =
         let d : ¬ (x ≡ y) = λ same. differ (sym t ∙ ap (same_name x) (sym same) ∙ same_name_self x) in
         let low = below d in
         ap (λ b. cond b (slot (length g)) (slot_in g x)) t
-        ∙ slot_of_number g x k (sym (get_left (reverse g) (y ∷ []) k low) ∙ here)
+        ∙ left (sym (get_left (reverse g) (y ∷ []) k low) ∙ here)
         (λ j h. there j (get_left (reverse g) (y ∷ []) j (slice_get_within (reverse g) j x h) ∙ h))
       where
         differ : false ≡ true → ⊥
@@ -126,14 +127,14 @@ slot_of_number (y ∷ g) x k e one = by (same_name x y) refl
 
 slot_of_none : (g : List Name) (x : Name) → ((j : ℕ) → slice_get (reverse g) j ≡ Some x → ⊥) → slot_in g x ≡ no_slot
 slot_of_none [] x none = refl
-slot_of_none (y ∷ g) x none = by (same_name x y) refl
+slot_of_none (y ∷ g) x none = by (slot_of_none g x) (same_name x y) refl
   where
-    by : (b : Bool) → same_name x y ≡ b → slot_in (y ∷ g) x ≡ no_slot
-    by true t =
+    by : (((j : ℕ) → slice_get (reverse g) j ≡ Some x → ⊥) → slot_in g x ≡ no_slot) → (b : Bool) → same_name x y ≡ b → slot_in (y ∷ g) x ≡ no_slot
+    by left true t =
         absurd (none (length g) (ap (λ l. slice_get l (length g)) (turned y g) ∙ get_last g y ∙ ap Some (sym (same_name_true x y t))))
-    by false t =
+    by left false t =
         ap (λ b. cond b (slot (length g)) (slot_in g x)) t
-        ∙ slot_of_none g x (λ j h. none j
+        ∙ left (λ j h. none j
         (ap (λ l. slice_get l j) (turned y g) ∙ get_left (reverse g) (y ∷ []) j (slice_get_within (reverse g) j x h) ∙ h))
 
 pub slot_in_table : (names : List Name) (x : Name) (k : ℕ) → IsNumbered names k x → HaveOneNumber names → slot k ≡ slot_in (reverse names) x
@@ -156,37 +157,38 @@ no_number n e = absurd (cc)
 
 pub slot_above : (xs g : List Name) (x : Name) (b : ℕ) → slot b ≡ slot_in xs x → slot (length g + b) ≡ slot_in (xs ++ g) x
 slot_above [] g x b e = no_number b e
-slot_above (y ∷ xs) g x b e = by (same_name x y) refl
+slot_above (y ∷ xs) g x b e = by (slot_above xs g x b) (same_name x y) refl
   where
-    by : (t : Bool) → same_name x y ≡ t → slot (length g + b) ≡ slot_in ((y ∷ xs) ++ g) x
-    by true t =
+    by : (slot b ≡ slot_in xs x → slot (length g + b) ≡ slot_in (xs ++ g) x) → (t : Bool) → same_name x y ≡ t →
+        slot (length g + b) ≡ slot_in ((y ∷ xs) ++ g) x
+    by left true t =
         let same : b ≡ length xs = slot_number b (length xs) (e ∙ ap (λ v. cond v (slot (length xs)) (slot_in xs x)) t) in
         let size : length (xs ++ g) ≡ length xs + length g = length-append xs g in
         let sum : length g + b ≡ length (xs ++ g) = omega (arith, same, size) in
         ap slot sum ∙ sym (ap (λ v. cond v (slot (length (xs ++ g))) (slot_in (xs ++ g) x)) t)
-    by false t =
-        slot_above xs g x b (e ∙ ap (λ v. cond v (slot (length xs)) (slot_in xs x)) t)
+    by left false t =
+        left (e ∙ ap (λ v. cond v (slot (length xs)) (slot_in xs x)) t)
         ∙ sym (ap (λ v. cond v (slot (length (xs ++ g))) (slot_in (xs ++ g) x)) t)
 
 pub slot_under : (xs g : List Name) (x : Name) → no_slot ≡ slot_in xs x → slot_in g x ≡ slot_in (xs ++ g) x
 slot_under [] g x e = refl
-slot_under (y ∷ xs) g x e = by (same_name x y) refl
+slot_under (y ∷ xs) g x e = by (slot_under xs g x) (same_name x y) refl
   where
-    by : (t : Bool) → same_name x y ≡ t → slot_in g x ≡ slot_in ((y ∷ xs) ++ g) x
-    by true t = no_number (length xs) (sym (e ∙ ap (λ v. cond v (slot (length xs)) (slot_in xs x)) t))
-    by false t =
-        slot_under xs g x (e ∙ ap (λ v. cond v (slot (length xs)) (slot_in xs x)) t)
+    by : (no_slot ≡ slot_in xs x → slot_in g x ≡ slot_in (xs ++ g) x) → (t : Bool) → same_name x y ≡ t → slot_in g x ≡ slot_in ((y ∷ xs) ++ g) x
+    by left true t = no_number (length xs) (sym (e ∙ ap (λ v. cond v (slot (length xs)) (slot_in xs x)) t))
+    by left false t =
+        left (e ∙ ap (λ v. cond v (slot (length xs)) (slot_in xs x)) t)
         ∙ sym (ap (λ v. cond v (slot (length (xs ++ g))) (slot_in (xs ++ g) x)) t)
 
 pub slot_below : (xs : List Name) (x : Name) (b : ℕ) → slot b ≡ slot_in xs x → b < length xs
 slot_below [] x b e = no_number b e
-slot_below (y ∷ xs) x b e = by (same_name x y) refl
+slot_below (y ∷ xs) x b e = by (slot_below xs x b) (same_name x y) refl
   where
-    by : (t : Bool) → same_name x y ≡ t → b < length (y ∷ xs)
-    by true t =
+    by : (slot b ≡ slot_in xs x → b < length xs) → (t : Bool) → same_name x y ≡ t → b < length (y ∷ xs)
+    by left true t =
         let same : b ≡ length xs = slot_number b (length xs) (e ∙ ap (λ v. cond v (slot (length xs)) (slot_in xs x)) t) in
         omega (arith, same)
-    by false t = let low = slot_below xs x b (e ∙ ap (λ v. cond v (slot (length xs)) (slot_in xs x)) t) in omega (arith, low)
+    by left false t = let low = left (e ∙ ap (λ v. cond v (slot (length xs)) (slot_in xs x)) t) in omega (arith, low)
 
 -- what is found in a table
 pub of_number : (names : List Name) (x : Name) (r : Option ℕ) → IfSome r (λ k. IsNumbered names k x) → (r ≡ None → IsUnmet names x) → HaveOneNumber names →

@@ -5,6 +5,7 @@ ghost use Rattle.janus_meaning.specs.World.{size_of, listed};
 ghost use Rattle.janus_slots.specs.Slots.{slot as slot_name, slot_in};
 ghost use Rattle.janus_places.specs.Table.{places_in, slot_of};
 ghost use Rattle.kernel_runner.specs.Values.{shown};
+ghost use Rattle.steps_walk.specs.Sights.{base_of};
 
 use crate::level::Level;
 use crate::walk::Walk;
@@ -24,8 +25,6 @@ pub(crate) enum Base<'a> {
 }
 
 impl<'a> Base<'a> {
-    ghost use Rattle.steps_walk.specs.Sights.{base_of};
-
     /// How many these are.
     fn len(self) -> usize
         ensures { result ≡ length (base_of self.entry) }
@@ -104,11 +103,18 @@ impl<'a> Sight<'a> {
         ensures { IfOk result (λ names. (g : List Name) → AreInSight self.now g → map (λ name. name.now) names.items ≡ g) }
     {
         let mut names = self.table.locals(alloc, self.at)?;
-        match self.base {
-            Base::Declared(declared) => add_declared(&mut names, declared)?,
-            Base::Parameters(parameters) => add_parameters(&mut names, parameters)?,
-        }
+        add_base(&mut names, self.base)?;
         Ok(names)
+    }
+}
+
+/// Adds the names in sight in a whole code, the newest first; the only error is want of memory.
+fn add_base<'a>(all: &mut Vec<&'a str>, base: Base<'a>) -> Result<(), AllocError>
+    ensures { OnOk result (map (λ name. name.now) all.new.items ≡ map (λ name. name.now) all.old.items ++ base_of base.entry) }
+{
+    match base {
+        Base::Declared(names) => add_declared(all, names),
+        Base::Parameters(names) => add_parameters(all, names),
     }
 }
 
@@ -136,7 +142,7 @@ fn add_parameters<'a>(all: &mut Vec<&'a str>, names: &'a [String]) -> Result<(),
 
 impl<L: Ledger> Walk<L> {
     ghost use Rattle.steps_walk.specs.Walk.{slots_in};
-    ghost use Rattle.steps_walk.specs.Sights.{IsSightAt, base_of, base_at};
+    ghost use Rattle.steps_walk.specs.Sights.{IsSightAt, base_at};
 
     /// The names in sight at the innermost level.
     pub fn sight(&self, level: &Level) -> Option<Sight<'_>>

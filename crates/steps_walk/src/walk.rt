@@ -80,7 +80,6 @@ impl<L: Ledger> Walk<L> {
     }
 
     /// The index of the body that was met of the name of a number.
-    #[tactic(auto, using(crate::proofs::Levels::body_there))]
     pub(crate) fn body_of(&self, number: usize) -> Option<usize>
         ensures { IfSome result (IsBodyAt self.now number) }
     {
