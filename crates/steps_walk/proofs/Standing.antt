@@ -143,7 +143,7 @@ module _ {L : Type 0} (w : Walk L) (walking : IsWalking w) where
   -- the body of a number is that of the procedure
   pub in_body : (number : ℕ) (node : Option ℕ) (p : Procedure) → IsInEffect entries (program_of w) (tree_of w) number node p →
       (b : LinkedProcedure) × (body_at bodies number ≡ Some b) × (block_in (body_of b) Forward ≡ code_of entries (parameters_of p) (text_body p))
-  in_body number node p e =
+  in_body number cell p e =
       let found : find e.name began ≡ Fine (plain p) = ap (find e.name) began_over ∙ e.text.found in
       let numbered : find (slot number) (procedures_in entries began) ≡ Fine (procedure_in entries (plain p)) =
       ap (λ f. find f (procedures_in entries began)) (sym (number_is entries number e.name e.numbered walking.one_number))
