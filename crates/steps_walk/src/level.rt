@@ -43,7 +43,7 @@ impl<L: Ledger> Walk<L> {
 
     /// Where the walk stands in the innermost code, for i as many as there are open calls; else where the i-th open call stands, the outermost being 0.
     /// None where the body was not met.
-    #[tactic(auto, using(crate::proofs::Levels::here_at))]
+    #[tactic(auto, using(crate::proofs::Levels::own_code, crate::proofs::Levels::called_code, crate::proofs::Levels::here_at))]
     pub fn level(&self, i: usize) -> Option<Level>
         requires { i ≤ calls_in self.now }
         ensures here { IfSome result (λ level. i ≡ calls_in self.now → IsHere self.now level) }
@@ -52,7 +52,10 @@ impl<L: Ledger> Walk<L> {
         ensures code { IfSome result (λ level. IsCodeAt self.now i level.body) }
         ensures node { IfSome result (λ level. level.node ≡ node_at self.now level.body) }
     {
-        let body = self.code_of(i)?;
+        let body = match self.called(i) {
+            None => None,
+            Some(number) => Some(self.body_of(number)?),
+        };
         let node = self.node_of(body);
         let inverse = self.faces_inverse(i);
         let at = self.place_in(i);
@@ -120,21 +123,6 @@ impl<L: Ledger> Walk<L> {
             return None;
         }
         Some(self.open.runner.cursor.open_call(i - 1).procedure)
-    }
-
-    /// The body in which the i-th level stands, if it was met; of the outermost its own code.
-    #[tactic(auto, using(crate::proofs::Levels::own_code, crate::proofs::Levels::called_code))]
-    fn code_of(&self, i: usize) -> Option<Option<usize>>
-        requires { i ≤ calls_in self.now }
-        ensures { IfSome result (IsCodeAt self.now i) }
-    {
-        match self.called(i) {
-            None => Some(None),
-            Some(number) => match self.body_of(number) {
-                Some(k) => Some(Some(k)),
-                None => None,
-            },
-        }
     }
 
     /// The node of the cell whose text has a code.
