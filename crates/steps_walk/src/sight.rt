@@ -5,7 +5,6 @@ ghost use Rattle.janus_meaning.specs.World.{size_of, listed};
 ghost use Rattle.janus_slots.specs.Slots.{slot as slot_name, slot_in};
 ghost use Rattle.janus_places.specs.Table.{places_in, slot_of};
 ghost use Rattle.kernel_runner.specs.Values.{shown};
-ghost use Rattle.steps_walk.specs.Sights.{base_of};
 
 use crate::level::Level;
 use crate::walk::Walk;
@@ -25,6 +24,8 @@ pub(crate) enum Base<'a> {
 }
 
 impl<'a> Base<'a> {
+    ghost use Rattle.steps_walk.specs.Sights.{base_of};
+
     /// How many these are.
     fn len(self) -> usize
         ensures { result ≡ length (base_of self.entry) }
@@ -42,6 +43,16 @@ impl<'a> Base<'a> {
         match self {
             Base::Declared(names) => declared_slot(names, name),
             Base::Parameters(names) => parameter_slot(names, name),
+        }
+    }
+
+    /// Adds these names, the newest first; the only error is want of memory.
+    fn add(self, all: &mut Vec<&'a str>) -> Result<(), AllocError>
+        ensures { OnOk result (map (λ name. name.now) all.new.items ≡ map (λ name. name.now) all.old.items ++ base_of self.entry) }
+    {
+        match self {
+            Base::Declared(names) => add_declared(all, names),
+            Base::Parameters(names) => add_parameters(all, names),
         }
     }
 }
@@ -103,18 +114,8 @@ impl<'a> Sight<'a> {
         ensures { IfOk result (λ names. (g : List Name) → AreInSight self.now g → map (λ name. name.now) names.items ≡ g) }
     {
         let mut names = self.table.locals(alloc, self.at)?;
-        add_base(&mut names, self.base)?;
+        self.base.add(&mut names)?;
         Ok(names)
-    }
-}
-
-/// Adds the names in sight in a whole code, the newest first; the only error is want of memory.
-fn add_base<'a>(all: &mut Vec<&'a str>, base: Base<'a>) -> Result<(), AllocError>
-    ensures { OnOk result (map (λ name. name.now) all.new.items ≡ map (λ name. name.now) all.old.items ++ base_of base.entry) }
-{
-    match base {
-        Base::Declared(names) => add_declared(all, names),
-        Base::Parameters(names) => add_parameters(all, names),
     }
 }
 
