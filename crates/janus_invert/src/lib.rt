@@ -3,7 +3,7 @@
 //! To the layer above it promises that `invert_code` gives code that stands for the inverse of a code's block, in which each name keeps
 //! its number. A statement's inverse has its number, and the members of each block stand backward. Want of memory is its one refusal.
 //!
-//! Flat code is that of `janus_code`, whose names are passed on with all that its public fields have: `invert` there is the inverse of a tree. The inverse of
+//! Flat code is that of `janus_code`, whose names are passed on with all that its public fields have and its calls take: `invert` there is the inverse of a tree. The inverse of
 //! a statement is that of Yokoyama and Glück (2007), "A reversible programming language and its invertible self-interpreter", in the
 //! definitions of `janus_meaning`.
 #![tactic(auto)]
@@ -15,10 +15,11 @@ mod turned;
 
 pub use crate::turned::invert_code;
 pub use janus_code::{
-    Block, Code, FlatExp, FlatParameter, FlatProcedure, InvertFault, Kind, Names, SlottedCode,
-    SlottedProcedure, Statement, Symbol, flat_exp, flatten, flatten_procedure, invert,
+    Block, CheckFault, Checked, Code, Env, FlatExp, FlatParameter, FlatProcedure, InvertFault,
+    Kind, Names, Sight, SlottedCode, SlottedProcedure, Statement, Symbol, check, flat_exp, flatten,
+    flatten_procedure, invert,
 };
-pub use janus_syntax::{Operator, Update};
+pub use janus_syntax::{Cell, Declaration, Exp, Name, Operator, Parameter, Procedure, Stm, Update};
 
 /// Law: where code stands for a block with slots in place of names, as what `flatten` gives does, what `invert_code` gives of it stands for the
 /// inverted block, as the flat code of the inverted cell does.
@@ -26,7 +27,8 @@ pub fn inverted_stands_for_inverse_law()
     ensures { InvertedStandsForInverse }
 {}
 
-/// Law: what `invert_code` gives of what `flatten` gives of a cell is flat code of the inverted cell, as `flatten` promises it.
+/// Law: what `invert_code` gives of what `flatten` gives of a cell is flat code of the inverted cell, over the same names and as many slots: it stands for the
+/// inverted block. That each of its statements stands in a block, which `flatten` promises too, is no part of it.
 pub fn inverted_is_flat_code_of_inverse_law()
     ensures { InvertedIsFlatCodeOfInverse }
 {}

@@ -29,7 +29,7 @@
 //!   which locals stand in the store at a cursor.
 //! - `Calls`, `Pause`, `Steps`, `Law`: where a cursor stands in its row, why a row stops, steps and slices, and the laws.
 //!
-//! It gives again `Store` of `janus_frames` with a value as it is lent and why none is made, `Fault` and the limit on steps of `janus_meaning`, which its calls
+//! It gives again `Store` of `janus_frames` with what its calls take and lend and why none is made, `Fault` and the limit on steps of `janus_meaning`, which its calls
 //! tell; and what runners cite with it: of `janus_frames` what a store holds, and `Open` and `Within` of `janus_linear`.
 //!
 //! A slice makes two writes of the store at most for each step. A cursor counts its steps, and at 10^12 of them the fault is that of the
@@ -61,6 +61,6 @@ pub use crate::linked_procedure::LinkedProcedure;
 pub use crate::machine::{End, Sliced, Stepped, slice, step};
 pub use crate::procedures::Procedures;
 pub use crate::whereabouts::OpenCall;
-pub use janus_frames::{RoomFault, StackView, Store, ValueView};
+pub use janus_frames::{Args, Names, RoomFault, Row, StackView, Store, Tally, ValueView};
 pub use janus_meaning::Fault;
 pub use janus_meaning::limit::STEP_LIMIT;

@@ -1,4 +1,4 @@
--- That the cursor of a slice that ends a cell came there by the machine's steps.
+-- That the cursor of a slice that ends a cell is where the machine's steps lead, and that as many were counted.
 use Rattle.std.specs.Prelude.{◌≡◌, ℕ, ◌+◌, Bool, true, false}
 use Rattle.kernel_loader.specs.Runner.{CursorCameBy, steps_of}
 use Rattle.kernel_loader.specs.runner.Runner.{Runner}
@@ -17,8 +17,8 @@ use Rattle.kernel_history.specs.declared.job.Work.{Work}
 use Rattle.kernel_history.specs.declared.job.Open.{Open}
 use Rattle.kernel_history.specs.declared.job.Open.TheVariants.{Idle, Border, Inside}
 
--- The cursor came to where it is by steps of the work's code, of at most m, from where cursor and store were, and just these were counted. What is taken
--- back of the store at the end of a cell, its names and its procedures, is no step.
+-- The cursor is where steps of the work's code lead, of at most m, from where cursor and store were, and just as many were counted. What is taken back of
+-- the store at the end of a cell, its names and its procedures, is no step.
 pub record CameInside {L : Type 0} (tree : HistoryTree) (work : Work) (m : ℕ) (old new : Runner L) : Type 0 where
   pub program : Program
   pub of_work : IsProgramOf tree work program

@@ -22,7 +22,7 @@
 //! - `Index`: what the index of bodies tells of the tree.
 //! - `TableNames`: which names of procedures stand in the runner's table. `Standing`: where the runner stands.
 //! - `Kept`: what a history keeps of its fields, with a map of it, what a slice leaves, and where a cell has come to its end. `Came`: that the
-//!   cursor of a slice that ends a cell came there by steps.
+//!   cursor of a slice that ends a cell is where counted steps lead.
 //!
 //! It gives again what `kernel_core` cites of the layers below: the store, the procedures that are lent, and the names in sight.
 //!
@@ -45,4 +45,7 @@ pub use crate::job::Stage;
 pub use crate::open_cell::OpenCell;
 pub use crate::tree::HistoryTree;
 pub use crate::view::View;
-pub use kernel_loader::{StackView, Store, ValueView, names_in_sight};
+pub use kernel_loader::{
+    Args, Names, Program, RoomFault, Row, Runner, StackView, Store, Tally, ValueView,
+    names_in_sight,
+};

@@ -29,5 +29,6 @@ mod sight;
 pub use crate::loader::load;
 pub use crate::sight::names_in_sight;
 pub use kernel_runner::{
-    Book, CountedStore, Cursor, Procedures, Program, Runner, StackView, Store, ValueView, slice,
+    Args, Book, CountedStore, Cursor, Names, Procedures, Program, RoomFault, Row, Runner,
+    StackView, Store, Tally, ValueView, slice,
 };

@@ -31,6 +31,6 @@ pub use crate::outcome::{Begun, Outcome, Phase, Refusal, Sliced, TravelEnd};
 pub use crate::post::{Job, PostFault};
 pub use crate::progress::Progress;
 pub use crate::travel::{Aim, Travel, Way};
-pub use janus_check::CheckFault;
+pub use janus_check::{CheckFault, Env};
 pub use janus_meaning::Fault;
 pub use janus_meaning::limit::STEP_LIMIT;

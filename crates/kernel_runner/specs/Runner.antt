@@ -170,13 +170,13 @@ pub record KeepsCounts {L : Type 0} (old new : Runner L) : Type 0 where
   pub writes : writes_of new ≡ writes_of old
   pub steps : steps_of new ≡ steps_of old
 
--- From where cursor and store were, n steps of this program's code have led to where they are, of at most m, where none of those is broken: of
--- whatever procedures are in effect.
+-- From where cursor and store were, n steps of this program's code lead to where they are, of at most m, where none of those is broken: of whatever
+-- procedures are in effect. It relates the two ends alone: that the machine took as many steps between them is told by their count.
 abbrev pub CameBy : {L : Type 0} → Program → (m n : ℕ) → Runner L → Runner L → Type 0
 CameBy program m n old new =
     TakesSafeSteps m n old.procedures program.book old.cursor old.counted.store new.cursor new.counted.store
 
--- So many steps have led to where the cursor is; the store may have changed since.
+-- So many steps lead to where the cursor is; the store may have changed since.
 abbrev pub CursorCameBy : {L : Type 0} → Program → (m n : ℕ) → Runner L → Runner L → Type 0
 CursorCameBy program m n old new =
     (at : StoreState) × TakesSafeSteps m n old.procedures program.book old.cursor old.counted.store new.cursor at

@@ -23,6 +23,6 @@ mod runner;
 pub use crate::program::Program;
 pub use crate::runner::Runner;
 pub use janus_machine::{
-    Book, CountedStore, Cursor, LinkedCode, LinkedProcedure, Procedures, RoomFault, StackView,
-    Store, ValueView, slice,
+    Args, Book, CountedStore, Cursor, LinkedCode, LinkedProcedure, Names, Procedures, RoomFault,
+    Row, StackView, Store, Tally, ValueView, slice,
 };
