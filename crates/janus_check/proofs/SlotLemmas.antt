@@ -21,9 +21,9 @@ use Rattle.janus_syntax.specs.View.{plain_parameter}
 use Rattle.janus_slots.specs.Slots.{slot, slot_in}
 use Rattle.janus_slots.proofs.Stores.{length_names}
 use Rattle.janus_check.specs.Names.{meant_kind, AreAdded, over, shape_in}
-use Rattle.janus_check.specs.Sight.{IsSeen}
+use Rattle.janus_check.specs.Scope.{IsSeen}
 use Rattle.janus_check.specs.declared.env.Kind.{Kind}
-use Rattle.janus_check.specs.declared.sight.Sight.{Sight, Declared, Body, Local'}
+use Rattle.janus_check.specs.declared.scope.Scope.{Scope, Declared, Body, Local'}
 use Rattle.janus_check.proofs.ScopeLemmas.{else_kind, over_apart}
 use Rattle.janus_check.proofs.LookupLemmas.{looked_up, meant, same_as_bytes}
 
@@ -135,9 +135,9 @@ pub seen_long : (ps : List code_parameter.Parameter) → length (map plain_param
 seen_long ps = length-map (parameters_view ps) plain_parameter ∙ length-map ps parameter_view
 
 -- how many locals are open
-abbrev pub depth_of : Sight → ℕ
-depth_of (Declared env own) = zero
-depth_of (Body env own xs) = zero
+abbrev pub depth_of : Scope → ℕ
+depth_of Declared = zero
+depth_of (Body xs) = zero
 depth_of (Local' x k at outer) = suc (depth_of outer)
 
 -- what a comparison of two texts tells of the names

@@ -1,6 +1,8 @@
 pub mod Fault
 pub mod Names
 pub mod Check
+pub mod Scope
+pub mod Seen
 pub mod Sight
 pub mod WellFormed
 pub mod Checked

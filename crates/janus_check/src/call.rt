@@ -9,12 +9,13 @@ ghost use Rattle.janus_check.specs.Sight.{in_sight, heads_seen};
 
 use crate::env::Kind;
 use crate::fault::{CheckFault, sooner};
-use crate::sight::{Sight, head_seen, sight_fault, use_fault};
+use crate::sight::{Sight, sight_fault, use_fault};
+use crate::table::SymbolTable;
 use janus_syntax::tree::Name;
 
 /// The first fault after a call of a procedure with these arguments.
-pub(crate) fn call_fault(
-    sight: &Sight,
+pub(crate) fn call_fault<T: SymbolTable>(
+    sight: &Sight<T>,
     called: &Name,
     arguments: &[Name],
     first: Option<CheckFault>,
@@ -22,7 +23,7 @@ pub(crate) fn call_fault(
     ensures { result ≡ first_from first (call_faults (heads_seen sight.now) (in_sight sight.now) (name_view called.now) (names_view arguments.now)) }
 {
     let next = twice_fault(arguments, first);
-    match head_seen(sight, called) {
+    match sight.head(called) {
         None => loose_fault(
             sight,
             arguments,
@@ -74,7 +75,11 @@ fn same_fault(before: &[Name], argument: &Name, first: Option<CheckFault>) -> Op
 }
 
 /// The first fault after arguments whose kinds aren't compared.
-fn loose_fault(sight: &Sight, arguments: &[Name], first: Option<CheckFault>) -> Option<CheckFault>
+fn loose_fault<T: SymbolTable>(
+    sight: &Sight<T>,
+    arguments: &[Name],
+    first: Option<CheckFault>,
+) -> Option<CheckFault>
     ensures { result ≡ first_from first (loose_faults (in_sight sight.now) (names_view arguments.now)) }
 {
     let mut next = first;
@@ -85,8 +90,8 @@ fn loose_fault(sight: &Sight, arguments: &[Name], first: Option<CheckFault>) -> 
 }
 
 /// The first fault after arguments for parameters of these kinds, which are as many.
-fn kinds_fault(
-    sight: &Sight,
+fn kinds_fault<T: SymbolTable>(
+    sight: &Sight<T>,
     kinds: &[Kind],
     arguments: &[Name],
     first: Option<CheckFault>,

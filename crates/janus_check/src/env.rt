@@ -5,6 +5,7 @@ ghost use Rattle.janus_meaning.specs.Syntax.{names_of};
 ghost use Rattle.janus_slots.specs.Slots.{slot, slot_in};
 ghost use Rattle.janus_check.specs.Names.{kind_found, meant_kind, meant_kinds, shape_in, heads_in, over};
 
+use crate::table::SymbolTable;
 use indexmap::IndexMap;
 use std::alloc::{AllocError, Global};
 use std::marker::Model;
@@ -144,5 +145,33 @@ impl Env {
         ensures { IsTrue result ↔ (self.now.names ≡ []) }
     {
         self.names.is_empty()
+    }
+}
+
+impl SymbolTable for Env {
+    ghost known = { λ e. e };
+
+    fn kind(&self, name: &str) -> Option<Kind> {
+        Env::kind(self, name)
+    }
+
+    fn place(&self, name: &str) -> Option<usize> {
+        Env::place(self, name)
+    }
+
+    fn head(&self, name: &str) -> Option<&[Kind]> {
+        Env::head(self, name)
+    }
+
+    fn len(&self) -> usize {
+        Env::len(self)
+    }
+
+    fn stacks(&self) -> usize {
+        Env::stacks(self)
+    }
+
+    fn procedures(&self) -> usize {
+        Env::procedures(self)
     }
 }

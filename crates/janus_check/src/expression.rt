@@ -11,29 +11,30 @@ ghost use Rattle.janus_check.specs.Sight.{faults_at};
 use crate::env::{Env, Kind};
 use crate::fault::{CheckFault, sooner};
 use crate::sight::{Sight, use_fault};
+use crate::table::SymbolTable;
 use janus_syntax::tree::{Exp, Name};
 use std::alloc::Global;
 
 /// Which names an expression may use where it stands.
 #[derive(Drop)]
-pub(crate) enum Context<'a> {
+pub(crate) enum Context<'a, T: SymbolTable> {
     /// Each name in sight.
-    Free(&'a Sight<'a>),
+    Free(&'a Sight<'a, T>),
     /// In an index or a right side: each but this one, which is assigned.
-    Assigning(&'a Sight<'a>, &'a Name),
+    Assigning(&'a Sight<'a, T>, &'a Name),
     /// At an end of a local: each but this one, which is the local's.
-    EndOfLocal(&'a Sight<'a>, &'a Name),
+    EndOfLocal(&'a Sight<'a, T>, &'a Name),
 }
 
 /// Checks an expression over the declared names. What passes is well formed; else the answer is the fault that stands
 /// first in the text, and at one place the one with the smaller number.
-pub fn check_exp(alloc: Global, env: &Env, exp: &Exp) -> Result<(), CheckFault>
-    ensures passes { OnOk result (exp_faults (shape_in env.now.names) (exp_view exp.now) ≡ []) }
-    ensures well_formed { OnOk result (IsExp (shape_in env.now.names) (plain_exp (exp_view exp.now))) }
-    ensures first { IfErr result (λ fault. IsFirst fault (exp_faults (shape_in env.now.names) (exp_view exp.now))) }
+pub fn check_exp<T: SymbolTable>(alloc: Global, env: &T, exp: &Exp) -> Result<(), CheckFault>
+    ensures passes { OnOk result (exp_faults (shape_in (T.known env.now).names) (exp_view exp.now) ≡ []) }
+    ensures well_formed { OnOk result (IsExp (shape_in (T.known env.now).names) (plain_exp (exp_view exp.now))) }
+    ensures first { IfErr result (λ fault. IsFirst fault (exp_faults (shape_in (T.known env.now).names) (exp_view exp.now))) }
 {
     let none = Env::new(alloc);
-    let sight = Sight::Declared(&none, &*env);
+    let sight = Sight::declared(env, &none);
     match exp_fault(exp, &Context::Free(&sight), None) {
         None => Ok(()),
         Some(fault) => Err(fault),
@@ -41,9 +42,9 @@ pub fn check_exp(alloc: Global, env: &Env, exp: &Exp) -> Result<(), CheckFault>
 }
 
 /// The first fault after an expression.
-pub(crate) fn exp_fault(
+pub(crate) fn exp_fault<T: SymbolTable>(
     exp: &Exp,
-    context: &Context,
+    context: &Context<T>,
     first: Option<CheckFault>,
 ) -> Option<CheckFault>
     ensures { result ≡ first_from first (faults_of (faults_at context.now) (exp_view exp.now)) }
@@ -73,8 +74,8 @@ pub(crate) fn exp_fault(
 }
 
 /// The first fault after a use of a name, as one of this kind, in an expression that stands there.
-fn fault_at(
-    context: &Context,
+fn fault_at<T: SymbolTable>(
+    context: &Context<T>,
     kind: Kind,
     name: &Name,
     first: Option<CheckFault>,

@@ -9,6 +9,9 @@
 //! which the laws of `janus_meaning` stand. `cell_names` tells whether a cell names a declared name. `Sight` has the names in sight, and gives each
 //! its slot: how many names stand below it. What a cell declares and defines itself comes with it from `check`.
 //!
+//! What is known before a cell is read by a trait, `SymbolTable`: the kind and the slot of a name, and the head of a procedure. `Env` is one for who keeps no
+//! tables of its own.
+//!
 //! The rules are those of Janus (Yokoyama and Glück 2007; Yokoyama, Axelsen and Glück 2008), with this kernel's
 //! limits.
 //!
@@ -28,8 +31,10 @@ pub mod fault;
 mod naming;
 pub mod parameter;
 mod procedure;
+mod scope;
 pub mod sight;
 mod statement;
+pub mod table;
 
 pub use cell::check;
 pub use checked::Checked;
@@ -38,6 +43,7 @@ pub use expression::check_exp;
 pub use fault::CheckFault;
 pub use naming::cell_names;
 pub use sight::Sight;
+pub use table::SymbolTable;
 
 /// A cell has no faults exactly where it is well formed, and so an expression: a law about the definitions of `specs/`. It does
 /// nothing.

@@ -14,6 +14,7 @@ use crate::fault::{CheckFault, sooner};
 use crate::parameter::{kinds_of, parameters_fault};
 use crate::sight::Sight;
 use crate::statement::block_fault;
+use crate::table::SymbolTable;
 use janus_meaning::limit::PROCEDURE_LIMIT;
 use janus_syntax::token::Span;
 use janus_syntax::tree::{Name, Procedure};
@@ -21,16 +22,17 @@ use std::alloc::{AllocError, Global};
 
 /// The first fault after the names of procedures, which are then the cell's own. Of a name given twice the first counts. The
 /// only error is want of memory.
-pub(crate) fn define_all(
+pub(crate) fn define_all<T: SymbolTable>(
     alloc: Global,
-    env: &Env,
+    env: &T,
     own: &mut Env,
     procedures: &[Procedure],
     first: Option<CheckFault>,
 ) -> Result<Option<CheckFault>, AllocError>
     requires { own.old.procedures ≡ [] }
     ensures fault { IfOk result
-        (λ next. next ≡ first_from first (heads_faults (heads_in env.now.procedures) (heads_in own.old.procedures) (procedures_view procedures.now))) }
+        (λ next. next
+        ≡ first_from first (heads_faults (heads_in (T.known env.now).procedures) (heads_in own.old.procedures) (procedures_view procedures.now))) }
     ensures heads { OnOk result (heads_in own.new.procedures ≡ after_heads (heads_in own.old.procedures) (procedures_view procedures.now)) }
     ensures names { own.new.names ≡ own.old.names }
 {
@@ -44,19 +46,19 @@ pub(crate) fn define_all(
 
 /// The first fault after the name of a procedure, which is then the cell's own. `count` is how many procedures there are. The
 /// only error is want of memory.
-fn define(
+fn define<T: SymbolTable>(
     alloc: Global,
-    env: &Env,
+    env: &T,
     own: &mut Env,
     procedure: &Procedure,
     count: &mut usize,
     first: Option<CheckFault>,
 ) -> Result<Option<CheckFault>, AllocError>
-    requires { count.old ≡ different (heads_over env.now own.old) }
+    requires { count.old ≡ different (heads_over (T.known env.now) own.old) }
     ensures fault { IfOk result
-        (λ next. next ≡ first_from first (head_faults (heads_in env.now.procedures) (heads_in own.old.procedures) (procedure_view procedure.now))) }
+        (λ next. next ≡ first_from first (head_faults (heads_in (T.known env.now).procedures) (heads_in own.old.procedures) (procedure_view procedure.now))) }
     ensures heads { OnOk result (heads_in own.new.procedures ≡ after_head (heads_in own.old.procedures) (procedure_view procedure.now)) }
-    ensures counted { OnOk result (count.new ≡ different (heads_over env.now own.new)) }
+    ensures counted { OnOk result (count.new ≡ different (heads_over (T.known env.now) own.new)) }
     ensures names { own.new.names ≡ own.old.names }
 {
     let name = &procedure.name;
@@ -69,16 +71,16 @@ fn define(
 
 /// Makes a procedure the cell's own, if none of its name is, and gives how many procedures there are. The only error is want of
 /// memory.
-fn add(
-    env: &Env,
+fn add<T: SymbolTable>(
+    env: &T,
     own: &mut Env,
     name: &Name,
     kinds: Vec<Kind>,
     count: usize,
 ) -> Result<usize, AllocError>
-    requires { count ≡ different (heads_over env.now own.old) }
+    requires { count ≡ different (heads_over (T.known env.now) own.old) }
     ensures heads { OnOk result (heads_in own.new.procedures ≡ with_head (heads_in own.old.procedures) (name_of name.now) (meant_kinds kinds.items)) }
-    ensures counted { IfOk result (λ n. n ≡ different (heads_over env.now own.new)) }
+    ensures counted { IfOk result (λ n. n ≡ different (heads_over (T.known env.now) own.new)) }
     ensures names { own.new.names ≡ own.old.names }
 {
     if own.head(&name.text).is_some() {
@@ -90,10 +92,10 @@ fn add(
 }
 
 /// How many procedures there are with one more of this name, which is not the cell's own yet.
-fn counted(env: &Env, own: &Env, name: &str, count: usize) -> usize
-    requires counted { count ≡ different (heads_over env.now own.now) }
+fn counted<T: SymbolTable>(env: &T, own: &Env, name: &str, count: usize) -> usize
+    requires counted { count ≡ different (heads_over (T.known env.now) own.now) }
     requires new { head_at name.now (heads_in own.now.procedures) ≡ None }
-    ensures { result ≡ count_new (head_at name.now (heads_over env.now own.now)) count }
+    ensures { result ≡ count_new (head_at name.now (heads_over (T.known env.now) own.now)) count }
 {
     let _most = env.procedures() + own.procedures();
     match env.head(name) {
@@ -103,8 +105,8 @@ fn counted(env: &Env, own: &Env, name: &str, count: usize) -> usize
 }
 
 /// Whether a procedure is defined already with parameters of other kinds.
-fn has_changed(env: &Env, name: &str, kinds: &[Kind]) -> bool
-    ensures { result ≡ is_changed (meant_kinds kinds.now) (head_at name.now (heads_in env.now.procedures)) }
+fn has_changed<T: SymbolTable>(env: &T, name: &str, kinds: &[Kind]) -> bool
+    ensures { result ≡ is_changed (meant_kinds kinds.now) (head_at name.now (heads_in (T.known env.now).procedures)) }
 {
     match env.head(name) {
         Some(found) => *found != *kinds,
@@ -137,13 +139,13 @@ fn head_fault(
 }
 
 /// The first fault after the parameters and the bodies of procedures.
-pub(crate) fn bodies_fault(
-    env: &Env,
+pub(crate) fn bodies_fault<T: SymbolTable>(
+    env: &T,
     own: &Env,
     procedures: &[Procedure],
     first: Option<CheckFault>,
 ) -> Option<CheckFault>
-    ensures { result ≡ first_from first (bodies_faults (heads_over env.now own.now) (procedures_view procedures.now)) }
+    ensures { result ≡ first_from first (bodies_faults (heads_over (T.known env.now) own.now) (procedures_view procedures.now)) }
 {
     let mut next = first;
     for i in 0..procedures.len() {
@@ -153,15 +155,16 @@ pub(crate) fn bodies_fault(
 }
 
 /// The first fault after the parameters and the body of a procedure.
-fn body_fault(
-    env: &Env,
+fn body_fault<T: SymbolTable>(
+    env: &T,
     own: &Env,
     procedure: &Procedure,
     first: Option<CheckFault>,
 ) -> Option<CheckFault>
-    ensures { result ≡ first_from first (body_faults (heads_over env.now own.now) (procedure_view procedure.now)) }
+    ensures { result ≡ first_from first (body_faults (heads_over (T.known env.now) own.now) (procedure_view procedure.now)) }
 {
     let next = parameters_fault(&procedure.parameters, first);
-    let sight = Sight::Body(&*env, &*own, &procedure.parameters);
+    let declared = Sight::declared(env, own);
+    let sight = declared.body(&procedure.parameters);
     block_fault(&procedure.body, &sight, next)
 }

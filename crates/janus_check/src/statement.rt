@@ -10,11 +10,16 @@ use crate::env::Kind;
 use crate::expression::{Context, exp_fault};
 use crate::fault::CheckFault;
 use crate::sight::{Sight, shadow_fault, use_fault};
+use crate::table::SymbolTable;
 use janus_syntax::tree::Stm;
 
 /// The first fault after a statement.
 #[cycle(stm_fault)]
-fn stm_fault(stm: &Stm, sight: &Sight, first: Option<CheckFault>) -> Option<CheckFault>
+fn stm_fault<T: SymbolTable>(
+    stm: &Stm,
+    sight: &Sight<T>,
+    first: Option<CheckFault>,
+) -> Option<CheckFault>
     ensures { result ≡ first_from first (stm_faults (heads_seen sight.now) (in_sight sight.now) (stm_view stm.now)) }
 {
     match stm {
@@ -52,12 +57,12 @@ fn stm_fault(stm: &Stm, sight: &Sight, first: Option<CheckFault>) -> Option<Chec
         Stm::LocalInt(name, begin, body, _, end) => {
             let next = shadow_fault(sight, name, first);
             let next = exp_fault(begin, &Context::EndOfLocal(&*sight, &*name), next);
-            let next = block_fault(body, &Sight::Local(&*name, Kind::Number, &*sight), next);
+            let next = block_fault(body, &(&*sight).local(&*name, Kind::Number), next);
             exp_fault(end, &Context::EndOfLocal(&*sight, &*name), next)
         }
         Stm::LocalStack(name, body, _) => {
             let next = shadow_fault(sight, name, first);
-            block_fault(body, &Sight::Local(&*name, Kind::Stack, &*sight), next)
+            block_fault(body, &(&*sight).local(&*name, Kind::Stack), next)
         }
         Stm::Call(called, arguments) | Stm::Uncall(called, arguments) => {
             call_fault(sight, called, arguments, first)
@@ -67,9 +72,9 @@ fn stm_fault(stm: &Stm, sight: &Sight, first: Option<CheckFault>) -> Option<Chec
 
 /// The first fault after the statements.
 #[cycle(stm_fault)]
-pub(crate) fn block_fault(
+pub(crate) fn block_fault<T: SymbolTable>(
     statements: &[Stm],
-    sight: &Sight,
+    sight: &Sight<T>,
     first: Option<CheckFault>,
 ) -> Option<CheckFault>
     ensures { result ≡ first_from first (block_faults (heads_seen sight.now) (in_sight sight.now) (block_view statements.now)) }

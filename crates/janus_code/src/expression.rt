@@ -15,7 +15,7 @@ ghost use Rattle.janus_code.specs.Slotted.{AreSlots, all_slots};
 
 use crate::code::{FlatExp, Symbol};
 use crate::copies::both;
-use janus_check::Sight;
+use janus_check::{Sight, SymbolTable};
 use janus_names::Names;
 use janus_syntax::tree;
 use std::alloc::{AllocError, Global};
@@ -30,7 +30,7 @@ pub(crate) fn symbol_of(number: usize) -> Symbol
 }
 
 /// The symbol of a name in sight: its slot.
-pub(crate) fn symbol(sight: &Sight, name: &tree::Name) -> Symbol
+pub(crate) fn symbol<T: SymbolTable>(sight: &Sight<T>, name: &tree::Name) -> Symbol
     requires seen { IsSeen (in_sight sight.now) (name_of name.now) }
     requires small { length (in_sight sight.now) < 2 ^ 64 }
     ensures name { symbol_name all_slots result ≡ slot_in (names_of (in_sight sight.now)) (name_of name.now) }
@@ -54,9 +54,9 @@ pub(crate) fn entry(entries: &Names, name: &tree::Name) -> Symbol
 }
 
 /// The symbols of names in sight; an error for want of memory.
-pub(crate) fn symbols(
+pub(crate) fn symbols<T: SymbolTable>(
     alloc: Global,
-    sight: &Sight,
+    sight: &Sight<T>,
     list: &[tree::Name],
 ) -> Result<Vec<Symbol>, AllocError>
     requires seen { AreSeen (in_sight sight.now) (map text_of (names_view list.now)) }
@@ -73,7 +73,7 @@ pub(crate) fn symbols(
 
 /// The flat form of a well-formed expression over these names in sight; an error for want of memory, as which more names than a `usize` counts are
 /// refused too.
-pub fn flat_exp(alloc: Global, exp: &tree::Exp, sight: &Sight) -> Result<FlatExp, AllocError>
+pub fn flat_exp<T: SymbolTable>(alloc: Global, exp: &tree::Exp, sight: &Sight<T>) -> Result<FlatExp, AllocError>
     requires { IsExp (in_sight sight.now) (plain exp.now) }
     ensures tree { IfOk result
         (λ flat. (xs : List MeaningName) → AreSlots xs → HasNumbers xs flat →
@@ -88,10 +88,10 @@ pub fn flat_exp(alloc: Global, exp: &tree::Exp, sight: &Sight) -> Result<FlatExp
 
 /// The flat form of an expression whose names are in sight; an error for want of memory.
 #[cycle(flat_exp)]
-pub(crate) fn slotted_exp(
+pub(crate) fn slotted_exp<T: SymbolTable>(
     alloc: Global,
     exp: &tree::Exp,
-    sight: &Sight,
+    sight: &Sight<T>,
 ) -> Result<FlatExp, AllocError>
     requires seen { SeesExp (in_sight sight.now) (plain exp.now) }
     requires small { length (in_sight sight.now) < 2 ^ 64 }
@@ -128,7 +128,7 @@ pub(crate) fn slotted_exp(
 
 /// The flat form of a part.
 #[cycle(flat_exp)]
-fn boxed_exp(alloc: Global, exp: &tree::Exp, sight: &Sight) -> Result<Box<FlatExp>, AllocError>
+fn boxed_exp<T: SymbolTable>(alloc: Global, exp: &tree::Exp, sight: &Sight<T>) -> Result<Box<FlatExp>, AllocError>
     requires seen { SeesExp (in_sight sight.now) (plain exp.now) }
     requires small { length (in_sight sight.now) < 2 ^ 64 }
     ensures tree { IfOk result (λ flat. exp_of all_slots flat.value ≡ exp_in (names_of (in_sight sight.now)) (plain exp.now)) }
@@ -139,11 +139,11 @@ fn boxed_exp(alloc: Global, exp: &tree::Exp, sight: &Sight) -> Result<Box<FlatEx
 }
 
 /// The flat forms of two expressions whose names are in sight; an error for want of memory.
-pub(crate) fn two_flat_exps(
+pub(crate) fn two_flat_exps<T: SymbolTable>(
     alloc: Global,
     first: &tree::Exp,
     second: &tree::Exp,
-    sight: &Sight,
+    sight: &Sight<T>,
 ) -> Result<(FlatExp, FlatExp), AllocError>
     requires first { SeesExp (in_sight sight.now) (plain first.now) }
     requires second { SeesExp (in_sight sight.now) (plain second.now) }

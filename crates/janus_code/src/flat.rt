@@ -19,7 +19,7 @@ ghost use Rattle.janus_code.specs.Width.{open_in_stm, open_in_block, width_of};
 use crate::code::{Block, Code, SlottedCode, Statement, Symbol};
 use crate::expression::{entry, slotted_exp, symbol, symbol_of, symbols, two_flat_exps};
 use crate::fault::InvertFault;
-use janus_check::{Checked, Kind, Sight};
+use janus_check::{Checked, Kind, Sight, SymbolTable};
 use janus_names::Names;
 use janus_syntax::tree::Stm;
 use std::alloc::{AllocError, Global};
@@ -36,9 +36,9 @@ struct Draft {
 
 /// The flat code of a checked cell's statements; each procedure that they may call has its name in the table. The only error is want of memory, as which
 /// more names than a `usize` counts are refused too.
-pub fn flatten(
+pub fn flatten<T: SymbolTable>(
     alloc: Global,
-    checked: &Checked,
+    checked: &Checked<T>,
     entries: &Names,
 ) -> Result<SlottedCode, InvertFault>
     requires entries { HasEntries (heads_called checked.now) entries.now }
@@ -56,10 +56,10 @@ pub fn flatten(
 }
 
 /// The flat code of a block.
-pub(crate) fn flat_code(
+pub(crate) fn flat_code<T: SymbolTable>(
     alloc: Global,
     block: &[Stm],
-    sight: &Sight,
+    sight: &Sight<T>,
     entries: &Names,
 ) -> Result<SlottedCode, AllocError>
     requires { SeesBlk entries.now (in_sight sight.now) (block_of block.now) }
@@ -100,10 +100,10 @@ fn number_law(number: usize)
 
 /// Adds the statements of a block.
 #[cycle(flat)]
-fn flat_block(
+fn flat_block<T: SymbolTable>(
     alloc: Global,
     block: &[Stm],
-    sight: &Sight,
+    sight: &Sight<T>,
     entries: &Names,
     draft: &mut Draft,
 ) -> Result<Block, AllocError>
@@ -152,7 +152,7 @@ fn add_block(draft: &mut Draft, numbers: &[usize]) -> Result<Block, AllocError>
 }
 
 /// The symbol of a local over the names in sight, for which the width then has room. The only error is that a `usize` does not count the names with it.
-fn local(sight: &Sight, draft: &mut Draft) -> Result<Symbol, AllocError>
+fn local<T: SymbolTable>(sight: &Sight<T>, draft: &mut Draft) -> Result<Symbol, AllocError>
     requires small { length (in_sight sight.now) < 2 ^ 64 }
     ensures name { IfOk result (λ symbol. symbol_name all_slots symbol ≡ slot (length (names_of (in_sight sight.now)))) }
     ensures number { IfOk result (λ symbol. symbol.number ≡ length (in_sight sight.now)) }
@@ -173,10 +173,10 @@ fn local(sight: &Sight, draft: &mut Draft) -> Result<Symbol, AllocError>
 
 /// Adds a statement, behind those of its blocks, and gives its number.
 #[cycle(flat)]
-fn flat_statement(
+fn flat_statement<T: SymbolTable>(
     alloc: Global,
     statement: &Stm,
-    sight: &Sight,
+    sight: &Sight<T>,
     entries: &Names,
     draft: &mut Draft,
 ) -> Result<usize, AllocError>
@@ -236,14 +236,14 @@ fn flat_statement(
         }
         Stm::LocalInt(name, first, block, _, last) => {
             let symbol = local(sight, draft)?;
-            let inside = Sight::Local(&*name, Kind::Number, &*sight);
+            let inside = (&*sight).local(&*name, Kind::Number);
             let block = flat_block(alloc, block, &inside, entries, draft)?;
             let (first, last) = two_flat_exps(alloc, first, last, sight)?;
             add(draft, Statement::LocalInt(symbol, first, block, last))
         }
         Stm::LocalStack(name, block, _) => {
             let symbol = local(sight, draft)?;
-            let inside = Sight::Local(&*name, Kind::Stack, &*sight);
+            let inside = (&*sight).local(&*name, Kind::Stack);
             let block = flat_block(alloc, block, &inside, entries, draft)?;
             add(draft, Statement::LocalStack(symbol, block))
         }

@@ -15,7 +15,7 @@ use crate::code::{FlatParameter, FlatProcedure, SlottedProcedure};
 use crate::expression::{entry, symbol_of};
 use crate::fault::InvertFault;
 use crate::flat::flat_code;
-use janus_check::Checked;
+use janus_check::{Checked, SymbolTable};
 use janus_check::parameter::kind_of;
 use janus_names::Names;
 use janus_syntax::tree;
@@ -23,9 +23,9 @@ use std::alloc::{AllocError, Global};
 
 /// The flat code of a procedure that a checked cell defines; each procedure that the cell may call has its name in the table. The body sees the parameters
 /// alone, the first in the highest slot. The only error is want of memory, as which more names than a `usize` counts are refused too.
-pub fn flatten_procedure(
+pub fn flatten_procedure<T: SymbolTable>(
     alloc: Global,
-    checked: &Checked,
+    checked: &Checked<T>,
     procedure: &tree::Procedure,
     entries: &Names,
 ) -> Result<SlottedProcedure, InvertFault>

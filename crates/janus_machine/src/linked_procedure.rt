@@ -4,16 +4,19 @@ ghost use Rattle.std.specs.Prelude.{◌≡◌, ◌≤◌, length, IfOk};
 ghost use Rattle.janus_meaning.specs.Limit.{parameter_limit};
 ghost use Rattle.janus_code.specs.CodeBlock.{code_block};
 ghost use Rattle.janus_code.specs.Slotted.{all_slots};
-ghost use Rattle.janus_machine.specs.LinkedProcedure.{name_number_of, body_of};
+ghost use Rattle.janus_machine.specs.LinkedProcedure.{name_number_of, kinds_of, kinds_told, body_of};
 
 use crate::linked_code::LinkedCode;
+use janus_check::Kind;
+use janus_code::FlatParameter;
 use janus_meaning::limit::PARAMETER_LIMIT;
 use std::alloc::{AllocError, Global};
 
-/// The number of a procedure's name, and its body both ways, which runs over its parameters.
+/// The number of a procedure's name, the kinds of its parameters, and its body both ways, which runs over these.
 #[derive(Drop)]
 pub struct LinkedProcedure {
     pub(crate) name: usize,
+    pub(crate) kinds: Vec<Kind>,
     pub(crate) book: LinkedCode,
 }
 
@@ -28,6 +31,7 @@ impl LinkedProcedure {
         flat: janus_code::FlatProcedure,
     ) -> Result<LinkedProcedure, AllocError>
         ensures name { IfOk result (λ procedure. name_number_of procedure ≡ flat.name.number) }
+        ensures kinds { IfOk result (λ procedure. kinds_of procedure ≡ kinds_told flat.parameters.items) }
         ensures parameters { IfOk result (λ procedure. names_under (body_of procedure) ≡ length flat.parameters.items) }
         ensures few { IfOk result (λ procedure. names_under (body_of procedure) ≤ parameter_limit) }
         ensures body { IfOk result (λ procedure. block_in (body_of procedure) Forward ≡ code_block all_slots flat.body) }
@@ -37,7 +41,27 @@ impl LinkedProcedure {
         if count > PARAMETER_LIMIT {
             return Err(AllocError);
         }
+        let kinds = kinds_in_order(alloc, &flat.parameters)?;
         let book = LinkedCode::new(alloc, flat.body, count as u32)?;
-        Ok(LinkedProcedure { name, book })
+        Ok(LinkedProcedure { name, kinds, book })
     }
+
+    /// The kinds of its parameters, in their order.
+    pub fn kinds(&self) -> &[Kind]
+        ensures { result.now ≡ kinds_of self.now }
+    {
+        &self.kinds
+    }
+}
+
+/// The kinds of parameters, in their order, with no room to spare, since they are kept for long. The only error is want of memory.
+fn kinds_in_order(alloc: Global, parameters: &[FlatParameter]) -> Result<Vec<Kind>, AllocError>
+    ensures { IfOk result (λ kinds. kinds.items ≡ kinds_told parameters.now) }
+{
+    let mut kinds = Vec::new(alloc);
+    for i in 0..parameters.len() {
+        kinds.push(parameters[i].kind)?;
+    }
+    kinds.shrink_to_fit();
+    Ok(kinds)
 }

@@ -18,6 +18,10 @@ use Rattle.janus_code.specs.Procedures.{param_of, proc_of, ProcedureHasNumbers}
 use Rattle.janus_code.specs.Slotted.{all_slots}
 use Rattle.janus_code.specs.declared.code.Symbol.{Symbol}
 use Rattle.janus_code.specs.declared.code.FlatProcedure as flat
+use Rattle.janus_code.specs.declared.code.FlatParameter.{FlatParameter}
+use Rattle.janus_check.specs.Names.{meant_kind, meant_kinds}
+use Rattle.janus_meaning.specs.Shape.{kinds_in}
+use Rattle.kernel_runner.specs.LinkedProcedure.{kinds_of, kinds_told}
 use Rattle.janus_code.proofs.Slotting.{are_all}
 use Rattle.kernel_runner.specs.Cells.{parameters}
 use Rattle.kernel_runner.specs.Bodies.{IsBody, IsBodyAt, AreBodiesFrom}
@@ -37,19 +41,25 @@ names_stacked : {A : Type 0} (l : List (Name × A)) → names_of (stacked l) ≡
 names_stacked [] = refl
 names_stacked (e ∷ l) = ap (λ xs. slot (length l) ∷ xs) (names_stacked l)
 
+-- kinds of flat parameters are those that their procedure has in the meaning
+kinds_flat : (ps : List FlatParameter) → kinds_in (map (param_of all_slots) ps) ≡ meant_kinds (kinds_told ps)
+kinds_flat [] = refl
+kinds_flat (p ∷ ps) = ap (λ ks. meant_kind p.kind ∷ ks) (kinds_flat ps)
+
 module _ (es : List Name) (p : Proc) (f : flat.FlatProcedure) (is : proc_of all_slots f ≡ procedure_in es p) (numbered : ProcedureHasNumbers all_slots f)
     (b : LinkedProcedure) (name : b.name ≡ f.name.number) where
   pub name_of_flat : (procedure_in es p).name ≡ slot b.name
   name_of_flat = ap (λ (q : Proc). q.name) (sym is) ∙ slot_is f.name numbered.name ∙ ap slot (sym name)
 
-  pub body_of_flat : names_under b.book ≡ length f.parameters.items → names_under b.book ≤ parameter_limit →
+  pub body_of_flat : names_under b.book ≡ length f.parameters.items → names_under b.book ≤ parameter_limit → kinds_of b ≡ kinds_told f.parameters.items →
       block_in b.book Forward ≡ code_block all_slots f.body → IsBody b (procedure_in es p)
-  body_of_flat count few body =
+  body_of_flat count few kinds body =
       let many : length p.params ≡ length f.parameters.items = sym (stacked_count p.params) ∙ ap (λ (q : Proc). length q.params) (sym is)
       ∙ length-map f.parameters.items (param_of all_slots) in
       record {
         few = few;
         names = names_stacked p.params ∙ ap parameters (many ∙ sym count);
+        kinds = ap (λ (q : Proc). kinds_in q.params) (sym is) ∙ kinds_flat f.parameters.items ∙ ap meant_kinds (sym kinds);
         body = body ∙ ap (λ (q : Proc). q.body) is;
       }
 

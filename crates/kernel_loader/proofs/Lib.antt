@@ -6,6 +6,8 @@ pub mod Sighted
 pub mod Named
 pub mod Unlisted
 pub mod Entries
+pub mod InEffect
+pub mod Tabled
 -- Of janus_machine, given again.
 pub use Rattle.kernel_runner.proofs.Bodies
 pub use Rattle.kernel_runner.proofs.BodiesInEffect

@@ -16,6 +16,7 @@ use Rattle.janus_syntax.specs.declared.tree.Procedure as Defined
 use Rattle.janus_check.specs.Names.{shape_in, heads_in}
 use Rattle.janus_check.specs.Checked.{cell_in, known_in, names_seen, heads_called}
 use Rattle.janus_check.specs.declared.checked.Checked.{Checked}
+use Rattle.janus_check.specs.declared.table.SymbolTable.{Ghosts}
 use Rattle.janus_code.specs.Slotted.{HasEntries}
 use Rattle.kernel_runner.specs.StoreState.{shown_store}
 use Rattle.kernel_machine.specs.Language.{IsSound}
@@ -37,7 +38,8 @@ names_declared [] g s e = e
 names_declared (d ∷ ds) g s e =
     names_declared ds ((declared_name d, declared_kind d) ∷ g) (declare_one d s) (ap (λ (l : List Name). declared_name d ∷ l) e ∙ sym (one_declared d s))
 
-pub names_here : {L : Type 0} (runner : Runner L) (checked : Checked) (shown : ShownWorld) → ShowsKnown runner (known_in checked) shown →
+pub names_here : {L : Type 0} (runner : Runner L) {T : Type 0} {d : Ghosts T} (checked : Checked T d) (shown : ShownWorld) →
+    ShowsKnown runner (known_in checked) shown →
     names_of (names_seen checked) ≡ names_in (declare (plain_cell (cell_in checked)).declarations (shown_store runner.counted.store))
 names_here runner checked shown h =
     let known : names_of (shape_in (known_in checked).names) ≡ names_in (shown_store runner.counted.store) =
@@ -66,7 +68,8 @@ entries_of es (p ∷ ps) h = entry_more es (heads_of ps) p (entries_of es ps h.1
 pub sound_call : (es : List Name) (w : World) → IsSound w → AreListed es w.procedures → BodiesCall (IsMet es) w.procedures
 sound_call es w sound listed = bodies_call (heads_of w.procedures) es (entries_of es w.procedures listed) w.procedures sound.formed.procedures
 
-pub entries_here : {L : Type 0} (runner : Runner L) (checked : Checked) (shown : ShownWorld) (es : List Name) → ShowsKnown runner (known_in checked) shown →
+pub entries_here : {L : Type 0} (runner : Runner L) {T : Type 0} {d : Ghosts T} (checked : Checked T d) (shown : ShownWorld) (es : List Name) →
+    ShowsKnown runner (known_in checked) shown →
     GoOn runner.entries es → AreListed es (plain_cell (cell_in checked)).procedures → HasEntries (heads_called checked) es
 entries_here runner checked shown es h onward listed =
     let older : HasEntries (heads_of shown.world.procedures) es =

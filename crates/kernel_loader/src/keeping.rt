@@ -8,7 +8,7 @@ ghost use Rattle.janus_code.specs.Slotted.{HasEntries, all_slots};
 ghost use Rattle.kernel_runner.specs.Procedures.{kept_in};
 ghost use Rattle.kernel_loader.specs.Keeping.{IsKeptBehind, AreBodiesBehind, KeepsOlder, KeepsDefined, HasFewPlaces};
 
-use janus_check::Checked;
+use janus_check::{Checked, SymbolTable};
 use janus_code::flatten_procedure;
 use janus_names::Names;
 use janus_syntax::tree::Procedure;
@@ -17,9 +17,9 @@ use std::alloc::{AllocError, Global};
 
 /// Keeps the bodies of the procedures of a checked cell, one behind another; an error for want of memory, or for a body of more statements or places than
 /// 32 bits count, after which some of them may be kept.
-pub fn keep_all(
+pub fn keep_all<T: SymbolTable>(
     alloc: Global,
-    checked: &Checked,
+    checked: &Checked<T>,
     procedures: &[Procedure],
     entries: &Names,
     kept: &mut Procedures,
@@ -39,9 +39,9 @@ pub fn keep_all(
 }
 
 /// Keeps the body of a procedure; an error for want of memory, or for a body of more statements or places than 32 bits count, after which what was kept is.
-fn keep(
+fn keep<T: SymbolTable>(
     alloc: Global,
-    checked: &Checked,
+    checked: &Checked<T>,
     procedure: &Procedure,
     entries: &Names,
     kept: &mut Procedures,

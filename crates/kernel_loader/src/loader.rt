@@ -25,7 +25,7 @@ use crate::checking::cell_of_text;
 use crate::keeping::{keep_all, slots_law};
 use crate::known::known_over;
 use crate::listing::list_all;
-use janus_check::Checked;
+use janus_check::{Checked, SymbolTable};
 use janus_code::flatten;
 use janus_names::Names;
 use janus_syntax::tree::Procedure;
@@ -86,9 +86,9 @@ pub fn load<L: Ledger>(
 /// Links a cell that was checked over what is known of the shown world, and keeps the bodies of its procedures: its code both ways, and where these bodies
 /// begin. The only error is want of memory, as which code of more statements, places or names than 32 bits count is
 /// refused too; it leaves no names in the table.
-fn link<L: Ledger>(
+fn link<L: Ledger, T: SymbolTable>(
     alloc: Global,
-    checked: &Checked,
+    checked: &Checked<T>,
     runner: &mut Runner<L>,
 ) -> Result<(LinkedCode, usize), AllocError>
     requires known { (shown : ShownWorld) × ShowsKnown runner.old (known_in checked.now) shown }
@@ -119,9 +119,9 @@ fn link<L: Ledger>(
 }
 
 /// Lists the names of a cell's procedures, and links it as `link` does; an error may leave some of these names in the table.
-fn list_and_link<L: Ledger>(
+fn list_and_link<L: Ledger, T: SymbolTable>(
     alloc: Global,
-    checked: &Checked,
+    checked: &Checked<T>,
     runner: &mut Runner<L>,
 ) -> Result<(LinkedCode, usize), AllocError>
     requires known { (shown : ShownWorld) × ShowsKnown runner.old (known_in checked.now) shown }
@@ -154,9 +154,9 @@ fn list_and_link<L: Ledger>(
 
 /// Keeps the bodies of a cell's procedures, each of which has its name in the table, and gives the cell's code both ways; an error for want of memory, or
 /// for code of more statements, places or names than 32 bits count, after which some of the bodies may be kept.
-fn keep_and_link(
+fn keep_and_link<T: SymbolTable>(
     alloc: Global,
-    checked: &Checked,
+    checked: &Checked<T>,
     entries: &Names,
     kept: &mut Procedures,
 ) -> Result<LinkedCode, AllocError>
@@ -176,7 +176,11 @@ fn keep_and_link(
 
 /// The code of a cell both ways, which runs over the names that its statements see. The only error is want of memory, as which code of more statements,
 /// places or names than 32 bits count is refused too.
-fn book_of(alloc: Global, checked: &Checked, entries: &Names) -> Result<LinkedCode, AllocError>
+fn book_of<T: SymbolTable>(
+    alloc: Global,
+    checked: &Checked<T>,
+    entries: &Names,
+) -> Result<LinkedCode, AllocError>
     requires entries { HasEntries (heads_called checked.now) entries.now }
     ensures block { IfOk result (λ book.
         block_of_book book Forward ≡ block_in entries.now (names_of (names_seen checked.now)) (plain_cell (cell_in checked.now)).block) }

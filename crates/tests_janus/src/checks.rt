@@ -101,7 +101,7 @@ fn check_text(env: &Env, text: &str, sheet: &mut Sheet) {
 }
 
 /// That a cell passes.
-fn tell_passed(checked: Checked, sheet: &mut Sheet) {
+fn tell_passed(checked: Checked<Env>, sheet: &mut Sheet) {
     let _cell = checked.into_cell();
     sheet.write("passes");
 }

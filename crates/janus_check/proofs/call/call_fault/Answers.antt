@@ -11,7 +11,7 @@ use Rattle.janus_check.proofs.CallLemmas.{count_same, count_differs}
 use Rattle.janus_check.proofs.call.call_fault.Goals as goal
 
 pub returns-in-None : goal.returns-in-None
-returns-in-None c =
+returns-in-None g c =
     let g = in_sight c.args.sight.now in
     let at = c.args.called.now.span in
     let ys = names_view c.args.arguments.now in
@@ -21,7 +21,7 @@ returns-in-None c =
     ∙ ap (λ o. first_from first (twice_faults [] ys ++ found_faults g o at ys)) (sym c.in-None.ensures)
 
 pub returns-in-Some : goal.returns-in-Some
-returns-in-Some c =
+returns-in-Some g c =
     let g = in_sight c.args.sight.now in
     let at = c.args.called.now.span in
     let ys = names_view c.args.arguments.now in
@@ -34,7 +34,7 @@ returns-in-Some c =
     ∙ ap (λ o. first_from first (twice_faults [] ys ++ found_faults g o at ys)) (sym c.in-Some.ensures)
 
 pub returns-in-Some-2 : goal.returns-in-Some-2
-returns-in-Some-2 c =
+returns-in-Some-2 g c =
     let g = in_sight c.args.sight.now in
     let at = c.args.called.now.span in
     let ys = names_view c.args.arguments.now in

@@ -11,7 +11,7 @@ use Rattle.janus_check.proofs.DropLemmas.{dropped}
 use Rattle.janus_check.proofs.call.kinds_fault.Goals as goal
 
 pub loop-i-preserved : goal.loop-i-preserved
-loop-i-preserved c =
+loop-i-preserved g c =
     let g = in_sight c.args.sight.now in
     let ks = c.args.kinds.now in
     let ys = c.args.arguments.now in

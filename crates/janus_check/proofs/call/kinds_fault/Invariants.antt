@@ -8,6 +8,6 @@ use Rattle.janus_check.proofs.call.kinds_fault.Given as goal
 
 -- what is found from here on is what is found from the beginning
 abbrev pub invariant-loop-i : goal.invariant-loop-i
-invariant-loop-i l =
+invariant-loop-i g l =
     first_from l.next (kinds_faults (in_sight l.sight) (meant_kinds (drop l.i l.kinds)) (names_view (drop l.i l.arguments)))
     ≡ first_from l.fn.first (kinds_faults (in_sight l.sight) (meant_kinds l.kinds) (names_view l.arguments))

@@ -9,8 +9,9 @@ use Rattle.janus_check.proofs.FormedLemmas.{own_is}
 use Rattle.janus_check.proofs.cell.first_fault.Goals as goal
 
 pub returns-clause-first : goal.returns-clause-first
-returns-clause-first c =
-    let env = c.args.env.now in
+returns-clause-first g c =
+    let table = g.T.SymbolTable.known in
+    let env = (table c.args.env.now) in
     let g = shape_in env.names in
     let hs = heads_in env.procedures in
     let ds = c.args.cell.now.declarations.items in
@@ -34,6 +35,8 @@ returns-clause-first c =
     (c.in_ok-first-2.ensures.fault ∙ ap (λ n. first_from c.in_ok-first.first (heads_faults hs n (procedures_view c.deref-2.result.now))) none
     ∙ ap (λ ps. first_from c.in_ok-first.first (heads_faults hs [] (procedures_view ps))) c.deref-2.ensures.value)
     (c.block_fault-first.ensures
+    ∙ (λ i. first_from c.in_ok-first-2.first (block_faults (c.declared-sight.ensures.heads i) (c.declared-sight.ensures.names i)
+    (block_view c.deref-3.result.now)))
     ∙ ap (λ b. first_from c.in_ok-first-2.first (block_faults (heads_over env c.define_all.new.own) (over g c.define_all.new.own.names) (block_view b)))
     c.deref-3.ensures.value
     ∙ ap (λ n. first_from c.in_ok-first-2.first (block_faults (heads_over env c.define_all.new.own) n (block_view b))) own
@@ -43,8 +46,10 @@ returns-clause-first c =
     ∙ ap (λ n. first_from c.block_fault-first.result (bodies_faults n (procedures_view ps))) heads)
 
 pub returns-clause-own : goal.returns-clause-own
-returns-clause-own c = λ formed.
-    let env = c.args.env.now in
+returns-clause-own g c =
+    let table = g.T.SymbolTable.known in
+    λ formed.
+    let env = (table c.args.env.now) in
     let g = shape_in env.names in
     let hs = heads_in env.procedures in
     let ds = c.args.cell.now.declarations.items in

@@ -7,7 +7,7 @@ use Rattle.janus_check.proofs.FirstLemmas.{two_parts}
 use Rattle.janus_check.proofs.expression.+exp_fault.Goals as goal
 
 pub returns-in-Binary : goal.returns-in-Binary
-returns-in-Binary t c =
+returns-in-Binary g t c =
     let faults : Exp → _ = faults_of (faults_at c.args.context.now) in
     two_parts c.args.first c.exp_fault-next.result c.exp_fault-in-Binary.result (faults (exp_view c.in-Binary.left.value))
     (faults (exp_view c.in-Binary.right.value))
@@ -16,7 +16,7 @@ returns-in-Binary t c =
     ∙ ap (λ e. first_from c.args.first (faults (exp_view e))) (sym c.in-Binary.is)
 
 pub returns-in-And : goal.returns-in-And
-returns-in-And t c =
+returns-in-And g t c =
     let faults : Exp → _ = faults_of (faults_at c.args.context.now) in
     two_parts c.args.first c.exp_fault-next-in-And.result c.exp_fault-in-And.result (faults (exp_view c.in-And.left.value))
     (faults (exp_view c.in-And.right.value))
@@ -25,7 +25,7 @@ returns-in-And t c =
     ∙ ap (λ e. first_from c.args.first (faults (exp_view e))) (sym c.in-And.is)
 
 pub returns-in-Or : goal.returns-in-Or
-returns-in-Or t c =
+returns-in-Or g t c =
     let faults : Exp → _ = faults_of (faults_at c.args.context.now) in
     two_parts c.args.first c.exp_fault-next-in-Or.result c.exp_fault-in-Or.result (faults (exp_view c.in-Or.left.value)) (faults (exp_view c.in-Or.right.value))
     (c.exp_fault-next-in-Or.ensures ∙ ap (λ e. first_from c.args.first (faults (exp_view e))) c.deref-in-Or.ensures)

@@ -8,20 +8,26 @@ use Rattle.janus_check.proofs.UseLemmas.{exp_formed}
 use Rattle.janus_check.proofs.expression.check_exp.Goals as goal
 
 pub returns-in-None-clause-passes : goal.returns-in-None-clause-passes
-returns-in-None-clause-passes c =
-    let found = c.exp_fault.ensures ∙ ap (λ n. first_from None (exp_faults (over (shape_in n) c.args.env.now.names) (exp_view c.args.exp.now)))
-    c.new-none.ensures.names in
-    first_none (exp_faults (shape_in c.args.env.now.names) (exp_view c.args.exp.now)) (sym found ∙ c.in-None.is)
+returns-in-None-clause-passes g c =
+    let table = g.T.SymbolTable.known in
+    let found = c.exp_fault.ensures
+    ∙ ap (λ n. first_from None (exp_faults n (exp_view c.args.exp.now)))
+    (c.declared-sight.ensures.names ∙ ap (over (shape_in (table c.args.env.now).names)) c.new-none.ensures.names) in
+    first_none (exp_faults (shape_in (table c.args.env.now).names) (exp_view c.args.exp.now)) (sym found ∙ c.in-None.is)
 
 pub returns-in-None-clause-well_formed : goal.returns-in-None-clause-well_formed
-returns-in-None-clause-well_formed c =
-    let found = c.exp_fault.ensures ∙ ap (λ n. first_from None (exp_faults (over (shape_in n) c.args.env.now.names) (exp_view c.args.exp.now)))
-    c.new-none.ensures.names in
-    exp_formed (shape_in c.args.env.now.names) (exp_view c.args.exp.now)
-    (first_none (exp_faults (shape_in c.args.env.now.names) (exp_view c.args.exp.now)) (sym found ∙ c.in-None.is))
+returns-in-None-clause-well_formed g c =
+    let table = g.T.SymbolTable.known in
+    let found = c.exp_fault.ensures
+    ∙ ap (λ n. first_from None (exp_faults n (exp_view c.args.exp.now)))
+    (c.declared-sight.ensures.names ∙ ap (over (shape_in (table c.args.env.now).names)) c.new-none.ensures.names) in
+    exp_formed (shape_in (table c.args.env.now).names) (exp_view c.args.exp.now)
+    (first_none (exp_faults (shape_in (table c.args.env.now).names) (exp_view c.args.exp.now)) (sym found ∙ c.in-None.is))
 
 pub returns-clause-first : goal.returns-clause-first
-returns-clause-first c =
-    let found = c.exp_fault.ensures ∙ ap (λ n. first_from None (exp_faults (over (shape_in n) c.args.env.now.names) (exp_view c.args.exp.now)))
-    c.new-none.ensures.names in
-    found_is_first (exp_faults (shape_in c.args.env.now.names) (exp_view c.args.exp.now)) c.in-Some.fault (sym found ∙ c.in-Some.is)
+returns-clause-first g c =
+    let table = g.T.SymbolTable.known in
+    let found = c.exp_fault.ensures
+    ∙ ap (λ n. first_from None (exp_faults n (exp_view c.args.exp.now)))
+    (c.declared-sight.ensures.names ∙ ap (over (shape_in (table c.args.env.now).names)) c.new-none.ensures.names) in
+    found_is_first (exp_faults (shape_in (table c.args.env.now).names) (exp_view c.args.exp.now)) c.in-Some.fault (sym found ∙ c.in-Some.is)

@@ -11,7 +11,7 @@ use Rattle.janus_check.proofs.LookupLemmas.{same_as_bytes}
 use Rattle.janus_check.proofs.expression.fault_at.Goals as goal
 
 pub returns-then-eq : goal.returns-then-eq
-returns-then-eq c =
+returns-then-eq g c =
     let g = in_sight c.in-EndOfLocal.sight.now in
     let same : same_name (name_of c.args.name.now) (name_of c.in-EndOfLocal.local.now) ≡ true =
     same_as_bytes (name_of c.args.name.now) (name_of c.in-EndOfLocal.local.now) ∙ sym c.if-eq.ensures in
@@ -21,7 +21,7 @@ returns-then-eq c =
     ∙ ap (λ s. first_from c.args.first (faults_at s (meant_kind c.args.kind) (name_view c.args.name.now))) (sym c.in-EndOfLocal.is)
 
 pub returns-else-eq : goal.returns-else-eq
-returns-else-eq c =
+returns-else-eq g c =
     let g = in_sight c.in-EndOfLocal.sight.now in
     let other : same_name (name_of c.args.name.now) (name_of c.in-EndOfLocal.local.now) ≡ false =
     same_as_bytes (name_of c.args.name.now) (name_of c.in-EndOfLocal.local.now) ∙ sym c.if-eq.ensures in

@@ -9,7 +9,7 @@ use Rattle.janus_check.proofs.HeadLemmas.{head_added}
 use Rattle.janus_check.proofs.procedure.add.Goals as goal
 
 pub returns-clause-heads : goal.returns-clause-heads
-returns-clause-heads c =
+returns-clause-heads g c =
     let f = name_of c.args.name.now in
     let own = heads_in c.args.own.now.procedures in
     let cs = meant_kinds c.args.kinds.items in
@@ -23,10 +23,11 @@ returns-clause-heads c =
     ∙ sym (head_added own f cs absent)
 
 pub returns-clause-counted : goal.returns-clause-counted
-returns-clause-counted c =
+returns-clause-counted g c =
+    let table = g.T.SymbolTable.known in
     let f = name_of c.args.name.now in
     let own = heads_in c.args.own.now.procedures in
-    let env = heads_in c.args.env.now.procedures in
+    let env = heads_in (table c.args.env.now).procedures in
     let cs = meant_kinds c.args.kinds.items in
     let new = ap heads_in c.in_ok-define.ensures.ok ∙ above-append meant_kinds [] c.args.own.now.procedures ((_, c.args.kinds.items) ∷ [])
     ∙ ap (λ f. (f, cs) ∷ own) c.in_ok-clone.ensures.cases in

@@ -8,8 +8,9 @@ use Rattle.janus_check.proofs.DropLemmas.{dropped}
 use Rattle.janus_check.proofs.procedure.bodies_fault.Goals as goal
 
 pub loop-i-preserved : goal.loop-i-preserved
-loop-i-preserved c =
-    let hs = heads_over c.args.env.now c.args.own.now in
+loop-i-preserved g c =
+    let table = g.T.SymbolTable.known in
+    let hs = heads_over (table c.args.env.now) c.args.own.now in
     let ps = c.args.procedures.now in
     let i = c.loop-i.i in
     let p = c.index-procedures-i.result in

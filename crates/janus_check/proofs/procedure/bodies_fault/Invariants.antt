@@ -7,6 +7,7 @@ use Rattle.janus_check.proofs.procedure.bodies_fault.Given as goal
 
 -- what is found from here on is what is found from the beginning
 abbrev pub invariant-loop-i : goal.invariant-loop-i
-invariant-loop-i l =
-    first_from l.next (bodies_faults (heads_over l.env l.own) (procedures_view (drop l.i l.procedures)))
-    ≡ first_from l.fn.first (bodies_faults (heads_over l.env l.own) (procedures_view l.procedures))
+invariant-loop-i g l =
+    let table = g.T.SymbolTable.known in
+    first_from l.next (bodies_faults (heads_over (table l.env) l.own) (procedures_view (drop l.i l.procedures)))
+    ≡ first_from l.fn.first (bodies_faults (heads_over (table l.env) l.own) (procedures_view l.procedures))

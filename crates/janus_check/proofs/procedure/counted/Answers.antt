@@ -6,16 +6,17 @@ use Rattle.janus_check.proofs.ScopeLemmas.{at_second, different_within, length-a
 use Rattle.janus_check.proofs.procedure.counted.Goals as goal
 
 pub overflow_add-result : goal.overflow_add-result
-overflow_add-result c =
+overflow_add-result g c =
+    let table = g.T.SymbolTable.known in
     let own = heads_in c.args.own.now.procedures in
-    let env = heads_in c.args.env.now.procedures in
+    let env = heads_in (table c.args.env.now).procedures in
     omega (
       arith,
       c.requires.counted,
       different_within (own ++ env),
       length-append own env,
       length-alone meant_kinds c.args.own.now.procedures,
-      length-alone meant_kinds c.args.env.now.procedures,
+      length-alone meant_kinds (table c.args.env.now).procedures,
       c.procedures.ensures.count,
       c.procedures.ensures.small,
       c.procedures-2.ensures.count,
@@ -23,12 +24,14 @@ overflow_add-result c =
     )
 
 pub returns-in-Some : goal.returns-in-Some
-returns-in-Some c =
+returns-in-Some g c =
+    let table = g.T.SymbolTable.known in
     sym (ap (λ o. count_new o c.args.count)
-    (at_second c.args.name.now (heads_in c.args.own.now.procedures) (heads_in c.args.env.now.procedures) c.requires.new ∙ c.in-Some.ensures))
+    (at_second c.args.name.now (heads_in c.args.own.now.procedures) (heads_in (table c.args.env.now).procedures) c.requires.new ∙ c.in-Some.ensures))
 
 pub returns-in-None : goal.returns-in-None
-returns-in-None c =
+returns-in-None g c =
+    let table = g.T.SymbolTable.known in
     let e = ap (λ o. count_new o c.args.count)
-    (at_second c.args.name.now (heads_in c.args.own.now.procedures) (heads_in c.args.env.now.procedures) c.requires.new ∙ c.in-None.ensures) in
+    (at_second c.args.name.now (heads_in c.args.own.now.procedures) (heads_in (table c.args.env.now).procedures) c.requires.new ∙ c.in-None.ensures) in
     omega (arith, e)

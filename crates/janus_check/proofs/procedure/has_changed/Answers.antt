@@ -19,6 +19,6 @@ same Stack Array = refl
 same Stack Stack = refl
 
 pub returns-in-Some : goal.returns-in-Some
-returns-in-Some c =
+returns-in-Some g c =
     c.ne.ensures ∙ ap not (compared eq-value.it same c.in-Some.found.now c.args.kinds.now)
     ∙ sym (ap (is_changed (meant_kinds c.args.kinds.now)) c.in-Some.ensures)

@@ -11,7 +11,7 @@ use Rattle.janus_check.proofs.FirstLemmas.{first_from-append, two_parts, four_pa
 use Rattle.janus_check.proofs.statement.+stm_fault.Goals as goal
 
 pub block_fault-loop-i-preserved : goal.block_fault-loop-i-preserved
-block_fault-loop-i-preserved t c =
+block_fault-loop-i-preserved g t c =
     let g = in_sight c.args.sight.now in
     let hs = heads_seen c.args.sight.now in
     let xs = c.args.statements.now in
@@ -26,7 +26,7 @@ block_fault-loop-i-preserved t c =
     ∙ c.loop-i.invariant
 
 pub stm_fault-returns-in-AssignElement : goal.stm_fault-returns-in-AssignElement
-stm_fault-returns-in-AssignElement t c =
+stm_fault-returns-in-AssignElement g t c =
     let g = in_sight c.args.sight.now in
     let hs = heads_seen c.args.sight.now in
     let a = name_of c.in-AssignElement.name in
@@ -39,7 +39,7 @@ stm_fault-returns-in-AssignElement t c =
     ∙ ap (λ s. first_from c.args.first (stm_faults hs g (stm_view s))) (sym c.in-AssignElement.is)
 
 pub stm_fault-returns-in-If : goal.stm_fault-returns-in-If
-stm_fault-returns-in-If t c =
+stm_fault-returns-in-If g t c =
     let g = in_sight c.args.sight.now in
     let hs = heads_seen c.args.sight.now in
     let first = exp_faults g (exp_view c.in-If.test) in
@@ -56,7 +56,7 @@ stm_fault-returns-in-If t c =
     ∙ ap (λ s. first_from c.args.first (stm_faults hs g (stm_view s))) (sym c.in-If.is)
 
 pub stm_fault-returns-in-Loop : goal.stm_fault-returns-in-Loop
-stm_fault-returns-in-Loop t c =
+stm_fault-returns-in-Loop g t c =
     let g = in_sight c.args.sight.now in
     let hs = heads_seen c.args.sight.now in
     let first = exp_faults g (exp_view c.in-Loop.entry) in
@@ -74,7 +74,7 @@ stm_fault-returns-in-Loop t c =
     ∙ ap (λ s. first_from c.args.first (stm_faults hs g (stm_view s))) (sym c.in-Loop.is)
 
 pub stm_fault-returns-in-LocalInt : goal.stm_fault-returns-in-LocalInt
-stm_fault-returns-in-LocalInt t c =
+stm_fault-returns-in-LocalInt g t c =
     let g = in_sight c.args.sight.now in
     let hs = heads_seen c.args.sight.now in
     let x = name_of c.in-LocalInt.name in
@@ -84,20 +84,25 @@ stm_fault-returns-in-LocalInt t c =
     (shadow_faults g (name_view c.in-LocalInt.name)) (end_faults g x (exp_view c.in-LocalInt.begin))
     (block_faults hs inner (block_view c.in-LocalInt.body.items)) (end_faults g x (exp_view c.in-LocalInt.end))
     c.shadow_fault-next.ensures c.exp_fault-next-in-LocalInt.ensures
-    (c.block_fault-next-in-LocalInt.ensures ∙ ap (λ b. first_from past_begin (block_faults hs inner (block_view b))) c.deref-in-LocalInt.ensures.value)
+    (c.block_fault-next-in-LocalInt.ensures
+    ∙ (λ i. first_from past_begin (block_faults (c.local.ensures.heads i) (c.local.ensures.names i) (block_view c.deref-in-LocalInt.result.now)))
+    ∙ ap (λ b. first_from past_begin (block_faults hs inner (block_view b))) c.deref-in-LocalInt.ensures.value)
     c.exp_fault-in-LocalInt.ensures
     ∙ ap (λ s. first_from c.args.first (stm_faults hs g s))
     (sym (view_local_int c.in-LocalInt.name c.in-LocalInt.field-3 c.in-LocalInt.begin c.in-LocalInt.end c.in-LocalInt.body))
     ∙ ap (λ s. first_from c.args.first (stm_faults hs g (stm_view s))) (sym c.in-LocalInt.is)
 
 pub stm_fault-returns-in-LocalStack : goal.stm_fault-returns-in-LocalStack
-stm_fault-returns-in-LocalStack t c =
+stm_fault-returns-in-LocalStack g t c =
     let g = in_sight c.args.sight.now in
     let hs = heads_seen c.args.sight.now in
     let inner = (name_of c.in-LocalStack.name, AStack) ∷ g in
     let past_name = c.shadow_fault-next-in-LocalStack.result in
     two_parts c.args.first past_name c.block_fault.result (shadow_faults g (name_view c.in-LocalStack.name))
     (block_faults hs inner (block_view c.in-LocalStack.body.items)) c.shadow_fault-next-in-LocalStack.ensures
-    (c.block_fault.ensures ∙ ap (λ b. first_from past_name (block_faults hs inner (block_view b))) c.deref-in-LocalStack.ensures.value)
+    (c.block_fault.ensures
+    ∙ (λ i. first_from past_name (block_faults (c.local-in-LocalStack.ensures.heads i) (c.local-in-LocalStack.ensures.names i)
+    (block_view c.deref-in-LocalStack.result.now)))
+    ∙ ap (λ b. first_from past_name (block_faults hs inner (block_view b))) c.deref-in-LocalStack.ensures.value)
     ∙ ap (λ s. first_from c.args.first (stm_faults hs g s)) (sym (view_local_stack c.in-LocalStack.name c.in-LocalStack.field-2 c.in-LocalStack.body))
     ∙ ap (λ s. first_from c.args.first (stm_faults hs g (stm_view s))) (sym c.in-LocalStack.is)

@@ -7,6 +7,6 @@ use Rattle.janus_check.proofs.statement.+stm_fault.Given as goal
 
 -- what is found from here on is what is found from the beginning
 abbrev pub invariant-block_fault-loop-i : goal.invariant-block_fault-loop-i
-invariant-block_fault-loop-i l =
+invariant-block_fault-loop-i g l =
     first_from l.next (block_faults (heads_seen l.sight) (in_sight l.sight) (block_view (drop l.i l.statements)))
     ≡ first_from l.fn.first (block_faults (heads_seen l.sight) (in_sight l.sight) (block_view l.statements))

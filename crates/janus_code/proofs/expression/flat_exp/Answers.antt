@@ -10,10 +10,10 @@ use Rattle.janus_code.proofs.Slotting.{all_long, are_all, exp_more, same_exp, bo
 use Rattle.janus_code.proofs.expression.flat_exp.Goals as goal
 
 pub slotted_exp-requires-clause-seen : goal.slotted_exp-requires-clause-seen
-slotted_exp-requires-clause-seen c = exp_seen (in_sight c.args.sight.now) (plain c.args.exp.now) c.requires
+slotted_exp-requires-clause-seen g c = exp_seen (in_sight c.args.sight.now) (plain c.args.exp.now) c.requires
 
 pub returns-in-Some-clause-tree : goal.returns-in-Some-clause-tree
-returns-in-Some-clause-tree c =
+returns-in-Some-clause-tree g c =
     let g = in_sight c.args.sight.now in
     if_ok c.slotted_exp.result (λ flat h xs s n.
     same_exp xs all_slots flat s are_all n
@@ -21,6 +21,6 @@ returns-in-Some-clause-tree c =
     (both_ok _ _ c.slotted_exp.result c.slotted_exp.ensures.tree c.slotted_exp.ensures.numbered)
 
 pub returns-in-Some-clause-wide : goal.returns-in-Some-clause-wide
-returns-in-Some-clause-wide c =
+returns-in-Some-clause-wide g c =
     let g = in_sight c.args.sight.now in
     if_ok c.slotted_exp.result (λ flat h xs le. exp_more (names_of g) xs flat (omega (arith, length_names g, le)) h) c.slotted_exp.ensures.numbered

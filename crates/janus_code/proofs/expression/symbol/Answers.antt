@@ -6,10 +6,10 @@ use Rattle.janus_check.proofs.SlotLemmas.{slot_below}
 use Rattle.janus_code.proofs.expression.symbol.Goals as goal
 
 pub returns-clause-name : goal.returns-clause-name
-returns-clause-name c = c.symbol_of.ensures.name ∙ sym c.slot.ensures
+returns-clause-name g c = c.symbol_of.ensures.name ∙ sym c.slot.ensures
 
 pub returns-clause-numbered : goal.returns-clause-numbered
-returns-clause-numbered c =
+returns-clause-numbered g c =
     let below : c.slot.result < length (names_of (in_sight c.args.sight.now)) =
     slot_below (names_of (in_sight c.args.sight.now)) (name_of c.args.name.now) c.slot.result c.slot.ensures in
     omega (arith, below, c.symbol_of.ensures.number)

@@ -15,11 +15,11 @@ use Rattle.janus_code.proofs.Seeing.{one_name_seen}
 use Rattle.janus_code.proofs.expression.symbols.Goals as goal
 
 pub symbol-requires-clause-seen : goal.symbol-requires-clause-seen
-symbol-requires-clause-seen c =
+symbol-requires-clause-seen g c =
     one_name_seen (in_sight c.args.sight.now) c.args.list.now c.loop-i.i c.index-list-i.result c.loop-i-test.true (sym c.index-list-i.is) c.requires.seen
 
 pub loop-i-preserved : goal.loop-i-preserved
-loop-i-preserved c =
+loop-i-preserved g c =
     let xs = c.args.list.now in
     let i = c.loop-i.i in
     let x = c.index-list-i.result in

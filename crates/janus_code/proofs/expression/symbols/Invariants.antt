@@ -10,6 +10,6 @@ use Rattle.janus_code.specs.Slotted.{all_slots}
 use Rattle.janus_code.proofs.expression.symbols.Given as goal
 
 abbrev pub invariant-loop-i : goal.invariant-loop-i
-invariant-loop-i l =
+invariant-loop-i g l =
     (names_in all_slots l.symbols.items ≡ slots_in (names_of (in_sight l.sight)) (map text_of (names_view (take l.i l.list))))
     × HaveTheirNumbers (names_of (in_sight l.sight)) l.symbols.items

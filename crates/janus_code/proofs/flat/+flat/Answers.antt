@@ -13,6 +13,7 @@ use Rattle.janus_code.proofs.Flattened.{local_int_flat, local_stack_flat}
 use Rattle.janus_code.proofs.Seeing.{block_weight, one_seen, one_lighter}
 use Rattle.janus_check.specs.Sight.{in_sight}
 use Rattle.janus_meaning.specs.Syntax.{ANumber, AStack, names_of}
+use Rattle.janus_meaning.specs.Shape.{Shape}
 use Rattle.janus_check.specs.Slots.{stm_in, block_in}
 use Rattle.janus_code.specs.Seen.{SeesBlk}
 use Rattle.janus_code.specs.Slotted.{all_slots}
@@ -23,7 +24,7 @@ use Rattle.janus_code.proofs.Widths.{open_if, open_loop, open_local_int, open_lo
 use Rattle.janus_code.proofs.flat.+flat.Goals as goal
 
 pub flat_block-returns-clause-block : goal.flat_block-returns-clause-block
-flat_block-returns-clause-block t c =
+flat_block-returns-clause-block g t c =
     let d = c.loop-i.draft in
     let v = c.loop-i.invariant in
     let tree : ℕ → _ = tree_at all_slots d.members.items d.statements.items in
@@ -37,7 +38,7 @@ flat_block-returns-clause-block t c =
     if_ok c.add_block.result (λ b e. e all_slots ∙ row) c.add_block.ensures.block
 
 pub flat_statement-returns-in_ok-test-in-If-clause-tree : goal.flat_statement-returns-in_ok-test-in-If-clause-tree
-flat_statement-returns-in_ok-test-in-If-clause-tree t c =
+flat_statement-returns-in_ok-test-in-If-clause-tree g t c =
     let d = c.flat_block.new.draft in
     let e = c.flat_block-in-If.new.draft in
     let kept = block_grown all_slots d.members.items e.members.items d.statements.items e.statements.items c.in_ok-then_part-in-If.then_part
@@ -53,7 +54,7 @@ flat_statement-returns-in_ok-test-in-If-clause-tree t c =
     ∙ ap (λ s. stm_in c.args.entries.now (names_of (in_sight c.args.sight.now)) (stm_of s)) (sym c.in-If.is)) c.add-in-If.ensures.tree
 
 pub flat_statement-returns-in_ok-entry-in-Loop-clause-tree : goal.flat_statement-returns-in_ok-entry-in-Loop-clause-tree
-flat_statement-returns-in_ok-entry-in-Loop-clause-tree t c =
+flat_statement-returns-in_ok-entry-in-Loop-clause-tree g t c =
     let d = c.flat_block-in-Loop.new.draft in
     let e = c.flat_block-in-Loop-2.new.draft in
     let kept = block_grown all_slots d.members.items e.members.items d.statements.items e.statements.items c.in_ok-do_part-in-Loop.do_part
@@ -69,12 +70,12 @@ flat_statement-returns-in_ok-entry-in-Loop-clause-tree t c =
     ∙ ap (λ s. stm_in c.args.entries.now (names_of (in_sight c.args.sight.now)) (stm_of s)) (sym c.in-Loop.is)) c.add-in-Loop.ensures.tree
 
 pub flat_block-returns-clause-numbered : goal.flat_block-returns-clause-numbered
-flat_block-returns-clause-numbered t c =
+flat_block-returns-clause-numbered g t c =
     always_ok c.add_block.result (λ b xs w p.
     subst (HaveNumbers xs) (sym c.add_block.ensures.statements) (c.loop-i.invariant.numbered xs (omega (arith, w, c.add_block.ensures.width)) p))
 
 pub flat_statement-returns-in_ok-test-in-If-clause-numbered : goal.flat_statement-returns-in_ok-test-in-If-clause-numbered
-flat_statement-returns-in_ok-test-in-If-clause-numbered t c =
+flat_statement-returns-in_ok-test-in-If-clause-numbered g t c =
     let w : c.flat_block.new.draft.width ≤ c.flat_block-in-If.new.draft.width = c.in_ok-else_part-in-If.ensures.wider in
     let same : c.add-in-If.new.draft.width ≡ c.flat_block-in-If.new.draft.width = c.add-in-If.ensures.width in
     let older : c.args.draft.now.width ≤ c.flat_block.new.draft.width = c.in_ok-then_part-in-If.ensures.wider in
@@ -86,7 +87,7 @@ flat_statement-returns-in_ok-test-in-If-clause-numbered t c =
     )) c.add-in-If.ensures.numbered
 
 pub flat_statement-returns-in_ok-entry-in-Loop-clause-numbered : goal.flat_statement-returns-in_ok-entry-in-Loop-clause-numbered
-flat_statement-returns-in_ok-entry-in-Loop-clause-numbered t c =
+flat_statement-returns-in_ok-entry-in-Loop-clause-numbered g t c =
     let w : c.flat_block-in-Loop.new.draft.width ≤ c.flat_block-in-Loop-2.new.draft.width = c.in_ok-loop_part-in-Loop.ensures.wider in
     let same : c.add-in-Loop.new.draft.width ≡ c.flat_block-in-Loop-2.new.draft.width = c.add-in-Loop.ensures.width in
     let older : c.args.draft.now.width ≤ c.flat_block-in-Loop.new.draft.width = c.in_ok-do_part-in-Loop.ensures.wider in
@@ -99,7 +100,7 @@ flat_statement-returns-in_ok-entry-in-Loop-clause-numbered t c =
     c.add-in-Loop.ensures.numbered
 
 pub flat_block-flat_statement-requires : goal.flat_block-flat_statement-requires
-flat_block-flat_statement-requires t c =
+flat_block-flat_statement-requires g t c =
     let s = c.index-block-i.result in
     let inside : c.loop-i.i < length c.args.block.now = omega arith in (
       omega (arith, c.decreases, one_lighter c.args.block.now c.loop-i.i s inside (sym c.index-block-i.is)),
@@ -110,7 +111,7 @@ flat_block-flat_statement-requires t c =
     )
 
 pub flat_statement-flat_block-requires : goal.flat_statement-flat_block-requires
-flat_statement-flat_block-requires t c =
+flat_statement-flat_block-requires g t c =
     let parts = if_parts c.args.entries.now (in_sight c.args.sight.now) c.args.statement.now c.in-If.test c.in-If.last c.in-If.then_part c.in-If.else_part
     c.in-If.is c.requires.seen in
     let same = c.deref.ensures.value in (
@@ -122,7 +123,7 @@ flat_statement-flat_block-requires t c =
     )
 
 pub flat_statement-flat_block-requires-in-If : goal.flat_statement-flat_block-requires-in-If
-flat_statement-flat_block-requires-in-If t c =
+flat_statement-flat_block-requires-in-If g t c =
     let parts = if_parts c.args.entries.now (in_sight c.args.sight.now) c.args.statement.now c.in-If.test c.in-If.last c.in-If.then_part c.in-If.else_part
     c.in-If.is c.requires.seen in
     let same = c.deref-in-If.ensures.value in (
@@ -137,7 +138,7 @@ flat_statement-flat_block-requires-in-If t c =
     )
 
 pub flat_statement-flat_block-requires-in-Loop : goal.flat_statement-flat_block-requires-in-Loop
-flat_statement-flat_block-requires-in-Loop t c =
+flat_statement-flat_block-requires-in-Loop g t c =
     let parts = loop_parts c.args.entries.now (in_sight c.args.sight.now) c.args.statement.now c.in-Loop.entry c.in-Loop.exit c.in-Loop.do_part
     c.in-Loop.loop_part c.in-Loop.is c.requires.seen in
     let same = c.deref-in-Loop.ensures.value in (
@@ -149,7 +150,7 @@ flat_statement-flat_block-requires-in-Loop t c =
     )
 
 pub flat_statement-flat_block-requires-in-Loop-2 : goal.flat_statement-flat_block-requires-in-Loop-2
-flat_statement-flat_block-requires-in-Loop-2 t c =
+flat_statement-flat_block-requires-in-Loop-2 g t c =
     let parts = loop_parts c.args.entries.now (in_sight c.args.sight.now) c.args.statement.now c.in-Loop.entry c.in-Loop.exit c.in-Loop.do_part
     c.in-Loop.loop_part c.in-Loop.is c.requires.seen in
     let same = c.deref-in-Loop-2.ensures.value in (
@@ -164,7 +165,7 @@ flat_statement-flat_block-requires-in-Loop-2 t c =
     )
 
 pub flat_block-loop-i-preserved : goal.flat_block-loop-i-preserved
-flat_block-loop-i-preserved t c =
+flat_block-loop-i-preserved g t c =
     let v = c.loop-i.invariant in
     let i = c.loop-i.i in
     let old = c.loop-i.draft in
@@ -192,58 +193,66 @@ flat_block-loop-i-preserved t c =
     }
 
 pub flat_statement-flat_block-requires-in-LocalInt : goal.flat_statement-flat_block-requires-in-LocalInt
-flat_statement-flat_block-requires-in-LocalInt t c =
+flat_statement-flat_block-requires-in-LocalInt g t c =
     let part = local_int_part c.args.entries.now (in_sight c.args.sight.now) c.args.statement.now c.in-LocalInt.name c.in-LocalInt.field-3 c.in-LocalInt.first
     c.in-LocalInt.last c.in-LocalInt.block c.in-LocalInt.is c.requires.seen in
-    let same = c.deref-in-LocalInt.ensures.value in (
+    let same = c.deref-in-LocalInt.ensures.value in
+    let long = ap (λ (h : Shape). length h) c.local-inside.ensures.names in (
       omega (arith, c.decreases, part.lighter, ap (λ ss. block_weight (block_of ss)) same),
       (
-        subst (λ ss. SeesBlk c.args.entries.now ((name_of c.in-LocalInt.name, ANumber) ∷ in_sight c.args.sight.now) (block_of ss)) (sym same) part.block,
+        subst (λ (h : Shape). SeesBlk c.args.entries.now h (block_of c.deref-in-LocalInt.result.now)) (sym c.local-inside.ensures.names)
+            (subst (λ ss. SeesBlk c.args.entries.now ((name_of c.in-LocalInt.name, ANumber) ∷ in_sight c.args.sight.now) (block_of ss)) (sym same) part.block),
         (
-          c.in_ok-symbol-in-LocalInt.ensures.small,
-          (omega (arith, c.in_ok-symbol-in-LocalInt.ensures.width), omega (arith, c.requires.entries, c.in_ok-symbol-in-LocalInt.ensures.wider)),
+          omega (arith, long, c.in_ok-symbol-in-LocalInt.ensures.small),
+          (omega (arith, long, c.in_ok-symbol-in-LocalInt.ensures.width), omega (arith, c.requires.entries, c.in_ok-symbol-in-LocalInt.ensures.wider)),
         ),
       ),
     )
 
 pub flat_statement-flat_block-requires-in-LocalStack : goal.flat_statement-flat_block-requires-in-LocalStack
-flat_statement-flat_block-requires-in-LocalStack t c =
+flat_statement-flat_block-requires-in-LocalStack g t c =
     let part = local_stack_part c.args.entries.now (in_sight c.args.sight.now) c.args.statement.now c.in-LocalStack.name c.in-LocalStack.field-2
     c.in-LocalStack.block c.in-LocalStack.is c.requires.seen in
-    let same = c.deref-in-LocalStack.ensures.value in (
+    let same = c.deref-in-LocalStack.ensures.value in
+    let long = ap (λ (h : Shape). length h) c.local-inside-in-LocalStack.ensures.names in (
       omega (arith, c.decreases, part.lighter, ap (λ ss. block_weight (block_of ss)) same),
       (
-        subst (λ ss. SeesBlk c.args.entries.now ((name_of c.in-LocalStack.name, AStack) ∷ in_sight c.args.sight.now) (block_of ss)) (sym same) part.block,
+        subst (λ (h : Shape). SeesBlk c.args.entries.now h (block_of c.deref-in-LocalStack.result.now)) (sym c.local-inside-in-LocalStack.ensures.names)
+            (subst (λ ss. SeesBlk c.args.entries.now ((name_of c.in-LocalStack.name, AStack) ∷ in_sight c.args.sight.now) (block_of ss)) (sym same) part.block),
         (
-          c.in_ok-symbol-in-LocalStack.ensures.small,
-          (omega (arith, c.in_ok-symbol-in-LocalStack.ensures.width), omega (arith, c.requires.entries, c.in_ok-symbol-in-LocalStack.ensures.wider)),
+          omega (arith, long, c.in_ok-symbol-in-LocalStack.ensures.small),
+          (omega (arith, long, c.in_ok-symbol-in-LocalStack.ensures.width), omega (arith, c.requires.entries, c.in_ok-symbol-in-LocalStack.ensures.wider)),
         ),
       ),
     )
 
 pub flat_statement-returns-in_ok-first-in-LocalInt-clause-tree : goal.flat_statement-returns-in_ok-first-in-LocalInt-clause-tree
-flat_statement-returns-in_ok-first-in-LocalInt-clause-tree t c =
+flat_statement-returns-in_ok-first-in-LocalInt-clause-tree g t c =
     let g = names_of (in_sight c.args.sight.now) in
     if_ok c.add-in-LocalInt.result (λ n h.
     h all_slots ∙ local_int_flat c.args.entries.now g all_slots c.in-LocalInt.name c.in-LocalInt.field-3 c.in-LocalInt.first c.in-LocalInt.last
     _ c.in_ok-first-in-LocalInt.first c.in_ok-first-in-LocalInt.last c.in-LocalInt.block _
     c.in_ok-symbol-in-LocalInt.ensures.name c.in_ok-first-in-LocalInt.ensures.trees.0 c.in_ok-first-in-LocalInt.ensures.trees.1
-    (c.in_ok-block-in-LocalInt.ensures.block ∙ ap (λ ss. block_in c.args.entries.now (name_of c.in-LocalInt.name ∷ g) (block_of ss))
+    (c.in_ok-block-in-LocalInt.ensures.block
+    ∙ ap (λ (h : Shape). block_in c.args.entries.now (names_of h) (block_of c.deref-in-LocalInt.result.now)) c.local-inside.ensures.names
+    ∙ ap (λ ss. block_in c.args.entries.now (name_of c.in-LocalInt.name ∷ g) (block_of ss))
     c.deref-in-LocalInt.ensures.value)
     ∙ ap (λ s. stm_in c.args.entries.now g (stm_of s)) (sym c.in-LocalInt.is)) c.add-in-LocalInt.ensures.tree
 
 pub flat_statement-returns-in_ok-block-in-LocalStack-clause-tree : goal.flat_statement-returns-in_ok-block-in-LocalStack-clause-tree
-flat_statement-returns-in_ok-block-in-LocalStack-clause-tree t c =
+flat_statement-returns-in_ok-block-in-LocalStack-clause-tree g t c =
     let g = names_of (in_sight c.args.sight.now) in
     if_ok c.add-in-LocalStack.result (λ n h.
     h all_slots ∙ local_stack_flat c.args.entries.now g c.in-LocalStack.name c.in-LocalStack.field-2 _ c.in-LocalStack.block _
     c.in_ok-symbol-in-LocalStack.ensures.name
-    (c.in_ok-block-in-LocalStack.ensures.block ∙ ap (λ ss. block_in c.args.entries.now (name_of c.in-LocalStack.name ∷ g) (block_of ss))
+    (c.in_ok-block-in-LocalStack.ensures.block
+    ∙ ap (λ (h : Shape). block_in c.args.entries.now (names_of h) (block_of c.deref-in-LocalStack.result.now)) c.local-inside-in-LocalStack.ensures.names
+    ∙ ap (λ ss. block_in c.args.entries.now (name_of c.in-LocalStack.name ∷ g) (block_of ss))
     c.deref-in-LocalStack.ensures.value)
     ∙ ap (λ s. stm_in c.args.entries.now g (stm_of s)) (sym c.in-LocalStack.is)) c.add-in-LocalStack.ensures.tree
 
 pub flat_statement-returns-in_ok-first-in-LocalInt-clause-numbered : goal.flat_statement-returns-in_ok-first-in-LocalInt-clause-numbered
-flat_statement-returns-in_ok-first-in-LocalInt-clause-numbered t c =
+flat_statement-returns-in_ok-first-in-LocalInt-clause-numbered g t c =
     let w : c.local.new.draft.width ≤ c.flat_block-in-LocalInt.new.draft.width = c.in_ok-block-in-LocalInt.ensures.wider in
     let same : c.add-in-LocalInt.new.draft.width ≡ c.flat_block-in-LocalInt.new.draft.width = c.add-in-LocalInt.ensures.width in
     let older : c.args.draft.now.width ≤ c.local.new.draft.width = c.in_ok-symbol-in-LocalInt.ensures.wider in
@@ -258,7 +267,7 @@ flat_statement-returns-in_ok-first-in-LocalInt-clause-numbered t c =
     c.add-in-LocalInt.ensures.numbered
 
 pub flat_statement-returns-in_ok-block-in-LocalStack-clause-numbered : goal.flat_statement-returns-in_ok-block-in-LocalStack-clause-numbered
-flat_statement-returns-in_ok-block-in-LocalStack-clause-numbered t c =
+flat_statement-returns-in_ok-block-in-LocalStack-clause-numbered g t c =
     let w : c.local-in-LocalStack.new.draft.width ≤ c.flat_block-in-LocalStack.new.draft.width = c.in_ok-block-in-LocalStack.ensures.wider in
     let same : c.add-in-LocalStack.new.draft.width ≡ c.flat_block-in-LocalStack.new.draft.width = c.add-in-LocalStack.ensures.width in
     let older : c.args.draft.now.width ≤ c.local-in-LocalStack.new.draft.width = c.in_ok-symbol-in-LocalStack.ensures.wider in
@@ -270,7 +279,7 @@ flat_statement-returns-in_ok-block-in-LocalStack-clause-numbered t c =
     (omega (arith, c.in_ok-symbol-in-LocalStack.ensures.number, c.in_ok-symbol-in-LocalStack.ensures.width, w, same, l))) c.add-in-LocalStack.ensures.numbered
 
 pub flat_statement-returns-in_ok-exp-in-Assign-clause-numbered : goal.flat_statement-returns-in_ok-exp-in-Assign-clause-numbered
-flat_statement-returns-in_ok-exp-in-Assign-clause-numbered t c =
+flat_statement-returns-in_ok-exp-in-Assign-clause-numbered g t c =
     let g = names_of (in_sight c.args.sight.now) in
     if_ok c.add-in-Assign.result (λ n h xs l p.
     let le = fits (in_sight c.args.sight.now) xs c.args.draft.now.width c.add-in-Assign.new.draft.width c.requires.sight
@@ -279,7 +288,7 @@ flat_statement-returns-in_ok-exp-in-Assign-clause-numbered t c =
     c.add-in-Assign.ensures.numbered
 
 pub flat_statement-returns-in_ok-index-in-AssignElement-clause-numbered : goal.flat_statement-returns-in_ok-index-in-AssignElement-clause-numbered
-flat_statement-returns-in_ok-index-in-AssignElement-clause-numbered t c =
+flat_statement-returns-in_ok-index-in-AssignElement-clause-numbered g t c =
     let g = names_of (in_sight c.args.sight.now) in
     if_ok c.add-in-AssignElement.result (λ n h xs l p.
     let le = fits (in_sight c.args.sight.now) xs c.args.draft.now.width c.add-in-AssignElement.new.draft.width c.requires.sight
@@ -291,7 +300,7 @@ flat_statement-returns-in_ok-index-in-AssignElement-clause-numbered t c =
     )) c.add-in-AssignElement.ensures.numbered
 
 pub flat_statement-returns-in-Push-clause-numbered : goal.flat_statement-returns-in-Push-clause-numbered
-flat_statement-returns-in-Push-clause-numbered t c =
+flat_statement-returns-in-Push-clause-numbered g t c =
     let g = names_of (in_sight c.args.sight.now) in
     if_ok c.add-in-Push.result (λ n h xs l p.
     let le = fits (in_sight c.args.sight.now) xs c.args.draft.now.width c.add-in-Push.new.draft.width c.requires.sight
@@ -299,7 +308,7 @@ flat_statement-returns-in-Push-clause-numbered t c =
     h xs p ((omega (arith, c.symbol-variable.ensures.numbered, le)), (omega (arith, c.symbol-stack.ensures.numbered, le)))) c.add-in-Push.ensures.numbered
 
 pub flat_statement-returns-in-Pop-clause-numbered : goal.flat_statement-returns-in-Pop-clause-numbered
-flat_statement-returns-in-Pop-clause-numbered t c =
+flat_statement-returns-in-Pop-clause-numbered g t c =
     let g = names_of (in_sight c.args.sight.now) in
     if_ok c.add-in-Pop.result (λ n h xs l p.
     let le = fits (in_sight c.args.sight.now) xs c.args.draft.now.width c.add-in-Pop.new.draft.width c.requires.sight
@@ -308,7 +317,7 @@ flat_statement-returns-in-Pop-clause-numbered t c =
     c.add-in-Pop.ensures.numbered
 
 pub flat_statement-returns-in-Swap-clause-numbered : goal.flat_statement-returns-in-Swap-clause-numbered
-flat_statement-returns-in-Swap-clause-numbered t c =
+flat_statement-returns-in-Swap-clause-numbered g t c =
     let g = names_of (in_sight c.args.sight.now) in
     if_ok c.add-in-Swap.result (λ n h xs l p.
     let le = fits (in_sight c.args.sight.now) xs c.args.draft.now.width c.add-in-Swap.new.draft.width c.requires.sight
@@ -316,7 +325,7 @@ flat_statement-returns-in-Swap-clause-numbered t c =
     h xs p ((omega (arith, c.symbol-one.ensures.numbered, le)), (omega (arith, c.symbol-other.ensures.numbered, le)))) c.add-in-Swap.ensures.numbered
 
 pub flat_statement-returns-in_ok-arguments-in-Call-clause-numbered : goal.flat_statement-returns-in_ok-arguments-in-Call-clause-numbered
-flat_statement-returns-in_ok-arguments-in-Call-clause-numbered t c =
+flat_statement-returns-in_ok-arguments-in-Call-clause-numbered g t c =
     let g = names_of (in_sight c.args.sight.now) in
     if_ok c.add-in-Call.result (λ n h xs l p.
     let le = fits (in_sight c.args.sight.now) xs c.args.draft.now.width c.add-in-Call.new.draft.width c.requires.sight
@@ -327,7 +336,7 @@ flat_statement-returns-in_ok-arguments-in-Call-clause-numbered t c =
     )) c.add-in-Call.ensures.numbered
 
 pub flat_statement-returns-in_ok-arguments-in-Uncall-clause-numbered : goal.flat_statement-returns-in_ok-arguments-in-Uncall-clause-numbered
-flat_statement-returns-in_ok-arguments-in-Uncall-clause-numbered t c =
+flat_statement-returns-in_ok-arguments-in-Uncall-clause-numbered g t c =
     let g = names_of (in_sight c.args.sight.now) in
     if_ok c.add-in-Uncall.result (λ n h xs l p.
     let le = fits (in_sight c.args.sight.now) xs c.args.draft.now.width c.add-in-Uncall.new.draft.width c.requires.sight
@@ -338,48 +347,50 @@ flat_statement-returns-in_ok-arguments-in-Uncall-clause-numbered t c =
     )) c.add-in-Uncall.ensures.numbered
 
 pub flat_block-returns-clause-grows : goal.flat_block-returns-clause-grows
-flat_block-returns-clause-grows t c =
+flat_block-returns-clause-grows g t c =
     if_ok c.add_block.result (λ b h.
     grows_on c.args.draft.now.members.items c.loop-i.draft.members.items c.add_block.new.draft.members.items c.args.draft.now.statements.items
     c.loop-i.draft.statements.items c.add_block.new.draft.statements.items c.loop-i.invariant.grows h)
     c.add_block.ensures.grows
 
 pub flat_block-returns-clause-width : goal.flat_block-returns-clause-width
-flat_block-returns-clause-width t c =
+flat_block-returns-clause-width g t c =
     let v = c.loop-i.invariant in
     let none = ap (λ ss. open_in_block (block_of ss)) (drop_all c.loop-i.i c.args.block.now (omega arith)) in
     always_ok c.add_block.result (λ b. omega (arith, none, v.width, v.wider, c.add_block.ensures.width, c.requires.sight))
 
 pub flat_statement-returns-in_ok-test-in-If-clause-width : goal.flat_statement-returns-in_ok-test-in-If-clause-width
-flat_statement-returns-in_ok-test-in-If-clause-width t c =
+flat_statement-returns-in_ok-test-in-If-clause-width g t c =
     let most = open_if c.args.statement.now c.in-If.test c.in-If.last c.in-If.then_part c.in-If.else_part
     c.deref.result.now c.deref-in-If.result.now c.in-If.is c.deref.ensures.value c.deref-in-If.ensures.value in
     always_ok c.add-in-If.result (λ n.
     omega (arith, most, c.in_ok-then_part-in-If.ensures.width, c.in_ok-else_part-in-If.ensures.width, c.add-in-If.ensures.width))
 
 pub flat_statement-returns-in_ok-entry-in-Loop-clause-width : goal.flat_statement-returns-in_ok-entry-in-Loop-clause-width
-flat_statement-returns-in_ok-entry-in-Loop-clause-width t c =
+flat_statement-returns-in_ok-entry-in-Loop-clause-width g t c =
     let most = open_loop c.args.statement.now c.in-Loop.entry c.in-Loop.exit c.in-Loop.do_part c.in-Loop.loop_part
     c.deref-in-Loop.result.now c.deref-in-Loop-2.result.now c.in-Loop.is c.deref-in-Loop.ensures.value c.deref-in-Loop-2.ensures.value in
     always_ok c.add-in-Loop.result (λ n.
     omega (arith, most, c.in_ok-do_part-in-Loop.ensures.width, c.in_ok-loop_part-in-Loop.ensures.width, c.add-in-Loop.ensures.width))
 
 pub flat_statement-returns-in_ok-first-in-LocalInt-clause-width : goal.flat_statement-returns-in_ok-first-in-LocalInt-clause-width
-flat_statement-returns-in_ok-first-in-LocalInt-clause-width t c =
+flat_statement-returns-in_ok-first-in-LocalInt-clause-width g t c =
     let most = open_local_int c.args.statement.now c.in-LocalInt.name c.in-LocalInt.field-3 c.in-LocalInt.first c.in-LocalInt.last c.in-LocalInt.block
     c.deref-in-LocalInt.result.now c.in-LocalInt.is c.deref-in-LocalInt.ensures.value in
+    let long = ap (λ (h : Shape). length h) c.local-inside.ensures.names in
     always_ok c.add-in-LocalInt.result (λ n.
-    omega (arith, most, c.in_ok-symbol-in-LocalInt.ensures.width, c.in_ok-block-in-LocalInt.ensures.width, c.add-in-LocalInt.ensures.width))
+    omega (arith, most, long, c.in_ok-symbol-in-LocalInt.ensures.width, c.in_ok-block-in-LocalInt.ensures.width, c.add-in-LocalInt.ensures.width))
 
 pub flat_statement-returns-in_ok-block-in-LocalStack-clause-width : goal.flat_statement-returns-in_ok-block-in-LocalStack-clause-width
-flat_statement-returns-in_ok-block-in-LocalStack-clause-width t c =
+flat_statement-returns-in_ok-block-in-LocalStack-clause-width g t c =
     let most = open_local_stack c.args.statement.now c.in-LocalStack.name c.in-LocalStack.field-2 c.in-LocalStack.block
     c.deref-in-LocalStack.result.now c.in-LocalStack.is c.deref-in-LocalStack.ensures.value in
+    let long = ap (λ (h : Shape). length h) c.local-inside-in-LocalStack.ensures.names in
     always_ok c.add-in-LocalStack.result (λ n.
-    omega (arith, most, c.in_ok-symbol-in-LocalStack.ensures.width, c.in_ok-block-in-LocalStack.ensures.width, c.add-in-LocalStack.ensures.width))
+    omega (arith, most, long, c.in_ok-symbol-in-LocalStack.ensures.width, c.in_ok-block-in-LocalStack.ensures.width, c.add-in-LocalStack.ensures.width))
 
 pub flat_block-returns-clause-inside : goal.flat_block-returns-clause-inside
-flat_block-returns-clause-inside t c =
+flat_block-returns-clause-inside g t c =
     let d = c.loop-i.draft in
     let v = c.loop-i.invariant in
     let ns = c.deref.result.now in
@@ -393,7 +404,7 @@ flat_block-returns-clause-inside t c =
     c.add_block.ensures.grows c.add_block.ensures.members
 
 pub flat_statement-returns-in_ok-test-in-If-clause-inside : goal.flat_statement-returns-in_ok-test-in-If-clause-inside
-flat_statement-returns-in_ok-test-in-If-clause-inside t c =
+flat_statement-returns-in_ok-test-in-If-clause-inside g t c =
     let d = c.flat_block.new.draft in
     let e = c.flat_block-in-If.new.draft in
     let f = c.add-in-If.new.draft in
@@ -404,7 +415,7 @@ flat_statement-returns-in_ok-test-in-If-clause-inside t c =
     c.add-in-If.ensures.grows c.add-in-If.ensures.alone c.add-in-If.ensures.inside
 
 pub flat_statement-returns-in_ok-entry-in-Loop-clause-inside : goal.flat_statement-returns-in_ok-entry-in-Loop-clause-inside
-flat_statement-returns-in_ok-entry-in-Loop-clause-inside t c =
+flat_statement-returns-in_ok-entry-in-Loop-clause-inside g t c =
     let d = c.flat_block-in-Loop.new.draft in
     let e = c.flat_block-in-Loop-2.new.draft in
     let f = c.add-in-Loop.new.draft in
@@ -415,7 +426,7 @@ flat_statement-returns-in_ok-entry-in-Loop-clause-inside t c =
     c.add-in-Loop.ensures.grows c.add-in-Loop.ensures.alone c.add-in-Loop.ensures.inside
 
 pub flat_statement-returns-in_ok-first-in-LocalInt-clause-inside : goal.flat_statement-returns-in_ok-first-in-LocalInt-clause-inside
-flat_statement-returns-in_ok-first-in-LocalInt-clause-inside t c =
+flat_statement-returns-in_ok-first-in-LocalInt-clause-inside g t c =
     let d = c.flat_block-in-LocalInt.new.draft in
     let e = c.add-in-LocalInt.new.draft in
     let p = c.in_ok-block-in-LocalInt.block in
@@ -427,7 +438,7 @@ flat_statement-returns-in_ok-first-in-LocalInt-clause-inside t c =
     c.add-in-LocalInt.ensures.grows c.add-in-LocalInt.ensures.alone c.add-in-LocalInt.ensures.inside
 
 pub flat_statement-returns-in_ok-block-in-LocalStack-clause-inside : goal.flat_statement-returns-in_ok-block-in-LocalStack-clause-inside
-flat_statement-returns-in_ok-block-in-LocalStack-clause-inside t c =
+flat_statement-returns-in_ok-block-in-LocalStack-clause-inside g t c =
     let d = c.flat_block-in-LocalStack.new.draft in
     let e = c.add-in-LocalStack.new.draft in
     let p = c.in_ok-block-in-LocalStack.block in

@@ -16,7 +16,7 @@ use Rattle.janus_code.specs.Width.{open_in_block}
 use Rattle.janus_code.proofs.flat.+flat.Given as goal
 
 abbrev pub invariant-flat_block-loop-i : goal.invariant-flat_block-loop-i
-invariant-flat_block-loop-i l = record {
+invariant-flat_block-loop-i g l = record {
   as_many : length l.numbers.items ≡ l.i;
   grows : Grows l.fn.draft.members.items l.fn.draft.statements.items l.draft.members.items l.draft.statements.items;
   below : (j : ℕ) → j < l.i → get_or l.numbers.items j 0 < length l.draft.statements.items;
@@ -30,7 +30,7 @@ invariant-flat_block-loop-i l = record {
 }
 
 abbrev pub decreases-flat_block : goal.decreases-flat_block
-decreases-flat_block l = block_weight (block_of l.block.now)
+decreases-flat_block g l = block_weight (block_of l.block.now)
 
 abbrev pub decreases-flat_statement : goal.decreases-flat_statement
-decreases-flat_statement l = stm_weight (stm_of l.statement.now)
+decreases-flat_statement g l = stm_weight (stm_of l.statement.now)

@@ -12,7 +12,7 @@ use Rattle.janus_code.proofs.Slotting.{all_long, are_all, same_code, code_is, no
 use Rattle.janus_code.proofs.flat.flat_code.Goals as goal
 
 pub returns-clause-block : goal.returns-clause-block
-returns-clause-block c =
+returns-clause-block g c =
     let b = c.in_ok-body.body in
     let block = block_in c.args.entries.now (names_of (in_sight c.args.sight.now)) (block_of c.args.block.now) in
     let few : c.flat_block.new.draft.width ≤ length all_slots = omega (arith, all_long, c.number_law.ensures) in
@@ -26,7 +26,7 @@ returns-clause-block c =
     λ xs s h. same_code xs all_slots _ s are_all h all ∙ code_is _ ∙ is
 
 pub returns-clause-reached : goal.returns-clause-reached
-returns-clause-reached c =
+returns-clause-reached g c =
     let b = c.in_ok-body.body in
     let d = c.flat_block.new.draft in
     let made : AreReached d.members.items d.statements.items b = λ n lt.

@@ -14,7 +14,7 @@ abbrev statements_in : Cell → Block
 statements_in (cell_of ds b ps) = b
 
 pub flat_code-requires : goal.flat_code-requires
-flat_code-requires c =
+flat_code-requires g c =
     let checked = c.args.checked.now in
     let is : (plain_cell (cell_in checked)).block ≡ block_of c.deref.result.now =
     ap plain_block (sym (ap statements_in c.cell.ensures)) ∙ ap block_of (sym c.deref.ensures.value) in
@@ -24,7 +24,7 @@ flat_code-requires c =
     c.formed_law.ensures.block))
 
 pub returns-clause-block : goal.returns-clause-block
-returns-clause-block c =
+returns-clause-block g c =
     let checked = c.args.checked.now in
     let is : (plain_cell (cell_in checked)).block ≡ block_of c.deref.result.now =
     ap plain_block (sym (ap statements_in c.cell.ensures)) ∙ ap block_of (sym c.deref.ensures.value) in
@@ -33,7 +33,7 @@ returns-clause-block c =
     ∙ ap (block_in c.args.entries.now (names_of (names_seen checked))) (sym is)
 
 pub returns-clause-width : goal.returns-clause-width
-returns-clause-width c =
+returns-clause-width g c =
     let checked = c.args.checked.now in
     let is : (plain_cell (cell_in checked)).block ≡ block_of c.deref.result.now =
     ap plain_block (sym (ap statements_in c.cell.ensures)) ∙ ap block_of (sym c.deref.ensures.value) in

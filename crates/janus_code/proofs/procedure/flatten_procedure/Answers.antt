@@ -18,14 +18,14 @@ use Rattle.janus_code.proofs.Slotting.{all_long, are_all, slots_long, parameters
 use Rattle.janus_code.proofs.procedure.flatten_procedure.Goals as goal
 
 pub entry-name-requires : goal.entry-name-requires
-entry-name-requires c =
+entry-name-requires g c =
     let checked = c.args.checked.now in
     let formed : IsProc (heads_called checked) (plain_procedure (procedure_view c.args.procedure.now)) =
     formed_one (heads_called checked) (plain_cell (cell_in checked)).procedures _ c.formed_law.ensures.procedures c.requires.defined in
     c.requires.entries _ _ formed.head
 
 pub flat_code-requires : goal.flat_code-requires
-flat_code-requires c =
+flat_code-requires g c =
     let checked = c.args.checked.now in
     let formed : IsProc (heads_called checked) (plain_procedure (procedure_view c.args.procedure.now)) =
     formed_one (heads_called checked) (plain_cell (cell_in checked)).procedures _ c.formed_law.ensures.procedures c.requires.defined in
@@ -39,7 +39,7 @@ flat_code-requires c =
     (block_seen (heads_called checked) es params (block_of p.body.items) c.requires.entries formed.body))
 
 pub returns-clause-procedure : goal.returns-clause-procedure
-returns-clause-procedure c =
+returns-clause-procedure g c =
     let checked = c.args.checked.now in
     let formed : IsProc (heads_called checked) (plain_procedure (procedure_view c.args.procedure.now)) =
     formed_one (heads_called checked) (plain_cell (cell_in checked)).procedures _ c.formed_law.ensures.procedures c.requires.defined in
@@ -61,7 +61,7 @@ returns-clause-procedure c =
     }
 
 pub returns-clause-wide : goal.returns-clause-wide
-returns-clause-wide c =
+returns-clause-wide g c =
     let checked = c.args.checked.now in
     let formed : IsProc (heads_called checked) (plain_procedure (procedure_view c.args.procedure.now)) =
     formed_one (heads_called checked) (plain_cell (cell_in checked)).procedures _ c.formed_law.ensures.procedures c.requires.defined in
@@ -81,7 +81,7 @@ returns-clause-wide c =
     }
 
 pub returns-clause-width : goal.returns-clause-width
-returns-clause-width c =
+returns-clause-width g c =
     let checked = c.args.checked.now in
     let formed : IsProc (heads_called checked) (plain_procedure (procedure_view c.args.procedure.now)) =
     formed_one (heads_called checked) (plain_cell (cell_in checked)).procedures _ c.formed_law.ensures.procedures c.requires.defined in

@@ -7,7 +7,7 @@ use Rattle.kernel_loader.proofs.Kept.{name_of_flat, named_among, body_of_flat}
 use Rattle.kernel_loader.proofs.keeping.keep.Goals as goal
 
 pub returns-clause-ok : goal.returns-clause-ok
-returns-clause-ok c =
+returns-clause-ok g c =
     let p = plain_procedure (procedure_view c.args.procedure.now) in
     let es = c.args.entries.now in
     let flat = c.in-Ok.flat.procedure in
@@ -19,7 +19,7 @@ returns-clause-ok c =
       body = body;
       kept = c.in_ok-_index.ensures.kept;
       name = name_of_flat es p flat is numbered body made.name;
-      of_procedure = body_of_flat es p flat is numbered body made.name made.parameters made.few made.body;
+      of_procedure = body_of_flat es p flat is numbered body made.name made.parameters made.few made.kinds made.body;
     }
 
 -- the body's name is one of the table's

@@ -8,12 +8,12 @@ use Rattle.kernel_loader.proofs.Kept.{among_at, kept_more, bodies_more}
 use Rattle.kernel_loader.proofs.keeping.keep_all.Goals as goal
 
 pub keep-requires-clause-of_cell : goal.keep-requires-clause-of_cell
-keep-requires-clause-of_cell c =
+keep-requires-clause-of_cell g c =
     subst (λ (ps : List Proc). Contains ps (plain_procedure (procedure_view c.index-procedures-i.result))) c.requires.defined
     (among_at c.args.procedures.now c.loop-i.i c.index-procedures-i.result c.loop-i-test.true (sym c.index-procedures-i.is))
 
 pub loop-i-preserved : goal.loop-i-preserved
-loop-i-preserved c =
+loop-i-preserved g c =
     let ok = c.in_ok-keep.ensures.ok in
     let h = c.loop-i.invariant in
     let more = kept_more (kept_in c.args.kept.now) (kept_in c.loop-i.kept) (kept_in c.keep.new.kept) c.loop-i.i ok.body h.1 h.2 ok.kept in (

@@ -7,7 +7,7 @@ use Rattle.kernel_loader.specs.Keeping.{AreBodiesBehind, KeepsOlder, KeepsDefine
 use Rattle.kernel_loader.proofs.keeping.keep_all.Given as goal
 
 abbrev pub invariant-loop-i : goal.invariant-loop-i
-invariant-loop-i l =
+invariant-loop-i g l =
     AreBodiesBehind l.fn.kept l.kept (procedures_in l.entries (map plain_procedure (procedures_view (take l.i l.procedures))))
     × (length (kept_in l.kept) ≡ length (kept_in l.fn.kept) + l.i)
     × KeepsOlder l.fn.kept l.kept × KeepsDefined l.fn.kept l.kept × HasFewPlaces l.fn.kept l.kept l.entries

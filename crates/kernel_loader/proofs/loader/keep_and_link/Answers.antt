@@ -6,5 +6,5 @@ use Rattle.janus_check.specs.Checked.{cell_in}
 use Rattle.kernel_loader.proofs.loader.keep_and_link.Goals as goal
 
 pub keep_all-requires-clause-defined : goal.keep_all-requires-clause-defined
-keep_all-requires-clause-defined c =
+keep_all-requires-clause-defined g c =
     ap (λ l. map plain_procedure (procedures_view l)) c.deref.ensures.value ∙ ap (λ (t : tree.Cell). (plain_cell t).procedures) c.cell.ensures

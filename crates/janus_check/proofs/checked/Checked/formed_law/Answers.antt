@@ -4,6 +4,6 @@ use Rattle.janus_check.proofs.FormedLemmas.{no_faults_formed}
 use Rattle.janus_check.proofs.checked.Checked.formed_law.Goals as goal
 
 pub returns : goal.returns
-returns c =
+returns g c =
     let checked = c.args.self.now in
-    no_faults_formed (shape_in checked.env.now.names) (heads_in checked.env.now.procedures) (cell_view checked.cell) checked.passes
+    no_faults_formed (shape_in checked.known.names) (heads_in checked.known.procedures) (cell_view checked.cell) checked.passes

@@ -4,7 +4,7 @@ use Rattle.janus_meaning.specs.Limit.{parameter_limit}
 use Rattle.janus_syntax.specs.Tree.{parameter_view, parameters_view}
 use Rattle.janus_syntax.specs.View.{plain_parameter}
 use Rattle.janus_check.proofs.SlotLemmas.{seen_long}
-use Rattle.janus_check.proofs.sight.count_of_parameters.Goals as goal
+use Rattle.janus_check.proofs.scope.count_of_parameters.Goals as goal
 
 pub returns-then-parameters-le-PARAMETER_LIMIT : goal.returns-then-parameters-le-PARAMETER_LIMIT
 returns-then-parameters-le-PARAMETER_LIMIT c =
