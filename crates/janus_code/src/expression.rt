@@ -73,7 +73,11 @@ pub(crate) fn symbols<T: SymbolTable>(
 
 /// The flat form of a well-formed expression over these names in sight; an error for want of memory, as which more names than a `usize` counts are
 /// refused too.
-pub fn flat_exp<T: SymbolTable>(alloc: Global, exp: &tree::Exp, sight: &Sight<T>) -> Result<FlatExp, AllocError>
+pub fn flat_exp<T: SymbolTable>(
+    alloc: Global,
+    exp: &tree::Exp,
+    sight: &Sight<T>,
+) -> Result<FlatExp, AllocError>
     requires { IsExp (in_sight sight.now) (plain exp.now) }
     ensures tree { IfOk result
         (λ flat. (xs : List MeaningName) → AreSlots xs → HasNumbers xs flat →
@@ -128,7 +132,11 @@ pub(crate) fn slotted_exp<T: SymbolTable>(
 
 /// The flat form of a part.
 #[cycle(flat_exp)]
-fn boxed_exp<T: SymbolTable>(alloc: Global, exp: &tree::Exp, sight: &Sight<T>) -> Result<Box<FlatExp>, AllocError>
+fn boxed_exp<T: SymbolTable>(
+    alloc: Global,
+    exp: &tree::Exp,
+    sight: &Sight<T>,
+) -> Result<Box<FlatExp>, AllocError>
     requires seen { SeesExp (in_sight sight.now) (plain exp.now) }
     requires small { length (in_sight sight.now) < 2 ^ 64 }
     ensures tree { IfOk result (λ flat. exp_of all_slots flat.value ≡ exp_in (names_of (in_sight sight.now)) (plain exp.now)) }

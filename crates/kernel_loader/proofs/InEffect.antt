@@ -53,6 +53,7 @@ met_or_not f (x ∷ es) = by (same_name f x) refl (met_or_not f es)
         let bad : true ≡ false = sym (same_name_self f) ∙ ap (same_name f) (sym same) ∙ s in
         cc
     unmet s u (suc k) h = u k h
+
     by : (b : Bool) → same_name f x ≡ b → IsMet es f ⊎ IsUnmet es f → IsMet (x ∷ es) f ⊎ IsUnmet (x ∷ es) f
     by true s m = inl (0, ap Some (sym (same_name_true f x s)))
     by false s (inl m) = inl (suc m.0, m.1)
@@ -130,8 +131,10 @@ module _ (t : Procedures) where
     where
       rest : IsUnmet es f
       rest = λ j h. let bad : 0 ≡ suc j = one 0 (suc j) f n h in omega (arith, bad)
+
       same : same_name f x ≡ true
       same = let e : x ≡ f = cc in ap (same_name f) e ∙ same_name_self f
+
       by : (o : Option LinkedProcedure) → head_at f (above meant_kinds g (with_kinds x o (in_effect_from t (suc k) es))) ≡ kinds_in_effect o
       by None = unmet_above f g (suc k) es rest ∙ none
       by (Some b) =
@@ -163,7 +166,7 @@ module _ (t : Procedures) where
       by (Some b) more = (
         new 0 x refl,
         more ((x, meant_kinds (kinds_of b)) ∷ g) (λ i y n.
-        ap (λ v. pick_newest v (meant_kinds (kinds_of b)) (head_at y g)) (first_other y x es i one n) ∙ new (suc i) y n),
+            ap (λ v. pick_newest v (meant_kinds (kinds_of b)) (head_at y g)) (first_other y x es i one n) ∙ new (suc i) y n),
       )
 
   pub in_effect_added : (es : List Name) → HaveOneNumber es → AreAdded meant_kinds [] (in_effect_from t 0 es)

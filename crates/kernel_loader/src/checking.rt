@@ -12,7 +12,11 @@ use kernel_machine::Refusal;
 use std::alloc::Global;
 
 /// The cell of a text, checked over what is known of a world; or why the text is refused there. A fault of the text is told before one of the check.
-pub fn cell_of_text<'a>(alloc: Global, text: &str, env: &'a Env) -> Result<Checked<'a, Env>, Refusal>
+pub fn cell_of_text<'a>(
+    alloc: Global,
+    text: &str,
+    env: &'a Env,
+) -> Result<Checked<'a, Env>, Refusal>
     ensures accepts { IfOk result (λ checked. (w : World) → IsKnownOf env.now w → Accepts w text.now (plain_cell (cell_in checked))) }
     ensures known { IfOk result (λ checked. known_in checked ≡ env.now) }
     ensures refuses { IfErr result (λ refusal. (w : World) → IsKnownOf env.now w → Refuses w text.now refusal) }

@@ -12,10 +12,10 @@ abbrev pub invariant-loop-i : goal.invariant-loop-i
 invariant-loop-i g l =
     let table = g.T.SymbolTable.known in
     record {
-  faults : first_from l.next (heads_faults (heads_in (table l.env).procedures) (heads_in l.own.procedures) (procedures_view (drop l.i l.procedures)))
-      ≡ first_from l.fn.first (heads_faults (heads_in (table l.env).procedures) (heads_in l.fn.own.procedures) (procedures_view l.procedures));
-  heads : after_heads (heads_in l.own.procedures) (procedures_view (drop l.i l.procedures)) ≡ after_heads (heads_in l.fn.own.procedures)
-      (procedures_view l.procedures);
-  counted : l.count ≡ different (heads_over (table l.env) l.own);
-  names : l.own.names ≡ l.fn.own.names;
-}
+      faults : first_from l.next (heads_faults (heads_in (table l.env).procedures) (heads_in l.own.procedures) (procedures_view (drop l.i l.procedures)))
+          ≡ first_from l.fn.first (heads_faults (heads_in (table l.env).procedures) (heads_in l.fn.own.procedures) (procedures_view l.procedures));
+      heads : after_heads (heads_in l.own.procedures) (procedures_view (drop l.i l.procedures)) ≡ after_heads (heads_in l.fn.own.procedures)
+          (procedures_view l.procedures);
+      counted : l.count ≡ different (heads_over (table l.env) l.own);
+      names : l.own.names ≡ l.fn.own.names;
+    }
