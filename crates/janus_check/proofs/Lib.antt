@@ -13,5 +13,6 @@ pub mod DropLemmas
 pub mod SameHeads
 pub mod Found
 pub mod SlotLemmas
+pub mod Weights
 -- Of janus_slots, given again.
 pub use Rattle.janus_slots.proofs.Stores

@@ -14,7 +14,7 @@ use Rattle.janus_code.specs.declared.code.FlatExp as flat_exp
 use Rattle.janus_meaning.specs.Syntax.{Name}
 use Rattle.janus_meaning.specs.Shape.{Shape}
 use Rattle.janus_check.specs.Slots.{slot, exp_in, stm_in, block_in}
-use Rattle.janus_code.proofs.Seeing.{stm_weight, block_weight}
+use Rattle.janus_check.proofs.Weights.{stm_weight, block_weight, if_lighter, loop_lighter, local_int_lighter, local_stack_lighter}
 use Rattle.janus_code.specs.Expressions.{exp_of}
 use Rattle.janus_code.specs.Seen.{SeesStm, SeesBlk}
 
@@ -38,16 +38,16 @@ pub if_parts : (es : List Name) (g : Shape) (s : code_stm.Stm) (a b : code_exp.E
 if_parts es g s a b v w e h =
     let is = ap stm_of e ∙ ap plain_stm (view_if a b v w) in
     let seen = subst (SeesStm es g) is h in
-    let weight = ap stm_weight is in
-    record { first = seen.1; second = seen.2; first_lighter = omega (arith, weight); second_lighter = omega (arith, weight) }
+    let lighter = if_lighter s a b v w e in
+    record { first = seen.1; second = seen.2; first_lighter = lighter.0; second_lighter = lighter.1 }
 
 pub loop_parts : (es : List Name) (g : Shape) (s : code_stm.Stm) (a b : code_exp.Exp) (v w : Vec code_stm.Stm Global) → s ≡ code_stm.Loop a v w b →
     SeesStm es g (stm_of s) → Parts es g s v.items w.items
 loop_parts es g s a b v w e h =
     let is = ap stm_of e ∙ ap plain_stm (view_loop a b v w) in
     let seen = subst (SeesStm es g) is h in
-    let weight = ap stm_weight is in
-    record { first = seen.1; second = seen.2; first_lighter = omega (arith, weight); second_lighter = omega (arith, weight) }
+    let lighter = loop_lighter s a b v w e in
+    record { first = seen.1; second = seen.2; first_lighter = lighter.0; second_lighter = lighter.1 }
 
 pub record Part (es : List Name) (g : Shape) (s : code_stm.Stm) (ss : List code_stm.Stm) : Type 0 where
   pub block : SeesBlk es g (block_of ss)
@@ -58,16 +58,14 @@ pub local_int_part : (es : List Name) (g : Shape) (s : code_stm.Stm) (x y : code
 local_int_part es g s x y a b v e h =
     let is = ap stm_of e ∙ ap plain_stm (view_local_int x y a b v) in
     let seen = subst (SeesStm es g) is h in
-    let weight = ap stm_weight is in
-    record { block = seen.1; lighter = omega (arith, weight) }
+    record { block = seen.1; lighter = local_int_lighter s x y a b v e }
 
 pub local_stack_part : (es : List Name) (g : Shape) (s : code_stm.Stm) (x y : code_name.Name) (v : Vec code_stm.Stm Global) → s ≡ code_stm.LocalStack x v y →
     SeesStm es g (stm_of s) → Part es ((name_of x, tree.AStack) ∷ g) s v.items
 local_stack_part es g s x y v e h =
     let is = ap stm_of e ∙ ap plain_stm (view_local_stack x y v) in
     let seen = subst (SeesStm es g) is h in
-    let weight = ap stm_weight is in
-    record { block = seen; lighter = omega (arith, weight) }
+    record { block = seen; lighter = local_stack_lighter s x y v e }
 
 -- each with slots in place of names, where the names of g are in sight
 pub local_int_flat : (es g xs : List Name) (x y : code_name.Name) (a b : code_exp.Exp) (z : Name) (f h : flat_exp.FlatExp)

@@ -105,29 +105,3 @@ pub formed_one : (hs : Heads) (ps : List Proc) (p : Proc) → AreProcs hs ps →
 formed_one hs [] p h c = absurd (omega (arith, c.1))
 formed_one hs (q ∷ ps) p h (zero, lt, e) = subst (λ (q : Proc). IsProc hs q) e h.0
 formed_one hs (q ∷ ps) p h (suc k, lt, e) = formed_one hs ps p h.1 (k, omega (arith, lt), e)
-
--- ---- how heavy trees are
-
-abbrev mutual
-  pub stm_weight : Stm → ℕ
-  stm_weight Skip = 1
-  stm_weight (Set x o e) = 1
-  stm_weight (SetAt a i o e) = 1
-  stm_weight (Push x y) = 1
-  stm_weight (Pop x y) = 1
-  stm_weight (Swap x y) = 1
-  stm_weight (If a s t b) = suc (block_weight s + block_weight t)
-  stm_weight (From a s t b) = suc (block_weight s + block_weight t)
-  stm_weight (LocalInt x a s b) = suc (block_weight s)
-  stm_weight (LocalStack x s) = suc (block_weight s)
-  stm_weight (Call f xs) = 1
-  stm_weight (Uncall f xs) = 1
-
-  pub block_weight : Blk → ℕ
-  block_weight Nil = 0
-  block_weight (Cons c b) = suc (stm_weight c + block_weight b)
-
-pub one_lighter : (ss : List code_stm.Stm) (i : ℕ) (s : code_stm.Stm) → i < length ss → get_or ss i s ≡ s → stm_weight (stm_of s) < block_weight (block_of ss)
-one_lighter [] i s lt e = absurd (omega arith)
-one_lighter (r ∷ ss) zero s lt e = let same : stm_weight (stm_of r) ≡ stm_weight (stm_of s) = ap (λ s. stm_weight (stm_of s)) e in omega arith
-one_lighter (r ∷ ss) (suc i) s lt e = let ih : stm_weight (stm_of s) < block_weight (block_of ss) = one_lighter ss i s (omega arith) e in omega arith

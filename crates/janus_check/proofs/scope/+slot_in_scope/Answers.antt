@@ -8,7 +8,7 @@ use Rattle.janus_check.proofs.SlotLemmas.{slot_here, slot_behind, seen_behind, d
 use Rattle.janus_check.proofs.scope.+slot_in_scope.Goals as goal
 
 pub slot_in_scope-requires : goal.slot_in_scope-requires
-slot_in_scope-requires g t c =
+slot_in_scope-requires g t c κs within =
     let declared = over (shape_in (g.T.SymbolTable.known c.args.env.now).names) c.args.own.now.names in
     let x = name_of c.args.name.now in
     let y = name_of c.in-Local.local.now in
@@ -16,9 +16,12 @@ slot_in_scope-requires g t c =
     let long = ap (λ s. length (scoped declared s)) c.in-Local.is in (
       omega (arith, c.decreases, ap depth_of c.in-Local.is),
       (
-        seen_behind x (y, meant_kind c.in-Local.field-1) (scoped declared c.in-Local.outer.now) other
-            (subst (λ s. IsSeen (scoped declared s) x) c.in-Local.is c.requires.seen),
-        omega (arith, long, c.requires.small),
+        within,
+        (
+          seen_behind x (y, meant_kind c.in-Local.field-1) (scoped declared c.in-Local.outer.now) other
+              (subst (λ s. IsSeen (scoped declared s) x) c.in-Local.is c.requires.seen),
+          omega (arith, long, c.requires.small),
+        ),
       ),
     )
 

@@ -1,12 +1,13 @@
-use Rattle.std.proofs.Common.{suc, ◌∷◌, ◌++◌, sym, ap, ◌∙◌, drop, add-one}
+use Rattle.std.proofs.Common.{arith, suc, ◌∷◌, ◌++◌, sym, ap, ◌∙◌, drop, add-one}
 use Rattle.std.proofs.Math.Seq.{drop-cons}
 use Rattle.janus_meaning.specs.Syntax.{ANumber, AnArray, AStack}
 use Rattle.janus_syntax.specs.Tree.{name_view, exp_view, stm_view, block_view}
-use Rattle.janus_syntax.specs.View.{name_of}
+use Rattle.janus_syntax.specs.View.{name_of, stm_of, block_of}
 use Rattle.janus_syntax.proofs.Views.{view_if, view_loop, view_local_int, view_local_stack}
 use Rattle.janus_check.specs.Fault.{first_from}
 use Rattle.janus_check.specs.Check.{use_faults, side_faults, exp_faults, end_faults, shadow_faults, stm_faults, block_faults}
 use Rattle.janus_check.specs.Sight.{in_sight, heads_seen}
+use Rattle.janus_check.proofs.Weights.{block_weight, one_lighter, if_lighter, loop_lighter, local_int_lighter, local_stack_lighter}
 use Rattle.janus_check.proofs.FirstLemmas.{first_from-append, two_parts, four_parts}
 use Rattle.janus_check.proofs.statement.+stm_fault.Goals as goal
 
@@ -106,3 +107,38 @@ stm_fault-returns-in-LocalStack g t c =
     ∙ ap (λ b. first_from past_name (block_faults hs inner (block_view b))) c.deref-in-LocalStack.ensures.value)
     ∙ ap (λ s. first_from c.args.first (stm_faults hs g s)) (sym (view_local_stack c.in-LocalStack.name c.in-LocalStack.field-2 c.in-LocalStack.body))
     ∙ ap (λ s. first_from c.args.first (stm_faults hs g (stm_view s))) (sym c.in-LocalStack.is)
+
+pub block_fault-stm_fault-next-requires : goal.block_fault-stm_fault-next-requires
+block_fault-stm_fault-next-requires g t c κs within =
+    (omega (arith, c.decreases, one_lighter c.args.statements.now c.loop-i.i c.index-statements-i.result c.loop-i-test.true (sym c.index-statements-i.is)), within)
+
+pub stm_fault-block_fault-next-requires : goal.stm_fault-block_fault-next-requires
+stm_fault-block_fault-next-requires g t c κs within =
+    let lighter = if_lighter c.args.stm.now c.in-If.test c.in-If.last c.in-If.then_part c.in-If.else_part c.in-If.is in
+    (omega (arith, c.decreases, lighter.0, ap (λ ss. block_weight (block_of ss)) c.deref.ensures.value), within)
+
+pub stm_fault-block_fault-next-requires-in-If : goal.stm_fault-block_fault-next-requires-in-If
+stm_fault-block_fault-next-requires-in-If g t c κs within =
+    let lighter = if_lighter c.args.stm.now c.in-If.test c.in-If.last c.in-If.then_part c.in-If.else_part c.in-If.is in
+    (omega (arith, c.decreases, lighter.1, ap (λ ss. block_weight (block_of ss)) c.deref-in-If.ensures.value), within)
+
+pub stm_fault-block_fault-next-requires-in-Loop : goal.stm_fault-block_fault-next-requires-in-Loop
+stm_fault-block_fault-next-requires-in-Loop g t c κs within =
+    let lighter = loop_lighter c.args.stm.now c.in-Loop.entry c.in-Loop.exit c.in-Loop.do_part c.in-Loop.loop_part c.in-Loop.is in
+    (omega (arith, c.decreases, lighter.0, ap (λ ss. block_weight (block_of ss)) c.deref-in-Loop.ensures.value), within)
+
+pub stm_fault-block_fault-next-requires-in-Loop-2 : goal.stm_fault-block_fault-next-requires-in-Loop-2
+stm_fault-block_fault-next-requires-in-Loop-2 g t c κs within =
+    let lighter = loop_lighter c.args.stm.now c.in-Loop.entry c.in-Loop.exit c.in-Loop.do_part c.in-Loop.loop_part c.in-Loop.is in
+    (omega (arith, c.decreases, lighter.1, ap (λ ss. block_weight (block_of ss)) c.deref-in-Loop-2.ensures.value), within)
+
+pub stm_fault-block_fault-next-requires-in-LocalInt : goal.stm_fault-block_fault-next-requires-in-LocalInt
+stm_fault-block_fault-next-requires-in-LocalInt g t c κs within =
+    let lighter = local_int_lighter c.args.stm.now c.in-LocalInt.name c.in-LocalInt.field-3 c.in-LocalInt.begin c.in-LocalInt.end
+    c.in-LocalInt.body c.in-LocalInt.is in
+    (omega (arith, c.decreases, lighter, ap (λ ss. block_weight (block_of ss)) c.deref-in-LocalInt.ensures.value), within)
+
+pub stm_fault-block_fault-requires : goal.stm_fault-block_fault-requires
+stm_fault-block_fault-requires g t c κs within =
+    let lighter = local_stack_lighter c.args.stm.now c.in-LocalStack.name c.in-LocalStack.field-2 c.in-LocalStack.body c.in-LocalStack.is in
+    (omega (arith, c.decreases, lighter, ap (λ ss. block_weight (block_of ss)) c.deref-in-LocalStack.ensures.value), within)

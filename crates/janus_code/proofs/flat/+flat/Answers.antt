@@ -10,7 +10,8 @@ use Rattle.janus_code.specs.Held.{IsMember, AreInsideFrom}
 use Rattle.janus_code.proofs.HeldLemmas.{if_both, if_three, both_inside, one_inside, row_inside, row_reached, IsListed}
 use Rattle.janus_code.proofs.Flattened.{if_ok, always_ok, if_parts, loop_parts, local_int_part, local_stack_part, row_below, row_trees, if_flat, loop_flat}
 use Rattle.janus_code.proofs.Flattened.{local_int_flat, local_stack_flat}
-use Rattle.janus_code.proofs.Seeing.{block_weight, one_seen, one_lighter}
+use Rattle.janus_check.proofs.Weights.{block_weight, one_lighter}
+use Rattle.janus_code.proofs.Seeing.{one_seen}
 use Rattle.janus_check.specs.Sight.{in_sight}
 use Rattle.janus_meaning.specs.Syntax.{ANumber, AStack, names_of}
 use Rattle.janus_meaning.specs.Shape.{Shape}

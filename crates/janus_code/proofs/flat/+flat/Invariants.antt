@@ -2,7 +2,7 @@ use Rattle.std.proofs.Common.{◌≡◌, ℕ, ◌<◌, ◌≤◌, ◌+◌, max, 
 use Rattle.std.specs.Prelude.{slice_get, Some}
 use Rattle.janus_syntax.specs.View.{stm_of, block_of}
 use Rattle.janus_code.proofs.HeldLemmas.{IsListed}
-use Rattle.janus_code.proofs.Seeing.{stm_weight, block_weight}
+use Rattle.janus_check.proofs.Weights.{stm_weight, block_weight}
 use Rattle.janus_syntax.specs.declared.tree.Stm as code_stm
 use Rattle.janus_code.specs.Flat.{tree_at}
 use Rattle.janus_code.specs.Grown.{Grows}

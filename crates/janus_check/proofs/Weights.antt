@@ -1,0 +1,49 @@
+-- How heavy trees are: each block of a statement weighs less than it, and each statement less than its block.
+use Rattle.std.proofs.Common.{◌≡◌, ◌<◌, ◌+◌, length, get_or, ℕ, zero, suc, List, [], ◌∷◌, Vec, Global, ap, ◌∙◌, arith}
+use Rattle.janus_meaning.specs.Syntax.{Stm, Blk, Skip, Set, SetAt, Push, Pop, Swap, If, From, LocalInt, LocalStack, Call, Uncall, Nil, Cons}
+use Rattle.janus_syntax.specs.declared.tree.Stm as code_stm
+use Rattle.janus_syntax.specs.declared.tree.Name as code_name
+use Rattle.janus_syntax.specs.declared.tree.Exp as code_exp
+use Rattle.janus_syntax.specs.View.{stm_of, block_of, plain_stm}
+use Rattle.janus_syntax.proofs.Views.{view_if, view_loop, view_local_int, view_local_stack}
+
+abbrev mutual
+  pub stm_weight : Stm → ℕ
+  stm_weight Skip = 1
+  stm_weight (Set x o e) = 1
+  stm_weight (SetAt a i o e) = 1
+  stm_weight (Push x y) = 1
+  stm_weight (Pop x y) = 1
+  stm_weight (Swap x y) = 1
+  stm_weight (If a s t b) = suc (block_weight s + block_weight t)
+  stm_weight (From a s t b) = suc (block_weight s + block_weight t)
+  stm_weight (LocalInt x a s b) = suc (block_weight s)
+  stm_weight (LocalStack x s) = suc (block_weight s)
+  stm_weight (Call f xs) = 1
+  stm_weight (Uncall f xs) = 1
+
+  pub block_weight : Blk → ℕ
+  block_weight Nil = 0
+  block_weight (Cons c b) = suc (stm_weight c + block_weight b)
+
+pub one_lighter : (ss : List code_stm.Stm) (i : ℕ) (s : code_stm.Stm) → i < length ss → get_or ss i s ≡ s → stm_weight (stm_of s) < block_weight (block_of ss)
+one_lighter [] i s lt e = absurd (omega arith)
+one_lighter (r ∷ ss) zero s lt e = let same : stm_weight (stm_of r) ≡ stm_weight (stm_of s) = ap (λ s. stm_weight (stm_of s)) e in omega arith
+one_lighter (r ∷ ss) (suc i) s lt e = let ih : stm_weight (stm_of s) < block_weight (block_of ss) = one_lighter ss i s (omega arith) e in omega arith
+
+-- the blocks of an if, of a loop and of locals
+pub if_lighter : (s : code_stm.Stm) (a b : code_exp.Exp) (v w : Vec code_stm.Stm Global) → s ≡ code_stm.If a v w b →
+    (block_weight (block_of v.items) < stm_weight (stm_of s)) × (block_weight (block_of w.items) < stm_weight (stm_of s))
+if_lighter s a b v w e = let weight = ap stm_weight (ap stm_of e ∙ ap plain_stm (view_if a b v w)) in (omega (arith, weight), omega (arith, weight))
+
+pub loop_lighter : (s : code_stm.Stm) (a b : code_exp.Exp) (v w : Vec code_stm.Stm Global) → s ≡ code_stm.Loop a v w b →
+    (block_weight (block_of v.items) < stm_weight (stm_of s)) × (block_weight (block_of w.items) < stm_weight (stm_of s))
+loop_lighter s a b v w e = let weight = ap stm_weight (ap stm_of e ∙ ap plain_stm (view_loop a b v w)) in (omega (arith, weight), omega (arith, weight))
+
+pub local_int_lighter : (s : code_stm.Stm) (x y : code_name.Name) (a b : code_exp.Exp) (v : Vec code_stm.Stm Global) → s ≡ code_stm.LocalInt x a v y b →
+    block_weight (block_of v.items) < stm_weight (stm_of s)
+local_int_lighter s x y a b v e = let weight = ap stm_weight (ap stm_of e ∙ ap plain_stm (view_local_int x y a b v)) in omega (arith, weight)
+
+pub local_stack_lighter : (s : code_stm.Stm) (x y : code_name.Name) (v : Vec code_stm.Stm Global) → s ≡ code_stm.LocalStack x v y →
+    block_weight (block_of v.items) < stm_weight (stm_of s)
+local_stack_lighter s x y v e = let weight = ap stm_weight (ap stm_of e ∙ ap plain_stm (view_local_stack x y v)) in omega (arith, weight)
