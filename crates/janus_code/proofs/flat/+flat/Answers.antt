@@ -101,66 +101,81 @@ flat_statement-returns-in_ok-entry-in-Loop-clause-numbered g t c =
     c.add-in-Loop.ensures.numbered
 
 pub flat_block-flat_statement-requires : goal.flat_block-flat_statement-requires
-flat_block-flat_statement-requires g t c =
+flat_block-flat_statement-requires g t c κs within =
     let s = c.index-block-i.result in
     let inside : c.loop-i.i < length c.args.block.now = omega arith in (
       omega (arith, c.decreases, one_lighter c.args.block.now c.loop-i.i s inside (sym c.index-block-i.is)),
       (
-        one_seen c.args.entries.now (in_sight c.args.sight.now) c.args.block.now c.loop-i.i s inside (sym c.index-block-i.is) c.requires.seen,
-        (c.requires.small, (omega (arith, c.requires.sight, c.loop-i.invariant.wider), omega (arith, c.requires.entries, c.loop-i.invariant.wider))),
+        within,
+        (
+          one_seen c.args.entries.now (in_sight c.args.sight.now) c.args.block.now c.loop-i.i s inside (sym c.index-block-i.is) c.requires.seen,
+          (c.requires.small, (omega (arith, c.requires.sight, c.loop-i.invariant.wider), omega (arith, c.requires.entries, c.loop-i.invariant.wider))),
+        ),
       ),
     )
 
 pub flat_statement-flat_block-requires : goal.flat_statement-flat_block-requires
-flat_statement-flat_block-requires g t c =
+flat_statement-flat_block-requires g t c κs within =
     let parts = if_parts c.args.entries.now (in_sight c.args.sight.now) c.args.statement.now c.in-If.test c.in-If.last c.in-If.then_part c.in-If.else_part
     c.in-If.is c.requires.seen in
     let same = c.deref.ensures.value in (
       omega (arith, c.decreases, parts.first_lighter, ap (λ ss. block_weight (block_of ss)) same),
       (
-        subst (λ ss. SeesBlk c.args.entries.now (in_sight c.args.sight.now) (block_of ss)) (sym same) parts.first,
-        (c.requires.small, (c.requires.sight, c.requires.entries)),
+        within,
+        (
+          subst (λ ss. SeesBlk c.args.entries.now (in_sight c.args.sight.now) (block_of ss)) (sym same) parts.first,
+          (c.requires.small, (c.requires.sight, c.requires.entries)),
+        ),
       ),
     )
 
 pub flat_statement-flat_block-requires-in-If : goal.flat_statement-flat_block-requires-in-If
-flat_statement-flat_block-requires-in-If g t c =
+flat_statement-flat_block-requires-in-If g t c κs within =
     let parts = if_parts c.args.entries.now (in_sight c.args.sight.now) c.args.statement.now c.in-If.test c.in-If.last c.in-If.then_part c.in-If.else_part
     c.in-If.is c.requires.seen in
     let same = c.deref-in-If.ensures.value in (
       omega (arith, c.decreases, parts.second_lighter, ap (λ ss. block_weight (block_of ss)) same),
       (
-        subst (λ ss. SeesBlk c.args.entries.now (in_sight c.args.sight.now) (block_of ss)) (sym same) parts.second,
+        within,
         (
-          c.requires.small,
-          (omega (arith, c.requires.sight, c.in_ok-then_part-in-If.ensures.wider), omega (arith, c.requires.entries, c.in_ok-then_part-in-If.ensures.wider)),
+          subst (λ ss. SeesBlk c.args.entries.now (in_sight c.args.sight.now) (block_of ss)) (sym same) parts.second,
+          (
+            c.requires.small,
+            (omega (arith, c.requires.sight, c.in_ok-then_part-in-If.ensures.wider), omega (arith, c.requires.entries, c.in_ok-then_part-in-If.ensures.wider)),
+          ),
         ),
       ),
     )
 
 pub flat_statement-flat_block-requires-in-Loop : goal.flat_statement-flat_block-requires-in-Loop
-flat_statement-flat_block-requires-in-Loop g t c =
+flat_statement-flat_block-requires-in-Loop g t c κs within =
     let parts = loop_parts c.args.entries.now (in_sight c.args.sight.now) c.args.statement.now c.in-Loop.entry c.in-Loop.exit c.in-Loop.do_part
     c.in-Loop.loop_part c.in-Loop.is c.requires.seen in
     let same = c.deref-in-Loop.ensures.value in (
       omega (arith, c.decreases, parts.first_lighter, ap (λ ss. block_weight (block_of ss)) same),
       (
-        subst (λ ss. SeesBlk c.args.entries.now (in_sight c.args.sight.now) (block_of ss)) (sym same) parts.first,
-        (c.requires.small, (c.requires.sight, c.requires.entries)),
+        within,
+        (
+          subst (λ ss. SeesBlk c.args.entries.now (in_sight c.args.sight.now) (block_of ss)) (sym same) parts.first,
+          (c.requires.small, (c.requires.sight, c.requires.entries)),
+        ),
       ),
     )
 
 pub flat_statement-flat_block-requires-in-Loop-2 : goal.flat_statement-flat_block-requires-in-Loop-2
-flat_statement-flat_block-requires-in-Loop-2 g t c =
+flat_statement-flat_block-requires-in-Loop-2 g t c κs within =
     let parts = loop_parts c.args.entries.now (in_sight c.args.sight.now) c.args.statement.now c.in-Loop.entry c.in-Loop.exit c.in-Loop.do_part
     c.in-Loop.loop_part c.in-Loop.is c.requires.seen in
     let same = c.deref-in-Loop-2.ensures.value in (
       omega (arith, c.decreases, parts.second_lighter, ap (λ ss. block_weight (block_of ss)) same),
       (
-        subst (λ ss. SeesBlk c.args.entries.now (in_sight c.args.sight.now) (block_of ss)) (sym same) parts.second,
+        within,
         (
-          c.requires.small,
-          (omega (arith, c.requires.sight, c.in_ok-do_part-in-Loop.ensures.wider), omega (arith, c.requires.entries, c.in_ok-do_part-in-Loop.ensures.wider)),
+          subst (λ ss. SeesBlk c.args.entries.now (in_sight c.args.sight.now) (block_of ss)) (sym same) parts.second,
+          (
+            c.requires.small,
+            (omega (arith, c.requires.sight, c.in_ok-do_part-in-Loop.ensures.wider), omega (arith, c.requires.entries, c.in_ok-do_part-in-Loop.ensures.wider)),
+          ),
         ),
       ),
     )
@@ -194,35 +209,41 @@ flat_block-loop-i-preserved g t c =
     }
 
 pub flat_statement-flat_block-requires-in-LocalInt : goal.flat_statement-flat_block-requires-in-LocalInt
-flat_statement-flat_block-requires-in-LocalInt g t c =
+flat_statement-flat_block-requires-in-LocalInt g t c κs within =
     let part = local_int_part c.args.entries.now (in_sight c.args.sight.now) c.args.statement.now c.in-LocalInt.name c.in-LocalInt.field-3 c.in-LocalInt.first
     c.in-LocalInt.last c.in-LocalInt.block c.in-LocalInt.is c.requires.seen in
     let same = c.deref-in-LocalInt.ensures.value in
     let long = ap (λ (h : Shape). length h) c.local-inside.ensures.names in (
       omega (arith, c.decreases, part.lighter, ap (λ ss. block_weight (block_of ss)) same),
       (
-        subst (λ (h : Shape). SeesBlk c.args.entries.now h (block_of c.deref-in-LocalInt.result.now)) (sym c.local-inside.ensures.names)
-            (subst (λ ss. SeesBlk c.args.entries.now ((name_of c.in-LocalInt.name, ANumber) ∷ in_sight c.args.sight.now) (block_of ss)) (sym same) part.block),
+        within,
         (
-          omega (arith, long, c.in_ok-symbol-in-LocalInt.ensures.small),
-          (omega (arith, long, c.in_ok-symbol-in-LocalInt.ensures.width), omega (arith, c.requires.entries, c.in_ok-symbol-in-LocalInt.ensures.wider)),
+          subst (λ (h : Shape). SeesBlk c.args.entries.now h (block_of c.deref-in-LocalInt.result.now)) (sym c.local-inside.ensures.names)
+              (subst (λ ss. SeesBlk c.args.entries.now ((name_of c.in-LocalInt.name, ANumber) ∷ in_sight c.args.sight.now) (block_of ss)) (sym same) part.block),
+          (
+            omega (arith, long, c.in_ok-symbol-in-LocalInt.ensures.small),
+            (omega (arith, long, c.in_ok-symbol-in-LocalInt.ensures.width), omega (arith, c.requires.entries, c.in_ok-symbol-in-LocalInt.ensures.wider)),
+          ),
         ),
       ),
     )
 
 pub flat_statement-flat_block-requires-in-LocalStack : goal.flat_statement-flat_block-requires-in-LocalStack
-flat_statement-flat_block-requires-in-LocalStack g t c =
+flat_statement-flat_block-requires-in-LocalStack g t c κs within =
     let part = local_stack_part c.args.entries.now (in_sight c.args.sight.now) c.args.statement.now c.in-LocalStack.name c.in-LocalStack.field-2
     c.in-LocalStack.block c.in-LocalStack.is c.requires.seen in
     let same = c.deref-in-LocalStack.ensures.value in
     let long = ap (λ (h : Shape). length h) c.local-inside-in-LocalStack.ensures.names in (
       omega (arith, c.decreases, part.lighter, ap (λ ss. block_weight (block_of ss)) same),
       (
-        subst (λ (h : Shape). SeesBlk c.args.entries.now h (block_of c.deref-in-LocalStack.result.now)) (sym c.local-inside-in-LocalStack.ensures.names)
-            (subst (λ ss. SeesBlk c.args.entries.now ((name_of c.in-LocalStack.name, AStack) ∷ in_sight c.args.sight.now) (block_of ss)) (sym same) part.block),
+        within,
         (
-          omega (arith, long, c.in_ok-symbol-in-LocalStack.ensures.small),
-          (omega (arith, long, c.in_ok-symbol-in-LocalStack.ensures.width), omega (arith, c.requires.entries, c.in_ok-symbol-in-LocalStack.ensures.wider)),
+          subst (λ (h : Shape). SeesBlk c.args.entries.now h (block_of c.deref-in-LocalStack.result.now)) (sym c.local-inside-in-LocalStack.ensures.names)
+              (subst (λ ss. SeesBlk c.args.entries.now ((name_of c.in-LocalStack.name, AStack) ∷ in_sight c.args.sight.now) (block_of ss)) (sym same) part.block),
+          (
+            omega (arith, long, c.in_ok-symbol-in-LocalStack.ensures.small),
+            (omega (arith, long, c.in_ok-symbol-in-LocalStack.ensures.width), omega (arith, c.requires.entries, c.in_ok-symbol-in-LocalStack.ensures.wider)),
+          ),
         ),
       ),
     )
