@@ -1,5 +1,5 @@
 -- A cell has no faults exactly where it is well formed.
-use Rattle.std.proofs.Common.{◌≡◌, List, [], ◌∷◌, ◌++◌, map, refl, ap, ◌∙◌, sym, subst}
+use Rattle.std.proofs.Common.{◌≡◌, List, [], ◌∷◌, ◌++◌, map, refl, ap, ◌∙◌, subst}
 use Rattle.janus_meaning.specs.Syntax as tree
 use Rattle.janus_meaning.specs.Shape.{Shape, Heads, heads_of}
 use Rattle.janus_meaning.specs.Formed.{IsStm, IsBlk, AreProcs}

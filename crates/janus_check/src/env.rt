@@ -174,4 +174,8 @@ impl SymbolTable for Env {
     fn procedures(&self) -> usize {
         Env::procedures(self)
     }
+
+    fn procedures_law(&self) {
+        let _count = Env::procedures(self);
+    }
 }

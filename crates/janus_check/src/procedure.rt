@@ -36,6 +36,9 @@ pub(crate) fn define_all<T: SymbolTable>(
     ensures heads { OnOk result (heads_in own.new.procedures ≡ after_heads (heads_in own.old.procedures) (procedures_view procedures.now)) }
     ensures names { own.new.names ≡ own.old.names }
 {
+    if procedures.is_empty() {
+        return Ok(first);
+    }
     let mut next = first;
     let mut count = env.procedures();
     for i in 0..procedures.len() {
@@ -97,7 +100,8 @@ fn counted<T: SymbolTable>(env: &T, own: &Env, name: &str, count: usize) -> usiz
     requires new { head_at name.now (heads_in own.now.procedures) ≡ None }
     ensures { result ≡ count_new (head_at name.now (heads_over (T.known env.now) own.now)) count }
 {
-    let _most = env.procedures() + own.procedures();
+    env.procedures_law();
+    own.procedures_law();
     match env.head(name) {
         Some(_) => count,
         None => count + 1,

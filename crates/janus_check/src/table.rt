@@ -43,8 +43,11 @@ pub trait SymbolTable {
     /// The number of procedures.
     fn procedures(&self) -> usize
         ensures count { result ≡ length (known self.now).procedures }
-        ensures distinct { result ≡ different (heads_in (known self.now).procedures) }
-        ensures small { result < 2 ^ 63 };
+        ensures distinct { result ≡ different (heads_in (known self.now).procedures) };
+
+    /// Law: a `usize` counts the procedures, and those of a cell with them.
+    fn procedures_law(&self)
+        ensures { length (known self.now).procedures < 2 ^ 63 };
 }
 
 /// What is known, as it is lent to a check. Contracts see what it shows.

@@ -1,5 +1,5 @@
 -- Well-formed trees name what is in sight, and call procedures that calls see.
-use Rattle.std.proofs.Common.{◌≡◌, ◌<◌, ◌+◌, length, get_or, ℕ, zero, suc, Bool, true, false, List, [], ◌∷◌, map, refl, ap, ◌∙◌, sym, subst, arith}
+use Rattle.std.proofs.Common.{◌≡◌, ◌<◌, length, get_or, ℕ, zero, suc, Bool, true, false, List, [], ◌∷◌, map, refl, ap, ◌∙◌, sym, subst, arith}
 use Rattle.std.specs.Prelude.{Some, Contains}
 use Rattle.janus_meaning.specs.Syntax as tree
 use Rattle.janus_meaning.specs.Syntax.{Name, Kind, Exp, Number, Var, At, Empty, Top, Negate, Binary, And, Or, Stm, Blk, Proc, Skip, Set, SetAt, Push, Pop, Swap}

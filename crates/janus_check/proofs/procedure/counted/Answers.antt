@@ -17,10 +17,8 @@ overflow_add-result g c =
       length-append own env,
       length-alone meant_kinds c.args.own.now.procedures,
       length-alone meant_kinds (table c.args.env.now).procedures,
-      c.procedures.ensures.count,
-      c.procedures.ensures.small,
-      c.procedures-2.ensures.count,
-      c.procedures-2.ensures.small,
+      c.procedures_law.ensures,
+      c.procedures_law-2.ensures,
     )
 
 pub returns-in-Some : goal.returns-in-Some

@@ -1,4 +1,4 @@
-use Rattle.std.proofs.Common.{◌≡◌, ◌+◌, [], length, ap, ◌∙◌, sym, arith}
+use Rattle.std.proofs.Common.{◌≡◌, ◌+◌, length, ap, ◌∙◌, sym, arith}
 use Rattle.janus_meaning.specs.Shape.{kind_at}
 use Rattle.janus_meaning.specs.Syntax.{names_of}
 use Rattle.janus_slots.specs.Slots.{slot, slot_in}

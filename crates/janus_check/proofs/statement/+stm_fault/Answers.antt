@@ -2,7 +2,7 @@ use Rattle.std.proofs.Common.{arith, suc, ◌∷◌, ◌++◌, sym, ap, ◌∙�
 use Rattle.std.proofs.Math.Seq.{drop-cons}
 use Rattle.janus_meaning.specs.Syntax.{ANumber, AnArray, AStack}
 use Rattle.janus_syntax.specs.Tree.{name_view, exp_view, stm_view, block_view}
-use Rattle.janus_syntax.specs.View.{name_of, stm_of, block_of}
+use Rattle.janus_syntax.specs.View.{name_of, block_of}
 use Rattle.janus_syntax.proofs.Views.{view_if, view_loop, view_local_int, view_local_stack}
 use Rattle.janus_check.specs.Fault.{first_from}
 use Rattle.janus_check.specs.Check.{use_faults, side_faults, exp_faults, end_faults, shadow_faults, stm_faults, block_faults}
