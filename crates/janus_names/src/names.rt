@@ -1,6 +1,6 @@
 //! The table of names.
 
-ghost use Rattle.std.specs.Prelude.{◌≡◌, ◌<◌, ◌++◌, ◌∷◌, [], length, take, string_bytes, None, IfSome, IfOk, OnOk, OnErr};
+ghost use Rattle.std.specs.Prelude.{◌≡◌, ◌<◌, ◌^◌, ◌++◌, ◌∷◌, [], length, take, string_bytes, None, IfSome, IfOk, OnOk, OnErr};
 ghost use Rattle.janus_names.specs.Numbers.{IsNumbered, IsUnmet, Adds, HaveOneNumber};
 
 use indexmap::IndexSet;
@@ -46,6 +46,13 @@ impl Names {
         ensures { HaveOneNumber self.now }
     {
         let _names = &self.names;
+    }
+
+    /// Law: the names are few enough to be counted with as many others.
+    pub fn few_law(&self)
+        ensures { length self.now < 2 ^ 63 }
+    {
+        let _count = self.names.len();
     }
 
     /// The number of a name, if it is there.
