@@ -7,17 +7,14 @@ ghost use Rattle.kernel_loader.specs.Defined.{in_a_row};
 ghost use Rattle.kernel_history.specs.Fields.{past_of, job_of, work_of};
 ghost use Rattle.kernel_history.specs.Bodies.{over_here, procedures_in};
 ghost use Rattle.kernel_history.specs.Kept.{HasPathAt, HasPathFor};
-ghost use Rattle.kernel_loader.specs.Runner.{over, Is, Between};
 ghost use Rattle.kernel_machine.specs.Legal.{IsLegal, IsPossibleAt, IsPossibleWork};
-ghost use Rattle.kernel_machine.specs.State.{here, procedures_at};
+ghost use Rattle.kernel_machine.specs.State.{procedures_at};
 
 use crate::job::{Open, Work};
 use crate::tree::{HistoryTree, below};
 use janus_syntax::tree::Procedure;
-use kernel_loader::Runner;
 use kernel_machine::Way;
 use std::alloc::{AllocError, Global};
-use std::sync::ledger::Ledger;
 
 /// The procedures of the cell that is open, which its steps began with; none between two cells, and none of a cell that is undone.
 pub fn own_procedures<'a>(tree: &'a HistoryTree, job: &'a Open) -> &'a [Procedure]
@@ -70,23 +67,6 @@ pub fn all_procedures<'a>(
         at = tree.cells.parent(at);
     }
     Ok(all)
-}
-
-/// The procedures of the position's world, which a runner shows, the newest first. Where no body is kept there is none, and no node is
-/// walked over. The only error is want of memory.
-pub fn procedures_here<'a, L: Ledger>(
-    alloc: Global,
-    tree: &'a HistoryTree,
-    runner: &Runner<L>,
-) -> Result<Vec<&'a Procedure>, AllocError>
-    requires legal { IsLegal (past_of tree.now) }
-    requires is { (bodies : List ℕ) × Is runner.now (Between (over bodies (here (past_of tree.now)))) }
-    ensures { IfOk result (λ all. in_a_row all.items ≡ (here (past_of tree.now)).procedures) }
-{
-    if runner.procedures.len() == 0 {
-        return Ok(Vec::new(alloc));
-    }
-    all_procedures(alloc, tree, &[])
 }
 
 /// Adds the procedures of a cell, the last one first. The only error is want of memory.

@@ -29,7 +29,6 @@ ghost use Rattle.kernel_history.specs.Standing.{shown_here, StandsAt};
 ghost use Rattle.kernel_history.specs.Kept.{HasPath, Kept, IsKept};
 ghost use Rattle.kernel_history.specs.OpenCell.{IsOpenCell};
 
-use crate::defined::procedures_here;
 use crate::extent::extent_of;
 use crate::job::{Entered, Open, Stage, Work};
 use crate::open_cell::OpenCell;
@@ -138,19 +137,19 @@ fn depart<L: Ledger>(tree: &HistoryTree, runner: &mut Runner<L>, travel: Travel)
     enter(tree, runner, travel)
 }
 
-/// The program of a posted cell's text over the world of the position; or why the text is refused.
+/// The program of a posted cell's text over the world of the position, which the runner shows; or why the text is refused. Contracts alone read the tree.
 fn prepare<L: Ledger>(
     alloc: Global,
     text: &str,
-    tree: &HistoryTree,
+    _tree: &HistoryTree,
     runner: &mut Runner<L>,
 ) -> Result<Program, Refusal>
-    requires legal { IsLegal (past_of tree.now) }
-    requires is { (bodies : List ℕ) × Is runner.old (Between (over bodies (here (past_of tree.now)))) }
-    ensures accepts { IfOk result (λ program. Accepts (here (past_of tree.now)) text.now (cell_of_program program)) }
-    ensures refuses { IfErr result (Refuses (here (past_of tree.now)) text.now) }
+    requires legal { IsLegal (past_of _tree.now) }
+    requires is { (bodies : List ℕ) × Is runner.old (Between (over bodies (here (past_of _tree.now)))) }
+    ensures accepts { IfOk result (λ program. Accepts (here (past_of _tree.now)) text.now (cell_of_program program)) }
+    ensures refuses { IfErr result (Refuses (here (past_of _tree.now)) text.now) }
     ensures ready { IfOk result (λ program. IsReady runner.new.entries
-        (names_in (entered (cell_of_program program) (here (past_of tree.now))).store) runner.new.procedures program) }
+        (names_in (entered (cell_of_program program) (here (past_of _tree.now))).store) runner.new.procedures program) }
     ensures named { IfOk result (λ program. AreListed runner.new.entries (procedures_of program)) }
     // Its bodies are behind those that were kept, with none behind them, and what is refused leaves those alone.
     ensures behind { IfOk result (λ program. program.first ≡ length (kept_in runner.old.procedures)) }
@@ -165,10 +164,7 @@ fn prepare<L: Ledger>(
     ensures shown { KeepsShown runner.old runner.new }
     ensures counts { RunnerKeepsCounts runner.old runner.new }
 {
-    let Ok(procedures) = procedures_here(alloc, tree, runner) else {
-        return Err(Refusal::Memory);
-    };
-    load(alloc, text, &procedures, runner)
+    load(alloc, text, runner)
 }
 
 impl<L: Ledger> History<L> {

@@ -1,6 +1,8 @@
 -- The body that is kept of a procedure stands for it, with slots in place of names.
 use Rattle.std.proofs.Common.{◌≡◌, ◌+◌, ◌<◌, ◌≤◌, Bool, true, false, cond, ℕ, zero, suc, List, [], ◌∷◌, ◌++◌, length, get_or, map, take, refl, sym, ap, ◌∙◌, subst, arith}
-use Rattle.std.specs.Prelude.{slice_get, Some, Contains, Result, Ok, Err, IfOk}
+use Rattle.std.specs.Prelude.{slice_get, Some, None, Contains, Result, Ok, Err, IfOk}
+use Rattle.std.proofs.lemmas.Option.{slice_get_past}
+use Rattle.kernel_loader.specs.Keeping.{HaveNumbersBelow}
 use Rattle.std.proofs.lemmas.List.{length-map, map-append}
 use Rattle.kernel_runner.proofs.BodiesInEffect.{bodies_from_before, bodies_from_more}
 use Rattle.janus_meaning.specs.Limit.{parameter_limit}
@@ -107,25 +109,11 @@ last_one : (xs : List LinkedProcedure) (b : LinkedProcedure) → slice_get (xs +
 last_one [] b = refl
 last_one (x ∷ xs) b = last_one xs b
 
-take_before : (n : ℕ) (xs : List LinkedProcedure) (b : LinkedProcedure) → n ≤ length xs → take n (xs ++ b ∷ []) ≡ take n xs
-take_before zero xs b l = refl
-take_before (suc n) [] b l = absurd (omega arith)
-take_before (suc n) (x ∷ xs) b l = ap (λ ys. x ∷ ys) (take_before n xs b (omega arith))
-
-one_longer : (xs : List LinkedProcedure) (b : LinkedProcedure) → length (xs ++ b ∷ []) ≡ suc (length xs)
+pub one_longer : (xs : List LinkedProcedure) (b : LinkedProcedure) → length (xs ++ b ∷ []) ≡ suc (length xs)
 one_longer [] b = refl
 one_longer (x ∷ xs) b = ap suc (one_longer xs b)
 
--- one body more is kept ..
-pub kept_more : (old all new : List LinkedProcedure) (i : ℕ) (b : LinkedProcedure) → length all ≡ length old + i → take (length old) all ≡ old →
-    new ≡ all ++ b ∷ [] → (length new ≡ length old + (i + 1)) × (take (length old) new ≡ old)
-kept_more old all new i b count older made =
-    let longer = one_longer all b in (
-      ap (λ (bs : List LinkedProcedure). length bs) made ∙ longer ∙ (let r : suc (length all) ≡ length old + (i + 1) = omega arith in r),
-      ap (take (length old)) made ∙ take_before (length old) all b (omega arith) ∙ older,
-    )
-
--- .. which is that of a procedure with slots
+-- one body more, which is that of a procedure with slots
 pub bodies_more : (es : List Name) (old all new : List LinkedProcedure) (ys : List Defined.Procedure) (i : ℕ) (y : Defined.Procedure) (b : LinkedProcedure) →
     i < length ys → get_or ys i y ≡ y →
     AreBodiesFrom all (length old) (procedures_in es (map plain_procedure (procedures_view (take i ys)))) → length all ≡ length old + i →
@@ -147,3 +135,33 @@ bodies_more es old all new ys i y b l e bodies count made named body =
     subst (λ bs. AreBodiesFrom bs (length old) (procedures_in es (map plain_procedure (procedures_view (take (i + 1) ys))))) (sym made)
     (subst (λ qs. AreBodiesFrom (all ++ b ∷ []) (length old) qs) (sym more)
     (bodies_from_more (all ++ b ∷ []) (length old) ps p (bodies_from_before all b (length old) ps bodies) at))
+
+-- a body behind others whose number is below a bound, too
+pub below_more : (n : ℕ) (all new : List LinkedProcedure) (b : LinkedProcedure) → new ≡ all ++ b ∷ [] → HaveNumbersBelow n all → b.name < n →
+    HaveNumbersBelow n new
+below_more n all new b made h l = subst (λ bs. HaveNumbersBelow n bs) (sym made) (more all h)
+  where
+    more : (xs : List LinkedProcedure) → HaveNumbersBelow n xs → HaveNumbersBelow n (xs ++ b ∷ [])
+    more [] h zero y e = let same : b ≡ y = cc in subst (λ (c : LinkedProcedure). c.name < n) same l
+    more [] h (suc i) y e = let bad : None ≡ Some y = sym (slice_get_past {A = LinkedProcedure} [] i (omega arith)) ∙ e in cc
+    more (x ∷ xs) h zero y e = h 0 y e
+    more (x ∷ xs) h (suc i) y e = more xs (λ j z f. h (suc j) z f) i y e
+
+-- bodies behind others are at later indices
+get_behind : (old xs : List LinkedProcedure) (i : ℕ) → slice_get (old ++ xs) (length old + i) ≡ slice_get xs i
+get_behind [] xs i = ap (slice_get xs) (let e : 0 + i ≡ i = omega arith in e)
+get_behind (x ∷ old) xs i =
+    ap (slice_get (x ∷ (old ++ xs))) (let e : length (x ∷ old) + i ≡ suc (length old + i) = omega arith in e) ∙ get_behind old xs i
+
+bodies_later : (old xs : List LinkedProcedure) (k : ℕ) (ps : List Proc) → AreBodiesFrom xs k ps → AreBodiesFrom (old ++ xs) (length old + k) ps
+bodies_later old xs k [] h = tt
+bodies_later old xs k (p ∷ ps) h = (
+  record { body = h.0.body; there = get_behind old xs k ∙ h.0.there; name = h.0.name; is = h.0.is },
+  subst (λ (n : ℕ). AreBodiesFrom (old ++ xs) n ps) (let e : length old + suc k ≡ suc (length old + k) = omega arith in e)
+      (bodies_later old xs (suc k) ps h.1),
+)
+
+pub bodies_behind : (old new xs : List LinkedProcedure) (ps : List Proc) → new ≡ old ++ xs → AreBodiesFrom xs 0 ps → AreBodiesFrom new (length old) ps
+bodies_behind old new xs ps made h =
+    subst (λ (bs : List LinkedProcedure). AreBodiesFrom bs (length old) ps) (sym made)
+    (subst (λ (n : ℕ). AreBodiesFrom (old ++ xs) n ps) (let e : length old + 0 ≡ length old = omega arith in e) (bodies_later old xs 0 ps h))

@@ -1,5 +1,4 @@
 pub mod Kept
-pub mod OlderHeads
 pub mod Made
 pub mod Listed
 pub mod Sighted
@@ -8,6 +7,7 @@ pub mod Unlisted
 pub mod Entries
 pub mod InEffect
 pub mod Tabled
+pub mod Readable
 -- Of janus_machine, given again.
 pub use Rattle.kernel_runner.proofs.Bodies
 pub use Rattle.kernel_runner.proofs.BodiesInEffect

@@ -23,6 +23,10 @@ named_here (z ∷ ys) (suc i) y l e =
     let h : Contains (names_defined (map plain_procedure (procedures_view ys))) (plain_procedure (procedure_view y)).name = named_here ys i y (omega arith) e in
     (suc h.0, omega (arith, h.1), h.2)
 
+-- as many procedures as are read
+pub counted : (ys : List Defined.Procedure) (ps : List Proc) → map plain_procedure (procedures_view ys) ≡ ps → length ys ≡ length ps
+counted ys ps same = omega (arith, ap length same, length-map (procedures_view ys) plain_procedure, length-map ys procedure_view)
+
 -- the names of so many procedures are few
 pub few_listed : (old new : List Name) (ys : List Defined.Procedure) (ps : List Proc) (n : ℕ) → map plain_procedure (procedures_view ys) ≡ ps →
     length new ≤ length old + length ys → length old + length ps ≤ n → length new ≤ n

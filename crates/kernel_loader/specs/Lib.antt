@@ -4,6 +4,7 @@ pub mod Kinds
 pub mod Defined
 pub mod Known
 pub mod InEffect
+pub mod Tables
 pub mod Keeping
 pub mod Loading
 -- Of kernel_runner, given again.

@@ -1,5 +1,5 @@
 -- What a cell is loaded over, what stays meanwhile, and which names of procedures are new.
-use Rattle.std.specs.Prelude.{◌≡◌, ◌≤◌, ◌+◌, ◌⊎◌, ℕ, List, [], map, length, Contains}
+use Rattle.std.specs.Prelude.{◌≡◌, ◌≤◌, ◌+◌, ◌⊎◌, ◌++◌, ℕ, List, [], map, length, Contains}
 use Rattle.janus_meaning.specs.Syntax.{Name, Proc}
 use Rattle.janus_meaning.specs.FormedWorld.{HaveValues}
 use Rattle.janus_meaning.specs.World as world
@@ -10,8 +10,10 @@ use Rattle.janus_check.specs.Names.{Known}
 use Rattle.kernel_runner.specs.linked_code.LinkedCode.{LinkedCode}
 use Rattle.kernel_machine.specs.Language.{IsSound}
 use Rattle.kernel_machine.specs.Text.{Accepts}
-use Rattle.kernel_runner.specs.Procedures.{places_in}
-use Rattle.kernel_runner.specs.Program.{tree_of}
+use Rattle.kernel_runner.specs.Procedures.{kept_in, places_in}
+use Rattle.kernel_runner.specs.linked_procedure.LinkedProcedure.{LinkedProcedure}
+use Rattle.kernel_runner.specs.procedures.Procedures.{Procedures}
+use Rattle.kernel_runner.specs.Program.{tree_of, IsReady}
 use Rattle.kernel_runner.specs.declared.program.Program.{Program}
 use Rattle.kernel_runner.specs.Runner.{ShownWorld, Is, Between}
 use Rattle.kernel_runner.specs.declared.runner.Runner.{Runner}
@@ -39,8 +41,18 @@ AreProceduresOf w text ps = (ps ≡ []) ⊎ ((cell : world.Cell) × Accepts w te
 abbrev pub TakesFewPlaces : {L : Type 0} → Runner L → Runner L → List Proc → Type 0
 TakesFewPlaces old new ps = (n : ℕ) → places_in old.procedures ≤ n → length old.entries + length ps ≤ n → places_in new.procedures ≤ n
 
+-- this holds of each sound world that the runner shows
+abbrev pub OfEachShown : {L : Type 0} → Runner L → (World → Type 0) → Type 0
+OfEachShown runner P = (shown : ShownWorld) → Is runner (Between shown) → IsSound shown.world → P shown.world
+
 -- the program of this cell and this code, whose bodies begin there
 pub record IsMadeOf (cell : Cell) (book : LinkedCode) (first : ℕ) (program : Program) : Type 0 where
   pub tree : tree_of program ≡ cell
   pub code : program.book ≡ book
   pub bodies : program.first ≡ first
+
+-- Once these bodies are kept behind others, a program of this cell and this code, whose bodies begin there, is ready over these names.
+abbrev pub IsReadyOnceKept : List Name → List Name → Cell → LinkedCode → List LinkedProcedure → Type 0
+IsReadyOnceKept es names cell book bodies =
+    (old new : Procedures) (program : Program) → kept_in new ≡ kept_in old ++ bodies → IsMadeOf cell book (length (kept_in old)) program →
+    IsReady es names new program

@@ -50,7 +50,7 @@ fn declare(alloc: Global, env: &mut Env, name: &str, kind: Kind) -> Result<(), A
 }
 
 /// The kind of a value.
-fn kind_of(value: ValueView<'_>) -> Kind
+pub fn kind_of(value: ValueView<'_>) -> Kind
     ensures { result ≡ kind_in (shown value.entry) }
 {
     match value {

@@ -1,36 +1,30 @@
 use Rattle.std.proofs.Common.{◌≡◌, ◌≤◌, ℕ, List, Result, Ok, Err, IfOk, IfErr, ap, ◌∙◌, subst}
-use Rattle.janus_meaning.specs.Syntax.{Proc}
 use Rattle.janus_meaning.specs.Store.{Store}
-use Rattle.janus_meaning.specs.World.{World, declare}
+use Rattle.janus_meaning.specs.World.{declare}
 use Rattle.kernel_machine.specs.State.{here}
-use Rattle.kernel_machine.specs.Text.{Accepts, Refuses}
 use Rattle.janus_slots.specs.Slots.{names_in}
 use Rattle.kernel_loader.specs.StoreState.{StoreState}
 use Rattle.kernel_loader.specs.Program.{IsReady, cell_of_program, declarations_of}
-use Rattle.kernel_loader.specs.Runner.{world_of}
-use Rattle.kernel_loader.specs.Defined.{in_a_row}
+use Rattle.kernel_loader.specs.Runner.{over}
 use Rattle.kernel_history.specs.Fields.{past_of}
-use Rattle.kernel_history.proofs.Standing.{if_ok_map}
+use Rattle.kernel_history.proofs.Standing.{if_ok_map, here_sound}
 use Rattle.kernel_history.proofs.history.prepare.Goals as goal
 
-abbrev world : Store → List Proc → World
-world s ps = record { store = s; procedures = ps }
-
-same_world : (s t : Store) (ps qs : List Proc) → s ≡ t → ps ≡ qs → world s ps ≡ world t qs
-same_world s t ps qs store procedures = ap (λ (s : Store). world s ps) store ∙ ap (world t) procedures
+pub load-requires : goal.load-requires
+load-requires g c = (over c.requires.is.0 (here (past_of c.args._tree.now)), c.requires.is.1, here_sound c.args._tree.now c.requires.legal)
 
 -- a text is loaded over the world of the position
 pub returns-clause-accepts : goal.returns-clause-accepts
 returns-clause-accepts g c =
-    let same : world_of (in_a_row c.deref.result.now) c.args.runner.now ≡ here (past_of c.args.tree.now) =
-    same_world _ _ _ _ c.requires.is.1.0.store (ap in_a_row c.deref.ensures.value ∙ c.in-Ok.ensures) in
-    subst (λ (w : World). IfOk c.load.result (λ program. Accepts w c.args.text.now (cell_of_program program))) same c.load.ensures.accepts
+    if_ok_map c.load.result
+    (λ program accepts. accepts (over c.requires.is.0 (here (past_of c.args._tree.now))) c.requires.is.1 (here_sound c.args._tree.now c.requires.legal))
+    c.load.ensures.accepts
 
 pub returns-clause-refuses : goal.returns-clause-refuses
 returns-clause-refuses g c =
-    let same : world_of (in_a_row c.deref.result.now) c.args.runner.now ≡ here (past_of c.args.tree.now) =
-    same_world _ _ _ _ c.requires.is.1.0.store (ap in_a_row c.deref.ensures.value ∙ c.in-Ok.ensures) in
-    subst (λ (w : World). IfErr c.load.result (Refuses w c.args.text.now)) same c.load.ensures.refuses
+    if_err_map c.load.result
+    (λ refusal refuses. refuses (over c.requires.is.0 (here (past_of c.args._tree.now))) c.requires.is.1 (here_sound c.args._tree.now c.requires.legal))
+    c.load.ensures.refuses
 
 -- the runner shows the world of the position
 pub returns-clause-ready : goal.returns-clause-ready
@@ -43,6 +37,10 @@ returns-clause-ready g c =
 
 pub returns-clause-counts : goal.returns-clause-counts
 returns-clause-counts g c = record { writes = ap (λ (h : StoreState). h.writes) c.load.ensures.kept; steps = c.load.ensures.steps }
+
+if_err_map : {A E : Type 0} {P Q : E → Type 0} (r : Result A E) → ((x : E) → P x → Q x) → IfErr r P → IfErr r Q
+if_err_map (Ok x) f h = tt
+if_err_map (Err e) f h = f e h
 
 if_ok_both : {A E : Type 0} {P Q R : A → Type 0} (r : Result A E) → ((x : A) → P x → Q x → R x) → IfOk r P → IfOk r Q → IfOk r R
 if_ok_both (Ok x) f p q = f x p q

@@ -1,97 +1,72 @@
-use Rattle.std.proofs.Common.{◌+◌, [], length, rules, refl, sym, ap, ◌∙◌, subst, inl, inr}
-use Rattle.janus_meaning.specs.World.{World, declare}
+use Rattle.std.proofs.Common.{◌≡◌, ◌+◌, ℕ, [], List, length, rules, refl, sym, ap, ◌∙◌, subst, inl, inr}
+use Rattle.janus_meaning.specs.World as world
+use Rattle.janus_meaning.specs.World.{declare}
 use Rattle.janus_slots.specs.Slots.{names_in}
 use Rattle.janus_slots.specs.Law.{AreListed}
-use Rattle.janus_syntax.specs.Tree.{Cell}
-use Rattle.janus_syntax.specs.View.{plain_cell}
-use Rattle.janus_check.specs.Checked.{cell_in, known_in}
-use Rattle.janus_check.specs.Names.{Known}
-use Rattle.kernel_machine.specs.Text.{Accepts, Refuses}
+use Rattle.kernel_machine.specs.Text.{Refuses}
 use Rattle.kernel_runner.specs.StoreState.{shown_store}
 use Rattle.kernel_runner.specs.Program.{IsReady}
-use Rattle.kernel_runner.specs.Runner.{ShownWorld, world_of, over}
-use Rattle.kernel_runner.specs.declared.program.Program.{Program}
-use Rattle.kernel_loader.specs.Loading.{AddNamesOf, ShowsKnown}
-use Rattle.kernel_loader.specs.Defined.{in_a_row}
-use Rattle.kernel_loader.specs.Known.{IsKnownOf}
+use Rattle.kernel_loader.specs.Loading.{AddNamesOf}
+use Rattle.kernel_runner.proofs.Growing.{same_more}
+use Rattle.kernel_loader.proofs.Unlisted.{taken_back, shows_unlisted}
 use Rattle.kernel_loader.proofs.loader.load.Goals as goal
 
-pub known_over-requires-clause-values : goal.known_over-requires-clause-values
-known_over-requires-clause-values g c =
-    c.requires.sound.formed.values
+pub returns-in-Ok-clause-accepts : goal.returns-in-Ok-clause-accepts
+returns-in-Ok-clause-accepts g c = λ shown is sound. c.in-Ok.ensures.accepts shown is sound c.args.text.now c.in_ok-cell.ensures.tree
 
-pub known_over-requires-clause-distinct : goal.known_over-requires-clause-distinct
-known_over-requires-clause-distinct g c =
-    c.requires.sound.formed.names
+pub returns-in-Ok-clause-ready : goal.returns-in-Ok-clause-ready
+returns-in-Ok-clause-ready g c =
+    subst (λ (t : world.Cell). IsReady c.list_and_keep.new.runner.entries
+    (names_in (declare t.declarations (shown_store c.args.runner.now.counted.store))) c.list_and_keep.new.runner.procedures c.in-Ok.program)
+    (sym c.in-Ok.ensures.same) c.in-Ok.ensures.ready
 
-pub link-requires : goal.link-requires
-link-requires g c =
-    let w : World = world_of (in_a_row c.args.procedures.now) c.args.runner.now in
-    let known : IsKnownOf c.in-Ok.env w = record { names = c.in-Ok.ensures.names; heads = c.in-Ok.ensures.heads } in
-    let shows : (shown : ShownWorld) × ShowsKnown c.args.runner.now (known_in c.in_ok-checked.checked) shown = (
-      over c.requires.is.0 w,
-      record {
-        is = c.requires.is.1;
-        known = subst (λ (k : Known). IsKnownOf k w) (sym c.in_ok-checked.ensures.known) known;
-        values = c.requires.sound.formed.values;
-      },
-    ) in
-    record { known = shows }
+pub returns-in-Ok-clause-named : goal.returns-in-Ok-clause-named
+returns-in-Ok-clause-named g c =
+    subst (λ (t : world.Cell). AreListed c.list_and_keep.new.runner.entries t.procedures) (sym c.in-Ok.ensures.same) c.in-Ok.ensures.named
 
-pub returns-in-Ok-link-clause-accepts : goal.returns-in-Ok-link-clause-accepts
-returns-in-Ok-link-clause-accepts g c =
-    let w : World = world_of (in_a_row c.args.procedures.now) c.args.runner.now in
-    let known : IsKnownOf c.in-Ok.env w = record { names = c.in-Ok.ensures.names; heads = c.in-Ok.ensures.heads } in
-    subst (λ (t : Cell). Accepts w c.args.text.now (plain_cell t)) (sym c.into_cell.ensures) (c.in_ok-checked.ensures.accepts w known)
+pub returns-in-Ok-clause-only : goal.returns-in-Ok-clause-only
+returns-in-Ok-clause-only g c =
+    subst (λ (t : world.Cell). AddNamesOf c.args.runner.now.entries c.list_and_keep.new.runner.entries t.procedures) (sym c.in-Ok.ensures.same)
+    c.list_and_keep.ensures.only
 
--- what is said of the checked cell is said of the program's
+pub returns-in-Ok-clause-last : goal.returns-in-Ok-clause-last
+returns-in-Ok-clause-last g c = c.in-Ok.ensures.last ∙ ap (λ (t : world.Cell). c.in-Ok.program.first + length t.procedures) (sym c.in-Ok.ensures.same)
 
-pub returns-in-Ok-link-clause-ready : goal.returns-in-Ok-link-clause-ready
-returns-in-Ok-link-clause-ready g c =
-    let new = c.link.new.runner in
-    let program : Program = record { book = c.in-Ok-link.book; cell = c.into_cell.result; first = c.in-Ok-link.first; first_name = c.len-first_name.result } in
-    subst (λ (t : Cell). IsReady new.entries
-    (names_in (declare (plain_cell t).declarations (shown_store c.args.runner.now.counted.store))) new.procedures program) (sym c.into_cell.ensures)
-    (c.in-Ok-link.ensures.ready program (record { tree = c.into_cell.ensures; code = refl; bodies = refl }))
+pub returns-in-Ok-clause-few : goal.returns-in-Ok-clause-few
+returns-in-Ok-clause-few g c = λ shown is sound. c.list_and_keep.ensures.few shown is sound c.args.text.now c.in_ok-cell.ensures.tree
 
-pub returns-in-Ok-link-clause-named : goal.returns-in-Ok-link-clause-named
-returns-in-Ok-link-clause-named g c =
-    subst (λ (t : Cell). AreListed c.link.new.runner.entries (plain_cell t).procedures) (sym c.into_cell.ensures) c.in-Ok-link.ensures.named
+pub returns-in-Err-clause-refuses : goal.returns-in-Err-clause-refuses
+returns-in-Err-clause-refuses g c = λ shown is sound. c.in-Err.ensures.refuses shown is sound c.args.text.now c.in_ok-cell.ensures.tree
 
-pub returns-in-Ok-link-clause-only : goal.returns-in-Ok-link-clause-only
-returns-in-Ok-link-clause-only g c =
-    subst (λ (t : Cell). AddNamesOf c.args.runner.now.entries c.link.new.runner.entries (plain_cell t).procedures) (sym c.into_cell.ensures)
-    c.in-Ok-link.ensures.only
+pub returns-in-Err-clause-few : goal.returns-in-Err-clause-few
+returns-in-Err-clause-few g c = λ shown is sound. c.list_and_keep.ensures.few shown is sound c.args.text.now c.in_ok-cell.ensures.tree
 
-pub returns-in-Ok-link-clause-last : goal.returns-in-Ok-link-clause-last
-returns-in-Ok-link-clause-last g c =
-    c.in-Ok-link.ensures.last ∙ ap (λ (t : Cell). c.in-Ok-link.first + length (plain_cell t).procedures) (sym c.into_cell.ensures)
+pub returns-in-Err-clause-no_names : goal.returns-in-Err-clause-no_names
+returns-in-Err-clause-no_names g c =
+    c.truncate.ensures.names
+    ∙ taken_back c.args.runner.now.entries c.list_and_keep.new.runner.entries c.len-first_name.result c.len-first_name.ensures c.list_and_keep.ensures.entries
 
-pub returns-in_err-checked-clause-refuses : goal.returns-in_err-checked-clause-refuses
-returns-in_err-checked-clause-refuses g c =
-    let w : World = world_of (in_a_row c.args.procedures.now) c.args.runner.now in
-    let known : IsKnownOf c.in-Ok.env w = record { names = c.in-Ok.ensures.names; heads = c.in-Ok.ensures.heads } in
-    let told : Refuses w c.args.text.now c.in_err-checked.field-0.0 = c.in_err-checked.ensures.refuses w known in
+pub returns-in-Err-clause-entries : goal.returns-in-Err-clause-entries
+returns-in-Err-clause-entries g c =
+    same_more c.args.runner.now.entries c.truncate.new.self
+    (c.truncate.ensures.names
+    ∙ taken_back c.args.runner.now.entries c.list_and_keep.new.runner.entries c.len-first_name.result c.len-first_name.ensures c.list_and_keep.ensures.entries)
+
+pub returns-in-Err-clause-shown : goal.returns-in-Err-clause-shown
+returns-in-Err-clause-shown g c = λ shown sound h.
+    let now = c.list_and_keep.ensures.shown shown sound h in (
+      shows_unlisted c.args.runner.now c.list_and_keep.new.runner c.truncate.new.self shown c.list_and_keep.ensures.entries
+          (c.truncate.ensures.names
+          ∙ taken_back c.args.runner.now.entries c.list_and_keep.new.runner.entries c.len-first_name.result c.len-first_name.ensures
+          c.list_and_keep.ensures.entries)
+          sound h now.0,
+      now.1,
+    )
+
+pub returns-in_err-cell-clause-refuses : goal.returns-in_err-cell-clause-refuses
+returns-in_err-cell-clause-refuses g c = λ shown is sound.
+    let told : Refuses shown.world c.args.text.now c.in_err-cell.field-0.0 = c.in_err-cell.ensures.refuses shown.world in
     search (rules, told)
 
--- few places are left, whether it is linked or refused
-
-pub returns-in-Ok-link-clause-few : goal.returns-in-Ok-link-clause-few
-returns-in-Ok-link-clause-few g c =
-    let w : World = world_of (in_a_row c.args.procedures.now) c.args.runner.now in
-    let known : IsKnownOf c.in-Ok.env w = record { names = c.in-Ok.ensures.names; heads = c.in-Ok.ensures.heads } in
-    let cell : Cell = cell_in c.in_ok-checked.checked in
-    ((plain_cell cell).procedures, inr (plain_cell cell, c.in_ok-checked.ensures.accepts w known, refl), c.link.ensures.few)
-
-pub returns-clause-few : goal.returns-clause-few
-returns-clause-few g c =
-    let w : World = world_of (in_a_row c.args.procedures.now) c.args.runner.now in
-    let known : IsKnownOf c.in-Ok.env w = record { names = c.in-Ok.ensures.names; heads = c.in-Ok.ensures.heads } in
-    let cell : Cell = cell_in c.in_ok-checked.checked in
-    ((plain_cell cell).procedures, inr (plain_cell cell, c.in_ok-checked.ensures.accepts w known, refl), c.link.ensures.few)
-
-pub returns-in_err-checked-clause-few : goal.returns-in_err-checked-clause-few
-returns-in_err-checked-clause-few g c = ([], inl refl, λ n places more. places)
-
-pub returns-in_default-clause-few : goal.returns-in_default-clause-few
-returns-in_default-clause-few g c = ([], inl refl, λ n places more. places)
+pub returns-in_err-cell-clause-few : goal.returns-in_err-cell-clause-few
+returns-in_err-cell-clause-few g c = λ shown is sound. ([], inl refl, λ n places more. places)
