@@ -1,4 +1,6 @@
 -- The procedures in effect, by the numbers of their names, are those that a world has under these names: each tells the kinds of its parameters.
+use Rattle.std.proofs.Common.{◌<◌, ◌≤◌, length, drop}
+use Rattle.janus_check.specs.declared.env.Kind.{Kind}
 use Rattle.std.proofs.Common.{◌≡◌, ◌+◌, ℕ, zero, suc, Bool, true, false, List, [], ◌∷◌, Option, Some, None, refl, ap, ◌∙◌, sym, subst, arith, ◌⊎◌, inl, inr}
 use Rattle.std.proofs.lemmas.Option.{slice_get_past}
 use Rattle.janus_meaning.specs.Syntax as tree
@@ -189,3 +191,38 @@ module _ (t : Procedures) where
       by : (f : Name) → IsMet es f ⊎ IsUnmet es f → head_at f (heads_in (in_effect_from t 0 es)) ≡ head_at f (heads_of ps)
       by f (inl m) = head_in_effect es f m.0 one m.1 ∙ head_by_number t stack ps es f m.0 listed defined one m.1
       by f (inr u) = no_head_in_effect es f u ∙ sym (unlisted es f ps listed u)
+
+-- ---- how many are in effect
+
+-- no more than there are names
+pub in_effect_few : (t : Procedures) (k : ℕ) (es : List Name) → length (in_effect_from t k es) ≤ length es
+in_effect_few t k [] = omega arith
+in_effect_few t k (x ∷ es) = by (body_at t k) (in_effect_few t (suc k) es)
+  where
+    by : (o : Option LinkedProcedure) → length (in_effect_from t (suc k) es) ≤ length es →
+        length (with_kinds x o (in_effect_from t (suc k) es)) ≤ length (x ∷ es)
+    by None h = omega (arith, h)
+    by (Some b) h = omega (arith, h)
+
+-- those from a number on are one more than those behind it, where a body is in effect there
+abbrev pub one_if : Option LinkedProcedure → ℕ
+one_if None = 0
+one_if (Some b) = 1
+
+pub in_effect_step : (t : Procedures) (es : List Name) (i : ℕ) → i < length es →
+    length (in_effect_from t i (drop i es)) ≡ one_if (body_at t i) + length (in_effect_from t (suc i) (drop (suc i) es))
+in_effect_step t es i l =
+    subst (λ (n : ℕ). length (in_effect_from t n (drop i es)) ≡ one_if (body_at t n) + length (in_effect_from t (suc n) (drop (suc i) es)))
+    (let e : 0 + i ≡ i = omega arith in e) (step 0 es i l)
+  where
+    count : (x : Name) (o : Option LinkedProcedure) (rest : List (Name × List Kind)) → length (with_kinds x o rest) ≡ one_if o + length rest
+    count x None rest = omega arith
+    count x (Some b) rest = omega arith
+
+    step : (k : ℕ) (fs : List Name) (i : ℕ) → i < length fs →
+        length (in_effect_from t (k + i) (drop i fs)) ≡ one_if (body_at t (k + i)) + length (in_effect_from t (suc (k + i)) (drop (suc i) fs))
+    step k [] i l = absurd (omega arith)
+    step k (x ∷ fs) zero l = count x (body_at t (k + 0)) (in_effect_from t (suc (k + 0)) fs)
+    step k (x ∷ fs) (suc i) l =
+        subst (λ (n : ℕ). length (in_effect_from t n (drop i fs)) ≡ one_if (body_at t n) + length (in_effect_from t (suc n) (drop (suc i) fs)))
+        (let e : suc k + i ≡ k + suc i = omega arith in e) (step (suc k) fs i (omega arith))
