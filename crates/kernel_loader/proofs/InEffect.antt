@@ -5,9 +5,9 @@ use Rattle.std.proofs.Common.{◌≡◌, ◌+◌, ℕ, zero, suc, Bool, true, fa
 use Rattle.std.proofs.lemmas.Option.{slice_get_past}
 use Rattle.janus_meaning.specs.Syntax as tree
 use Rattle.janus_meaning.specs.Syntax.{Name, Proc}
-use Rattle.janus_meaning.specs.Fault.{Res, Fine, Bad, Broken}
+use Rattle.janus_meaning.specs.Fault.{Res, Fine, Bad}
 use Rattle.janus_meaning.specs.Store.{same_name, pick, find}
-use Rattle.janus_meaning.specs.Shape.{Heads, at_name, head_at, heads_of, kinds_in, pick_newest}
+use Rattle.janus_meaning.specs.Shape.{Heads, head_at, heads_of, kinds_in, pick_newest}
 use Rattle.janus_meaning.proofs.Stores.{same_name_true, same_name_self}
 use Rattle.janus_names.specs.Numbers.{IsNumbered, IsMet, IsUnmet, HaveOneNumber}
 use Rattle.janus_slots.specs.Slots.{slot, stacked, procedure_in, procedures_in}

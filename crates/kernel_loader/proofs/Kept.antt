@@ -1,7 +1,7 @@
 -- The body that is kept of a procedure stands for it, with slots in place of names.
 use Rattle.std.proofs.Common.{◌≡◌, ◌+◌, ◌<◌, ◌≤◌, Bool, true, false, cond, ℕ, zero, suc, List, [], ◌∷◌, ◌++◌, length, get_or, map, take, refl, sym, ap, ◌∙◌, subst, arith}
-use Rattle.std.specs.Prelude.{slice_get, Some, None, Contains, Result, Ok, Err, IfOk}
-use Rattle.std.proofs.lemmas.Option.{slice_get_past}
+use Rattle.std.specs.Prelude.{slice_get, Some, Contains, Result, Ok, Err, IfOk}
+use Rattle.std.proofs.lemmas.Option.{slice_get_within, same_Some}
 use Rattle.kernel_loader.specs.Keeping.{HaveNumbersBelow}
 use Rattle.std.proofs.lemmas.List.{length-map, map-append}
 use Rattle.kernel_runner.proofs.BodiesInEffect.{bodies_from_before, bodies_from_more}
@@ -109,6 +109,11 @@ last_one : (xs : List LinkedProcedure) (b : LinkedProcedure) → slice_get (xs +
 last_one [] b = refl
 last_one (x ∷ xs) b = last_one xs b
 
+pub take_before : (n : ℕ) (xs : List LinkedProcedure) (b : LinkedProcedure) → n ≤ length xs → take n (xs ++ b ∷ []) ≡ take n xs
+take_before zero xs b l = refl
+take_before (suc n) [] b l = absurd (omega arith)
+take_before (suc n) (x ∷ xs) b l = ap (λ ys. x ∷ ys) (take_before n xs b (omega arith))
+
 pub one_longer : (xs : List LinkedProcedure) (b : LinkedProcedure) → length (xs ++ b ∷ []) ≡ suc (length xs)
 one_longer [] b = refl
 one_longer (x ∷ xs) b = ap suc (one_longer xs b)
@@ -142,8 +147,8 @@ pub below_more : (n : ℕ) (all new : List LinkedProcedure) (b : LinkedProcedure
 below_more n all new b made h l = subst (λ bs. HaveNumbersBelow n bs) (sym made) (more all h)
   where
     more : (xs : List LinkedProcedure) → HaveNumbersBelow n xs → HaveNumbersBelow n (xs ++ b ∷ [])
-    more [] h zero y e = let same : b ≡ y = cc in subst (λ (c : LinkedProcedure). c.name < n) same l
-    more [] h (suc i) y e = let bad : None ≡ Some y = sym (slice_get_past {A = LinkedProcedure} [] i (omega arith)) ∙ e in cc
+    more [] h zero y e = subst (λ (c : LinkedProcedure). c.name < n) (same_Some b y e) l
+    more [] h (suc i) y e = absurd (let r = slice_get_within {A = LinkedProcedure} [] i y e in omega arith)
     more (x ∷ xs) h zero y e = h 0 y e
     more (x ∷ xs) h (suc i) y e = more xs (λ j z f. h (suc j) z f) i y e
 

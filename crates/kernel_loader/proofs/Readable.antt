@@ -1,5 +1,5 @@
 -- What the tables of a runner tell between two cells is known of the world that it shows.
-use Rattle.std.proofs.Common.{◌≡◌, ◌≤◌, sym, ap, ◌∙◌, subst}
+use Rattle.std.proofs.Common.{◌≤◌, sym, ap, ◌∙◌, subst}
 use Rattle.janus_meaning.specs.Store.{Store}
 use Rattle.janus_meaning.specs.Shape.{shape_of}
 use Rattle.janus_meaning.specs.FormedWorld.{HaveValues}

@@ -6,11 +6,11 @@ use Rattle.std.proofs.lemmas.List.{reverse-append}
 use Rattle.std.proofs.lemmas.Option.{slice_get_past}
 use Rattle.janus_meaning.specs.Syntax as tree
 use Rattle.janus_meaning.specs.Syntax.{Name, names_of}
-use Rattle.janus_meaning.specs.Fault.{Res, Fine, Bad, Broken}
+use Rattle.janus_meaning.specs.Fault.{Res, Fine, Bad}
 use Rattle.janus_meaning.specs.Store.{Val, Num, Arr, Stk, Lent, Store, Bare, Slot, same_name, look_at, look}
 use Rattle.janus_meaning.specs.Shape.{Shape, kind_at, pick_newest, shape_of, stack_count}
 use Rattle.janus_meaning.specs.FormedWorld.{HaveValues}
-use Rattle.janus_meaning.specs.World.{size_of, stacks_in}
+use Rattle.janus_meaning.specs.World.{stacks_in}
 use Rattle.janus_meaning.proofs.Stores.{same_name_true, same_name_self}
 use Rattle.janus_names.specs.Numbers.{IsNumbered, IsUnmet, HaveOneNumber}
 use Rattle.janus_slots.specs.Slots.{slot, slot_in, names_in}

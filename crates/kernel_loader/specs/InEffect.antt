@@ -1,5 +1,5 @@
 -- The procedures in effect, each under the name of its number and with the kinds of its parameters.
-use Rattle.std.specs.Prelude.{ℕ, zero, suc, List, [], ◌∷◌, Option, Some, None}
+use Rattle.std.specs.Prelude.{ℕ, suc, List, [], ◌∷◌, Option, Some, None}
 use Rattle.janus_meaning.specs.Syntax as tree
 use Rattle.janus_meaning.specs.Syntax.{Name}
 use Rattle.janus_check.specs.Names.{meant_kinds}

@@ -67,7 +67,9 @@ pub fn keep_all(bodies: Vec<LinkedProcedure>, kept: &mut Procedures) -> Result<(
     ensures defined { KeepsDefined kept.old kept.new }
     ensures few { (n : ℕ) → places_in kept.old ≤ n → HaveNumbersBelow n bodies.items → places_in kept.new ≤ n }
 {
-    for body in bodies {
+    let mut rest = bodies;
+    rest.reverse();
+    while let Some(body) = rest.pop() {
         let _index = kept.add(body)?;
     }
     Ok(())

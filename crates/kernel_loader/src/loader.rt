@@ -115,7 +115,10 @@ fn list_and_keep<L: Ledger>(
     let Ok(()) = list_all(&mut runner.entries, &cell.procedures) else {
         return Err(Refusal::Memory);
     };
-    let made = make(alloc, cell, runner)?;
+    let made = match make(alloc, cell, runner) {
+        Ok(made) => made,
+        Err(refusal) => return Err(refusal),
+    };
     let first = runner.procedures.len();
     let Ok(()) = keep_all(made.bodies, &mut runner.procedures) else {
         runner.procedures.forget(first);
@@ -144,7 +147,10 @@ fn make<L: Ledger>(alloc: Global, cell: Cell, runner: &Runner<L>) -> Result<Made
 {
     runner.entries.one_number_law();
     let tables = Tables::new(&runner.counted.store, &runner.entries, &runner.procedures);
-    let checked = checked(alloc, &tables, cell)?;
+    let checked = match checked(alloc, &tables, cell) {
+        Ok(checked) => checked,
+        Err(refusal) => return Err(refusal),
+    };
     let Ok((book, bodies)) = link(alloc, &checked, runner) else {
         return Err(Refusal::Memory);
     };

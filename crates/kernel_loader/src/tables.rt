@@ -56,7 +56,9 @@ impl<'a, L: Ledger> SymbolTable for Tables<'a, L> {
 
     fn place(&self, name: &str) -> Option<usize> {
         self.store.slots_law();
-        self.store.texts().number(name)
+        let texts = self.store.texts();
+        texts.few_law();
+        texts.number(name)
     }
 
     fn head(&self, name: &str) -> Option<&[Kind]> {
@@ -96,7 +98,7 @@ fn count_in_effect(entries: &Names, procedures: &Procedures) -> usize
     entries.few_law();
     let mut count = 0;
     for number in 0..entries.len() {
-        if procedures.body(number).is_some() {
+        if let Some(_body) = procedures.body(number) {
             count += 1;
         }
     }

@@ -1,4 +1,4 @@
-use Rattle.std.proofs.Common.{◌≡◌, ◌+◌, ◌++◌, List, length, length-append, map, ap, ◌∙◌, sym, subst, arith}
+use Rattle.std.proofs.Common.{◌≡◌, ◌+◌, List, length, length-append, map, ap, ◌∙◌, sym, subst, arith}
 use Rattle.janus_meaning.specs.Syntax.{Name, Proc, names_of}
 use Rattle.janus_meaning.specs.Formed.{IsBlk, AreProcs}
 use Rattle.janus_slots.specs.Slots.{block_in, procedures_in}
@@ -62,3 +62,9 @@ returns-clause-count g c =
     c.in_ok-bodies.ensures.count
     ∙ counted c.deref.result.now (plain_cell (cell_in c.args.checked.now)).procedures
     (ap (λ l. map plain_procedure (procedures_view l)) c.deref.ensures.value ∙ ap (λ (t : tree.Cell). (plain_cell t).procedures) c.cell.ensures)
+
+pub book_of-requires : goal.book_of-requires
+book_of-requires g c =
+    let known = c.requires.known in
+    let es = c.args.runner.now.entries in
+    record { entries = entries_here c.args.runner.now c.args.checked.now known.0 es known.1 (no_more es) c.requires.listed }

@@ -1,4 +1,4 @@
-use Rattle.std.proofs.Common.{◌≡◌, ◌+◌, ℕ, [], List, length, rules, refl, sym, ap, ◌∙◌, subst, inl, inr}
+use Rattle.std.proofs.Common.{◌+◌, [], length, rules, refl, sym, ap, ◌∙◌, subst, inl}
 use Rattle.janus_meaning.specs.World as world
 use Rattle.janus_meaning.specs.World.{declare}
 use Rattle.janus_slots.specs.Slots.{names_in}
@@ -6,7 +6,7 @@ use Rattle.janus_slots.specs.Law.{AreListed}
 use Rattle.kernel_machine.specs.Text.{Refuses}
 use Rattle.kernel_runner.specs.StoreState.{shown_store}
 use Rattle.kernel_runner.specs.Program.{IsReady}
-use Rattle.kernel_loader.specs.Loading.{AddNamesOf}
+use Rattle.kernel_loader.specs.Loading.{OfEachShown, AddNamesOf}
 use Rattle.kernel_runner.proofs.Growing.{same_more}
 use Rattle.kernel_loader.proofs.Unlisted.{taken_back, shows_unlisted}
 use Rattle.kernel_loader.proofs.loader.load.Goals as goal
@@ -64,8 +64,9 @@ returns-in-Err-clause-shown g c = λ shown sound h.
     )
 
 pub returns-in_err-cell-clause-refuses : goal.returns-in_err-cell-clause-refuses
-returns-in_err-cell-clause-refuses g c = λ shown is sound.
-    let told : Refuses shown.world c.args.text.now c.in_err-cell.field-0.0 = c.in_err-cell.ensures.refuses shown.world in
+returns-in_err-cell-clause-refuses g c =
+    let told : OfEachShown c.args.runner.now (λ w. Refuses w c.args.text.now c.in_err-cell.field-0.0) =
+    λ shown is sound. c.in_err-cell.ensures.refuses shown.world in
     search (rules, told)
 
 pub returns-in_err-cell-clause-few : goal.returns-in_err-cell-clause-few

@@ -4,6 +4,8 @@ use Rattle.janus_meaning.proofs.Worlds.{oldest_whole}
 use Rattle.janus_slots.specs.Slots.{in_slots}
 use Rattle.janus_slots.proofs.Whole.{stacks_same}
 use Rattle.kernel_runner.specs.StoreState.{StoreState, IsWhole, shown_store, declared_store, live_stacks}
+use Rattle.janus_meaning.specs.Shape.{stack_count}
+use Rattle.janus_check.specs.Names.{Known, shape_in}
 use Rattle.kernel_loader.proofs.Tabled.{stacks_entered}
 use Rattle.kernel_loader.proofs.tables.TablesSymbolTable.stacks.Goals as goal
 
@@ -18,10 +20,11 @@ stacks_live h whole slotted =
 
 pub returns-clause-count : goal.returns-clause-count
 returns-clause-count g c =
-    let h = c.args.self.now.store.now in
-    let live = stacks_live h c.args.self.now.whole c.slots_law.ensures.slotted in
-    let told = stacks_entered (shown_store h) c.args.self.now.values in
-    omega (arith, live, told, c.stacks_left.ensures)
+    let h = c.self.inside.store.now in
+    let live = stacks_live h c.self.invariant.whole c.slots_law.ensures.slotted in
+    let told = stacks_entered (shown_store h) c.self.invariant.values in
+    let known = ap (λ (k : Known). stack_count (shape_in k.names)) c.self.view_is in
+    omega (arith, live, told, known, c.stacks_left.ensures)
 
 pub returns-clause-small : goal.returns-clause-small
 returns-clause-small g c = omega arith
