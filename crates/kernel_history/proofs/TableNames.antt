@@ -1,14 +1,12 @@
 -- That no other names stand in the table of procedures' names than those of the nodes and of an open posted cell.
-use Rattle.std.proofs.Common.{inl, inr, ◌≡◌, ℕ, ◌<◌, ◌≤◌, ◌++◌, List, [], ◌∷◌, length, take, suc, zero, Some, sym, ap, ◌∙◌, subst, arith}
-use Rattle.std.specs.Prelude.{slice_get, ◌+◌, ◌-◌}
+use Rattle.std.proofs.Common.{inl, inr, ◌≡◌, ℕ, ◌<◌, ◌++◌, List, [], ◌∷◌, length, take, suc, zero, sym, ap, ◌∙◌, subst, arith}
+use Rattle.std.specs.Prelude.{◌+◌}
 use Rattle.std.proofs.lemmas.Bool.{cases_lt}
 use Rattle.cell_tree.specs.declared.node.Node.{Node}
-use Rattle.cell_tree.specs.Tree.{contents_of}
 use Rattle.janus_meaning.specs.Syntax.{Name}
 use Rattle.janus_names.specs.Numbers.{IsNumbered, GoOn}
 use Rattle.kernel_loader.specs.program.Program.{Program}
-use Rattle.kernel_history.specs.Bodies.{IsCellAt}
-use Rattle.kernel_history.specs.TableNames.{Names, AreOfNodes, AreItsOwn, ListsNoOtherFor}
+use Rattle.kernel_history.specs.TableNames.{AreOfNodes, AreItsOwn, ListsNoOtherFor}
 use Rattle.kernel_history.specs.declared.tree.EndedCell.{EndedCell}
 use Rattle.kernel_history.specs.declared.tree.HistoryTree.{HistoryTree}
 use Rattle.kernel_history.specs.declared.job.Work.{Work}

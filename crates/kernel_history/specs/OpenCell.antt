@@ -1,5 +1,5 @@
 -- What is taken out of a history: the runner stands in the open cell, where the machine of contracts says that it is.
-use Rattle.std.specs.Prelude.{◌≡◌, ℕ, false}
+use Rattle.std.specs.Prelude.{◌≡◌, false}
 use Rattle.kernel_machine.specs.Language.{Forward}
 use Rattle.kernel_machine.specs.State as state
 use Rattle.kernel_machine.specs.State.{State, here}

@@ -1,14 +1,18 @@
-use Rattle.std.proofs.Common.{◌≡◌, ◌≤◌, ℕ, List, Result, Ok, Err, IfOk, IfErr, ap, ◌∙◌, subst}
+use Rattle.std.proofs.Common.{◌≤◌, ℕ, Result, Ok, Err, IfOk, IfErr, ap, subst}
 use Rattle.janus_meaning.specs.Store.{Store}
 use Rattle.janus_meaning.specs.World.{declare}
 use Rattle.kernel_machine.specs.State.{here}
 use Rattle.janus_slots.specs.Slots.{names_in}
 use Rattle.kernel_loader.specs.StoreState.{StoreState}
-use Rattle.kernel_loader.specs.Program.{IsReady, cell_of_program, declarations_of}
+use Rattle.kernel_loader.specs.Program.{IsReady, declarations_of}
 use Rattle.kernel_loader.specs.Runner.{over}
 use Rattle.kernel_history.specs.Fields.{past_of}
 use Rattle.kernel_history.proofs.Standing.{if_ok_map, here_sound}
 use Rattle.kernel_history.proofs.history.prepare.Goals as goal
+
+if_err_map : {A E : Type 0} {P Q : E → Type 0} (r : Result A E) → ((x : E) → P x → Q x) → IfErr r P → IfErr r Q
+if_err_map (Ok x) f h = tt
+if_err_map (Err e) f h = f e h
 
 pub load-requires : goal.load-requires
 load-requires g c = (over c.requires.is.0 (here (past_of c.args._tree.now)), c.requires.is.1, here_sound c.args._tree.now c.requires.legal)
@@ -37,10 +41,6 @@ returns-clause-ready g c =
 
 pub returns-clause-counts : goal.returns-clause-counts
 returns-clause-counts g c = record { writes = ap (λ (h : StoreState). h.writes) c.load.ensures.kept; steps = c.load.ensures.steps }
-
-if_err_map : {A E : Type 0} {P Q : E → Type 0} (r : Result A E) → ((x : E) → P x → Q x) → IfErr r P → IfErr r Q
-if_err_map (Ok x) f h = tt
-if_err_map (Err e) f h = f e h
 
 if_ok_both : {A E : Type 0} {P Q R : A → Type 0} (r : Result A E) → ((x : A) → P x → Q x → R x) → IfOk r P → IfOk r Q → IfOk r R
 if_ok_both (Ok x) f p q = f x p q
