@@ -68,7 +68,6 @@ impl<L: Ledger> Walk<L> {
     }
 
     /// Where the walk stands, and what stands there in the text.
-    #[tactic(auto, using(crate::proofs::Standing::tells))]
     pub fn stand(&self) -> Option<(Level, Spot)>
         ensures { IfSome result (TellsPlace self.now) }
     {

@@ -134,7 +134,6 @@ impl<L: Ledger> Walk<L> {
     }
 
     /// What is to be kept of the body in effect of the name of a number; the only error is want of memory.
-    #[tactic(auto, using(crate::proofs::Meeting::made))]
     fn made_body(&self, alloc: Global, number: usize) -> Result<Option<Body>, AllocError>
         requires { IsWalking self.now }
         ensures { IfOk result (λ made. IfSome made (IsMet (runner_of self.now).entries (program_of self.now) (tree_of self.now))) }
