@@ -143,7 +143,7 @@ fn add_parameters<'a>(all: &mut Vec<&'a str>, names: &'a [String]) -> Result<(),
 
 impl<L: Ledger> Walk<L> {
     ghost use Rattle.steps_walk.specs.Walk.{slots_in};
-    ghost use Rattle.steps_walk.specs.Sights.{IsSightAt, base_at};
+    ghost use Rattle.steps_walk.specs.Sights.{IsSightAt, base_of, base_at};
 
     /// The names in sight at the innermost level.
     pub fn sight(&self, level: &Level) -> Option<Sight<'_>>

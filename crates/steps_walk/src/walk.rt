@@ -92,7 +92,7 @@ impl<L: Ledger> Walk<L> {
     }
 
     /// Meets the bodies in which the open calls run, the innermost among them; an error for want of memory, after which some of them are met.
-    #[tactic(auto, using(crate::proofs::Moving::met_none, crate::proofs::Moving::met_both))]
+    #[tactic(auto, using(crate::proofs::Moving::met_none))]
     pub fn meet_calls(&mut self, alloc: Global) -> Result<(), AllocError>
         requires { IsWalking self.old }
         ensures { KeepsMet self.old self.new }
@@ -119,7 +119,7 @@ impl<L: Ledger> Walk<L> {
     }
 
     /// Meets the body in effect of the name of a number; an error for want of memory.
-    #[tactic(auto, using(crate::proofs::Moving::met_none, crate::proofs::Meeting::met_pushed, crate::proofs::Meeting::met_kept))]
+    #[tactic(auto, using(crate::proofs::Moving::met_none))]
     fn meet(&mut self, alloc: Global, number: usize) -> Result<(), AllocError>
         requires { IsWalking self.old }
         ensures { KeepsMet self.old self.new }

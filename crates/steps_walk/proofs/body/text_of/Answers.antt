@@ -33,5 +33,5 @@ loop-at-preserved c =
     let low = c.parent-at.ensures.before some in (
       omega (arith, low, known),
       none_there c.args.program.now tree c.args.name.now c.requires n c.content.result.now some known (some, c.content.ensures) c.parent-at.result
-      (c.parent-at.ensures.parent ∙ sym (parent_there tree n)) c.loop-at.invariant.1 (rw c.deref-in-loop-at.ensures.value at c.in_default-newest.ensures.none),
+          (c.parent-at.ensures.parent ∙ sym (parent_there tree n)) c.loop-at.invariant.1 (rw c.deref-in-loop-at.ensures.value at c.in_default-newest.ensures.none),
     )

@@ -18,7 +18,7 @@ loop-i-preserved c =
     differ (sym (sym c.eq.ensures ∙ c.if-eq.false) ∙ (bytes_eq-Decides c.as_str.result.now c.args.name.now).1 (sym (sym e ∙ sym c.as_str.ensures.value))) in (
       omega (arith, within),
       subst (SameFrom string_bytes c.args.names.now c.args.name.now) (sym (add-one c.loop-i.i))
-      (not_first string_bytes c.args.names.now c.args.name.now c.loop-i.i p within (sym c.index-names-i.is) c.loop-i.invariant.1 other),
+          (not_first string_bytes c.args.names.now c.args.name.now c.loop-i.i p within (sym c.index-names-i.is) c.loop-i.invariant.1 other),
     )
   where
     differ : false ≡ true → ⊥
