@@ -1,7 +1,7 @@
 -- The locals that are open at a place: how many, and which slot a name has among them.
-use Rattle.std.proofs.Common.{◌≡◌, ℕ, zero, suc, ◌+◌, ◌-◌, ◌<◌, ◌≤◌, List, [], ◌∷◌, length, get_or, Bool, true, false, cond, refl, ap, ◌∙◌, sym, subst, arith}
+use Rattle.std.proofs.Common.{◌≡◌, ℕ, zero, suc, ◌+◌, ◌-◌, ◌<◌, List, [], ◌∷◌, length, get_or, Bool, true, false, cond, refl, ap, ◌∙◌, sym, subst, arith}
 use Rattle.std.proofs.Common.{nat_lt}
-use Rattle.std.specs.Prelude.{slice_get, Option, Some, None, string_bytes}
+use Rattle.std.specs.Prelude.{Some, string_bytes}
 use Rattle.std.proofs.lemmas.Option.{slice_get-get_or, slice_get_within, get_or_from_slice_get}
 use Rattle.std.proofs.lemmas.Bool.{lt-ltb}
 use Rattle.janus_meaning.specs.Syntax.{Name}

@@ -1,5 +1,5 @@
 -- The table of the spots of a block, as it is kept.
-use Rattle.std.specs.Prelude.{◌≡◌, ℕ, zero, suc, ◌≤◌, List, [], ◌∷◌, ◌++◌, length, slice_get, Option, None, Some, string_bytes}
+use Rattle.std.specs.Prelude.{◌≡◌, ℕ, zero, suc, List, [], ◌∷◌, ◌++◌, length, slice_get, Option, None, Some, string_bytes}
 use Rattle.janus_meaning.specs.Syntax.{Name}
 use Rattle.janus_slots.specs.Slots.{slot, no_slot}
 use Rattle.janus_syntax.specs.Tree.{Block}

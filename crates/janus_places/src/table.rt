@@ -124,20 +124,12 @@ impl Table {
         Ok(names)
     }
 
-    /// How many locals are open at a place.
-    pub fn locals_len(&self, at: usize) -> usize
-        requires { at < places_in self.now }
-        ensures many { (xs : List TheName) → AreOpenIn self.now at xs → result ≡ length xs }
-        // Those are the locals that are open there in the text.
-        ensures text { (es g : List TheName) (b : Block) → IsTableOf self.now b → HasLocals self.now es g b at }
-    {
-        self.count(self.rows[at].locals)
-    }
-
     /// How many locals that are open at a place stand below the newest of a name; none where no open local has it.
     pub fn local(&self, at: usize, name: &str) -> Option<usize>
         requires { at < places_in self.now }
-        ensures { (xs : List TheName) → AreOpenIn self.now at xs → slot_of result ≡ slot_in xs name.now }
+        ensures slot { (xs : List TheName) → AreOpenIn self.now at xs → slot_of result ≡ slot_in xs name.now }
+        // Those are the locals that are open there in the text.
+        ensures text { (es g : List TheName) (b : Block) → IsTableOf self.now b → HasLocals self.now es g b at }
     {
         self.find(self.rows[at].locals, name)
     }

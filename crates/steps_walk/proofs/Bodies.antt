@@ -5,10 +5,9 @@ use Rattle.std.specs.Prelude.{Contains, Some, None, string_bytes}
 use Rattle.std.proofs.lemmas.List.Elements.{Contains-get_or}
 use Rattle.std.proofs.lemmas.List.{map-append, append_assoc, append-nil, drop_all}
 use Rattle.std.proofs.Math.Seq.{take-length, drop-cons}
-use Rattle.janus_meaning.specs.Fault.{Fine}
 use Rattle.janus_meaning.specs.Syntax.{Name, Proc, names_of}
 use Rattle.janus_meaning.specs.Store.{find, pick, same_name}
-use Rattle.janus_meaning.specs.World.{Cell, World, define}
+use Rattle.janus_meaning.specs.World.{Cell, define}
 use Rattle.janus_meaning.proofs.Stores.{same_name_self, same_name_true}
 use Rattle.janus_syntax.specs.Tree.{parameter_view, parameters_view, procedure_view, procedures_view}
 use Rattle.janus_syntax.specs.View.{plain_parameter, plain_procedure}
@@ -21,9 +20,9 @@ use Rattle.kernel_history.specs.Fields.{past_of}
 use Rattle.kernel_history.specs.Bodies.{IsCellAt}
 use Rattle.kernel_history.specs.declared.tree.EndedCell.{EndedCell}
 use Rattle.kernel_history.specs.declared.tree.HistoryTree.{HistoryTree}
-use Rattle.kernel_history.proofs.Nodes.{cell_there, parent_there, count_of_nodes}
+use Rattle.kernel_history.proofs.Nodes.{cell_there, count_of_nodes}
 use Rattle.kernel_history.proofs.Rows.{over, climbed}
-use Rattle.steps_walk.specs.Bodies.{plain, IsNewest, IsTextOf, IsDefinedIn, procedures_over}
+use Rattle.steps_walk.specs.Bodies.{plain, IsNewest, IsTextOf, procedures_over}
 
 -- procedures of a text as those of the meaning
 abbrev pub plains : List Procedure → List Proc

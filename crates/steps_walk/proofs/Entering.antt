@@ -1,6 +1,6 @@
 -- An open cell that was taken out of a history.
-use Rattle.std.proofs.Common.{◌≡◌, ap, ◌∙◌, sym, subst}
-use Rattle.kernel_machine.specs.State.{State, Past, here}
+use Rattle.std.proofs.Common.{ap, ◌∙◌, sym, subst}
+use Rattle.kernel_machine.specs.State.{State, here}
 use Rattle.kernel_machine.specs.Legal.{IsLegal}
 use Rattle.kernel_history.specs.OpenCell.{IsOpenCell}
 use Rattle.kernel_history.specs.declared.open_cell.OpenCell.{OpenCell}

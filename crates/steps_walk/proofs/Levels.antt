@@ -1,8 +1,7 @@
 -- The codes and the places of levels.
-use Rattle.std.proofs.Common.{◌≡◌, ℕ, zero, suc, ◌-◌, ◌<◌, List, length, get_or, reverse, refl, ap, ◌∙◌, sym, subst, arith}
-use Rattle.std.specs.Prelude.{slice_get, Option, Some, None}
+use Rattle.std.proofs.Common.{◌≡◌, ℕ, zero, suc, ◌-◌, ◌<◌, length, get_or, reverse, refl, ap, ◌∙◌, sym, subst, arith}
+use Rattle.std.specs.Prelude.{slice_get, Some, None}
 use Rattle.std.proofs.lemmas.Option.{slice_get-get_or}
-use Rattle.janus_machine.specs.declared.cursor.Call.{Call}
 use Rattle.janus_machine.specs.declared.whereabouts.OpenCall.{OpenCall}
 use Rattle.janus_machine.specs.Cursor.{direction_of, calls_of}
 use Rattle.janus_machine.specs.Whereabouts.{IsCallOf, IsWrittenAt, faces_inverse}

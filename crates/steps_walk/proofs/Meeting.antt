@@ -10,7 +10,7 @@ use Rattle.kernel_history.specs.declared.tree.HistoryTree.{HistoryTree}
 use Rattle.steps_walk.specs.declared.body.Body.{Body}
 use Rattle.steps_walk.specs.declared.walk.Walk.{Walk}
 use Rattle.steps_walk.specs.Bodies.{IsMet, IsTextOf, IsBodyOf}
-use Rattle.steps_walk.specs.Walk.{runner_of, program_of, tree_of, bodies_of, HasMet, IsWalking, KeepsMet}
+use Rattle.steps_walk.specs.Walk.{runner_of, program_of, tree_of, bodies_of, IsWalking, KeepsMet}
 use Rattle.steps_walk.proofs.Moving.{met_more}
 
 -- what was made of a text

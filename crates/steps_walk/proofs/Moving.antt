@@ -12,14 +12,14 @@ use Rattle.kernel_machine.specs.Legal.{IsLegal}
 use Rattle.kernel_runner.specs.Program.{cell_of_program}
 use Rattle.kernel_runner.specs.declared.program.Program.{Program}
 use Rattle.kernel_runner.specs.declared.runner.Runner.{Runner}
-use Rattle.kernel_runner.specs.Runner.{Place, Is, Inside, Runs, at_count, count_after}
+use Rattle.kernel_runner.specs.Runner.{Is, Inside, Runs, at_count, count_after}
 use Rattle.kernel_history.specs.Fields.{past_of}
 use Rattle.kernel_history.specs.declared.tree.HistoryTree.{HistoryTree}
 use Rattle.steps_walk.specs.declared.walk.Walk.{Walk}
 use Rattle.steps_walk.specs.Bodies.{IsMet}
 use Rattle.steps_walk.specs.Where.{text_block}
 use Rattle.steps_walk.specs.Walking.{StepsBack}
-use Rattle.steps_walk.specs.Walk.{runner_of, program_of, tree_of, block_of, bodies_of, IsWalking, Moves, KeepsMet, HasMet, StandsOver}
+use Rattle.steps_walk.specs.Walk.{runner_of, program_of, tree_of, block_of, bodies_of, IsWalking, Moves, KeepsMet, HasMet}
 
 module _ {L : Type 0} where
   -- it still walks
@@ -52,7 +52,8 @@ module _ {L : Type 0} where
     met = λ m. k.met (h.met m);
     stands = λ at i.
         let first = h.stands at i in
-        let second = k.stands (at_count first.0 at) (subst (λ (p : Program). Is (runner_of b) (Inside p (at_count first.0 at) false)) (sym h.program) first.1) in
+        let second = k.stands (at_count first.0 at)
+        (subst (λ (p : Program). Is (runner_of b) (Inside p (at_count first.0 at) false)) (sym h.program) first.1) in
         (second.0, subst (λ (p : Program). Is (runner_of c) (Inside p (at_count second.0 at) false)) h.program second.1);
   }
 

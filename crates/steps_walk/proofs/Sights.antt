@@ -1,6 +1,6 @@
 -- The slot of a name among those in sight.
 use Rattle.std.proofs.Common.{◌≡◌, ℕ, zero, suc, ◌+◌, ◌-◌, ◌<◌, ◌≤◌, List, [], ◌∷◌, ◌++◌, length, map, drop, reverse, get_or, Bool, true, false, cond, refl}
-use Rattle.std.proofs.Common.{ap, ◌∙◌, sym, subst, arith, inl, inr}
+use Rattle.std.proofs.Common.{ap, ◌∙◌, sym, arith, inl, inr}
 use Rattle.std.specs.Prelude.{slice_get, Option, Some, None, IfSome, unwrap_or}
 use Rattle.std.proofs.lemmas.Bool.{cases_lt}
 use Rattle.std.proofs.lemmas.List.{length-map, length-append, length-reverse, reverse-append, reverse-reverse}

@@ -1,5 +1,5 @@
 -- What is told of where a walk stands.
-use Rattle.std.proofs.Common.{◌≡◌, ℕ, zero, suc, ◌+◌, ◌<◌, List, [], ◌∷◌, ◌++◌, Bool, true, false, cond, reverse, get_or, refl, ap, ◌∙◌, sym, subst, arith}
+use Rattle.std.proofs.Common.{◌≡◌, ℕ, zero, suc, ◌+◌, ◌<◌, List, [], ◌∷◌, ◌++◌, true, false, cond, reverse, get_or, refl, ap, ◌∙◌, sym, subst, arith}
 use Rattle.std.specs.Prelude.{Option, None, Some, length, slice_get, unwrap_or}
 use Rattle.std.proofs.lemmas.List.{reverse-reverse, reverse-append, length-reverse, length-append}
 use Rattle.std.proofs.lemmas.List.Elements.{All-get_or}
@@ -49,7 +49,7 @@ use Rattle.steps_walk.specs.declared.level.Spot.{Spot}
 use Rattle.steps_walk.specs.declared.walk.Walk.{Walk}
 use Rattle.steps_walk.specs.Bodies.{plain, text_body, parameters_of, procedures_over, IsInEffect, IsMet}
 use Rattle.steps_walk.specs.Where.{IsThere, names_at, text_block}
-use Rattle.steps_walk.specs.Walk.{runner_of, program_of, tree_of, block_of, bodies_of, calls_in, HasTable, IsWalking, is_outside}
+use Rattle.steps_walk.specs.Walk.{runner_of, program_of, tree_of, block_of, bodies_of, calls_in, IsWalking, is_outside}
 use Rattle.steps_walk.specs.Standing.{IsHere, IsCodeAt, IsTableAt, IsTableIn, IsThereInCall, IsInnermostOf, Calls, TellsSpot, TellsPlace, node_in, node_at}
 use Rattle.steps_walk.proofs.Bodies.{false_unless}
 

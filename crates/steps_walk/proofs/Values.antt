@@ -1,11 +1,11 @@
 -- The values of names in sight.
-use Rattle.std.proofs.Common.{◌≡◌, ℕ, suc, ◌+◌, ◌≤◌, ℤ, neg_ℤ, List, [], ◌∷◌, ◌++◌, length, Bool, true, false, cond, refl, ap, ◌∙◌, sym, arith}
-use Rattle.std.specs.Prelude.{slice_get, Option, Some, None}
+use Rattle.std.proofs.Common.{◌≡◌, ℕ, ◌≤◌, ℤ, neg_ℤ, List, [], ◌∷◌, length, Bool, true, false, cond, refl, ap, ◌∙◌, sym, arith}
+use Rattle.std.specs.Prelude.{slice_get, Some}
 use Rattle.std.proofs.lemmas.List.{length-append}
 use Rattle.std.proofs.lemmas.Option.{slice_get_past}
 use Rattle.janus_meaning.specs.Fault.{Res, Fine, Bad, Broken, and_then}
 use Rattle.janus_meaning.specs.Syntax.{Name, Exp, Var, At, Empty, Top, Negate, Binary, And, Or}
-use Rattle.janus_meaning.specs.Store.{Store, Bare, Slot, Val, Lent, look, look_at, read_slot, same_name, number, array, stack, element}
+use Rattle.janus_meaning.specs.Store.{Store, Bare, Slot, Val, look, look_at, read_slot, same_name, number, array, stack, element}
 use Rattle.janus_meaning.specs.Value.{value, both, either, first, is_none}
 use Rattle.janus_meaning.specs.Word.{Operator, wrap, bit, nonzero, operate}
 use Rattle.janus_meaning.specs.World.{listed, size_of}

@@ -1,5 +1,5 @@
 -- The value of an expression over the names in sight.
-use Rattle.std.specs.Prelude.{ℕ, ℤ, List, [], ◌∷◌, length, slice_get, Option, None, Some, Result, Ok, Err}
+use Rattle.std.specs.Prelude.{ℤ, List, [], ◌∷◌, length, slice_get, Option, None, Some, Result, Ok, Err}
 use Rattle.std.specs.Borrow.{Bor}
 use Rattle.janus_meaning.specs.Fault.{Res, Fine, Bad, Broken}
 use Rattle.janus_meaning.specs.Syntax.{Name}

@@ -12,7 +12,6 @@ use Rattle.kernel_machine.specs.Legal.{IsLegal}
 use Rattle.kernel_runner.specs.Program.{cell_of_program}
 use Rattle.kernel_runner.specs.declared.program.Program.{Program}
 use Rattle.kernel_runner.specs.declared.runner.Runner.{Runner}
-use Rattle.kernel_runner.specs.Runner as model
 use Rattle.kernel_runner.specs.Runner.{Place, Is, Inside, at_count}
 use Rattle.kernel_history.specs.Fields.{past_of}
 use Rattle.kernel_history.specs.declared.tree.HistoryTree.{HistoryTree}

@@ -94,7 +94,6 @@ fn newest<'a>(procedures: &'a [Procedure], name: &str) -> Option<&'a Procedure>
 
 /// The procedure which a call of this name runs where a cell is open over the position of a tree, and the node of the cell that defines it; none of the
 /// open cell.
-#[tactic(auto, using(crate::proofs::Bodies::found_here, crate::proofs::Bodies::none_here, crate::proofs::Bodies::found_there, crate::proofs::Bodies::none_there))]
 pub(crate) fn text_of<'a>(
     program: &'a Program,
     tree: &'a HistoryTree,

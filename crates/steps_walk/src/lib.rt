@@ -11,8 +11,8 @@
 //!   call runs.
 //! - `stand` tells the place in the innermost code, which way that runs, and which part of the text stands there: in the cell's own code at the place to which
 //!   the steps have led, and in a call in the text of the body that runs. `level` tells the same of each open call's place in its caller's code.
-//! - `sight` has the names that are in sight there, each with its slot, and `value` lends the value in a slot of the innermost frame; `number_of` is the value of
-//!   an expression over these names.
+//! - `sight` has the names that are in sight there, each with its slot, and `value` lends the value in a slot of the innermost frame; `number_of` is the value
+//!   of an expression over these names.
 //!
 //! The modules, in the order in which a reader needs them: `turning` (steps back, after which a runner faces on), `body` (the bodies of procedures in the texts
 //! of their cells), `walk` (the open cell, its steps, and the bodies that are met), `level` (where it stands, in the cell and in the open calls), `sight` (the

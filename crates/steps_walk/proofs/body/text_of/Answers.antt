@@ -1,4 +1,4 @@
-use Rattle.std.proofs.Common.{◌≡◌, ◌<◌, sym, ◌∙◌, arith}
+use Rattle.std.proofs.Common.{◌<◌, sym, ◌∙◌, arith}
 use Rattle.kernel_history.proofs.Nodes.{parent_there, count_of_nodes}
 use Rattle.steps_walk.proofs.Bodies.{found_here, none_here, found_there, none_there}
 use Rattle.steps_walk.proofs.body.text_of.Goals as goal
@@ -30,8 +30,9 @@ loop-at-preserved c =
     let test = c.loop-at-test.true in
     let some : 0 < n = omega (arith, test) in
     let known = c.loop-at.invariant.0 in
-    let low = c.parent-at.ensures.before some in (
+    let low = c.parent-at.ensures.before some in
+    let none = rw c.deref-in-loop-at.ensures.value at c.in_default-newest.ensures.none in (
       omega (arith, low, known),
       none_there c.args.program.now tree c.args.name.now c.requires n c.content.result.now some known (some, c.content.ensures) c.parent-at.result
-          (c.parent-at.ensures.parent ∙ sym (parent_there tree n)) c.loop-at.invariant.1 (rw c.deref-in-loop-at.ensures.value at c.in_default-newest.ensures.none),
+          (c.parent-at.ensures.parent ∙ sym (parent_there tree n)) c.loop-at.invariant.1 none,
     )

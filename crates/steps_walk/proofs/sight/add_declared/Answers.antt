@@ -8,5 +8,5 @@ loop-i-preserved c =
     let test = c.loop-i-test.true in
     let all = c.len-i-end.ensures in
     let within : c.loop-i.i < length names = omega (arith, test, all) in
-    next_declared (λ (b : Bor (List ℕ)). b.now) c.loop-i.all.items c.push.new.self.items c.name.result c.in_ok-push.ensures.items names c.loop-i.i c.name.result.now _ within
-    (ap (λ n. slice_get names (n - 1 - c.loop-i.i)) (sym c.len.ensures) ∙ c.name.ensures) refl c.loop-i.invariant
+    next_declared (λ (b : Bor (List ℕ)). b.now) c.loop-i.all.items c.push.new.self.items c.name.result c.in_ok-push.ensures.items names c.loop-i.i
+    c.name.result.now _ within (ap (λ n. slice_get names (n - 1 - c.loop-i.i)) (sym c.len.ensures) ∙ c.name.ensures) refl c.loop-i.invariant

@@ -1,5 +1,4 @@
-use Rattle.std.proofs.Common.{List, ℕ, Bor, map, ◌++◌, ap, subst, arith, ◌∙◌}
-use Rattle.janus_places.specs.declared.table.Local.{Local}
+use Rattle.std.proofs.Common.{List, ℕ, Bor, map, ◌++◌, ap, arith}
 use Rattle.janus_places.proofs.Rows.{next_left, all_told, open_at, never_past, falls}
 use Rattle.janus_places.proofs.Open.{in_row, never_out}
 use Rattle.janus_places.proofs.table.Table.locals.Goals as goal

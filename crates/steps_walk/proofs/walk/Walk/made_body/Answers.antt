@@ -9,5 +9,7 @@ pub returns-in_ok-of-in-Some : goal.returns-in_ok-of-in-Some
 returns-in_ok-of-in-Some g c =
     let w = c.args.self.now in
     let is = c.in_ok-of-in-Some.ensures in
-    made (runner_of w).entries (program_of w) (tree_of w) c.in_ok-of-in-Some.field-0 c.args.number c.name-name.result.now c.in-Some.procedure.now is.number c.name-name.ensures
-    (subst (λ (o : Option ℕ). IsTextOf (program_of w) (tree_of w) c.name-name.result.now o c.in-Some.procedure.now) (sym is.node) c.in-Some.ensures) is.is
+    let name = c.name-name.result.now in
+    let p = c.in-Some.procedure.now in
+    made (runner_of w).entries (program_of w) (tree_of w) c.in_ok-of-in-Some.field-0 c.args.number name p is.number c.name-name.ensures
+    (subst (λ (o : Option ℕ). IsTextOf (program_of w) (tree_of w) name o p) (sym is.node) c.in-Some.ensures) is.is
