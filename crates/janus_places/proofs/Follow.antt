@@ -1,5 +1,5 @@
 -- The spots of a block's text follow the places of its code one by one.
-use Rattle.std.proofs.Common.{◌≡◌, ℕ, zero, suc, ◌+◌, ◌<◌, List, [], ◌∷◌, ◌++◌, length, get_or, refl, ap, ◌∙◌, sym, subst, arith}
+use Rattle.std.proofs.Common.{◌≡◌, ℕ, zero, suc, ◌<◌, List, [], ◌∷◌, ◌++◌, length, get_or, refl, ap, ◌∙◌, sym, subst, arith}
 use Rattle.std.specs.Prelude.{slice_get, Some}
 use Rattle.janus_meaning.specs.Syntax as tree
 use Rattle.janus_meaning.specs.Syntax.{Name, Blk, Nil, Cons, rejoin}
@@ -7,7 +7,7 @@ use Rattle.janus_meaning.specs.Moves.{InThen, InElse, InDo, InLoop, InInt, InSta
 use Rattle.janus_meaning.specs.Stepping.{Frame, Framed, Place, BeforeBlock, AfterBlock, BeforeOne, AfterOne}
 use Rattle.janus_slots.specs.Slots.{slot, exp_in, stm_in, block_in}
 use Rattle.janus_linear.specs.declared.code.Order.TheVariants.{Straight}
-use Rattle.janus_linear.specs.Layout.{block_size, row_places, inner_places, places, place_at}
+use Rattle.janus_linear.specs.Layout.{row_places, inner_places, places}
 use Rattle.janus_linear.specs.Open.{locals_in}
 use Rattle.janus_linear.proofs.Turns.{places_long}
 use Rattle.janus_syntax.specs.Tree.{Stm, Skip, Assign, AssignElement, Push, Pop, Swap, If, Loop, LocalInt, LocalStack, Call, Uncall, Block, Empty, More}

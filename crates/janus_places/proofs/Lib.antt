@@ -1,2 +1,3 @@
 pub mod Follow
 pub mod Rows
+pub mod Open

@@ -163,12 +163,12 @@ rows_long ls (row ∷ rows) (spot ∷ ss) h = ap suc (rows_long ls rows ss h.1)
 pub table_long : (t : Table) (es g : List Name) (b : Block) → IsTableOf t b → length t.rows.items ≡ block_size (code_of es g b)
 table_long t es g b h = rows_long t.locals.items t.rows.items (spots b) h ∙ as_many es g b
 
-record Stands (t : Table) (es g : List Name) (b : Block) (n : ℕ) (row : Row) : Type 0 where
-  spot : Spot
-  stands : StandsAt es g spot (place_at Straight (code_of es g b) n)
-  is : IsRowOf t.locals.items row spot
+pub record Stands (t : Table) (es g : List Name) (b : Block) (n : ℕ) (row : Row) : Type 0 where
+  pub spot : Spot
+  pub stands : StandsAt es g spot (place_at Straight (code_of es g b) n)
+  pub is : IsRowOf t.locals.items row spot
 
-stands_there : (t : Table) (es g : List Name) (b : Block) (n : ℕ) (row : Row) → row ≡ get_or t.rows.items n row → n < length t.rows.items → IsTableOf t b →
+pub stands_there : (t : Table) (es g : List Name) (b : Block) (n : ℕ) (row : Row) → row ≡ get_or t.rows.items n row → n < length t.rows.items → IsTableOf t b →
     Stands t es g b n row
 stands_there t es g b n row e lt h =
     let r = row_at t.locals.items t.rows.items (spots b) n row h lt in

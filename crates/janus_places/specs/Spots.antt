@@ -1,7 +1,7 @@
 -- What stands at each place of a block's linear code, as the text has it: a statement, and which part of it.
 -- The tree keeps the places of names and numbers, so a part of the text is told from the first to the last of those that stand in it. A `skip`, and a part
 -- that is left out, has none.
-use Rattle.std.specs.Prelude.{ℕ, List, [], ◌∷◌, ◌++◌, Option, None, Some}
+use Rattle.std.specs.Prelude.{List, [], ◌∷◌, ◌++◌, Option, None, Some}
 use Rattle.janus_meaning.specs.Syntax as tree
 use Rattle.janus_syntax.specs.declared.token.Span.{Span}
 use Rattle.janus_syntax.specs.Tree.{Name, named, Exp, Num, Var, Element, EmptyOf, TopOf, Neg, Bin, And, Or, Stm, Skip, Assign, AssignElement, Push, Pop, Swap}

@@ -9,7 +9,7 @@ use Rattle.janus_linear.specs.declared.code.Order.TheVariants.{Straight}
 use Rattle.janus_linear.specs.Layout.{block_size, place_at}
 use Rattle.janus_linear.specs.Open.{locals_in}
 use Rattle.janus_syntax.specs.declared.token.Span.{Span}
-use Rattle.janus_syntax.specs.Tree.{Stm, Block}
+use Rattle.janus_syntax.specs.Tree.{Block}
 use Rattle.janus_syntax.specs.View.{plain_stm, plain_block}
 use Rattle.janus_places.specs.declared.part.Branch.{Branch}
 use Rattle.janus_places.specs.declared.part.Branch.TheVariants.{First, Second}

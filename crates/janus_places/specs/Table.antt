@@ -1,11 +1,13 @@
 -- The table of the spots of a block, as it is kept.
-use Rattle.std.specs.Prelude.{◌≡◌, ℕ, zero, suc, ◌≤◌, List, [], ◌∷◌, ◌++◌, length, slice_get, Some, string_bytes}
+use Rattle.std.specs.Prelude.{◌≡◌, ℕ, zero, suc, List, [], ◌∷◌, ◌++◌, length, slice_get, Option, None, Some, string_bytes}
 use Rattle.janus_meaning.specs.Syntax.{Name}
+use Rattle.janus_slots.specs.Slots.{slot, no_slot}
 use Rattle.janus_syntax.specs.Tree.{Block}
 use Rattle.janus_places.specs.declared.table.Local.{Local}
 use Rattle.janus_places.specs.declared.table.Row.{Row}
 use Rattle.janus_places.specs.declared.table.Table.{Table}
 use Rattle.janus_places.specs.Spots.{Spot, part_of, span_of, locals_of, spots}
+use Rattle.janus_places.specs.Standing.{AreOpen}
 
 -- behind this place of a table of locals stand these names, each with the place behind the one that it stands over
 abbrev pub AreLocals : List Local → ℕ → List Name → Type 0
@@ -44,3 +46,16 @@ pub record Adds (old new : Table) (ss : List Spot) : Type 0 where
   pub locals : new.locals.items ≡ old.locals.items ++ more
   pub rows : new.rows.items ≡ old.rows.items ++ made
   pub are : AreRowsOf new.locals.items made ss
+
+-- these locals are open at a place of a table, the newest first
+abbrev pub AreOpenIn : Table → ℕ → List Name → Type 0
+AreOpenIn t n xs = (row : Row) × (slice_get t.rows.items n ≡ Some row) × AreLocals t.locals.items row.locals xs
+
+-- they are those that are open there in the text of a block
+abbrev pub HasLocals : Table → (es g : List Name) → Block → ℕ → Type 0
+HasLocals t es g b n = (xs : List Name) × AreOpenIn t n xs × AreOpen es g b n xs
+
+-- the slot of a number, if there is one
+abbrev pub slot_of : Option ℕ → Name
+slot_of None = no_slot
+slot_of (Some n) = slot n

@@ -4,6 +4,7 @@ ghost use Rattle.std.specs.Prelude.{◌≡◌, ◌<◌, ◌≤◌, ◌∷◌, �
 ghost use Rattle.janus_meaning.specs.Syntax.{Name as TheName};
 ghost use Rattle.janus_syntax.specs.Tree.{Block};
 ghost use Rattle.janus_syntax.specs.View.{name_of};
+ghost use Rattle.janus_slots.specs.Slots.{slot_in};
 ghost use Rattle.janus_places.specs.Spots.{Spot, part_of, span_of, locals_of};
 ghost use Rattle.janus_places.specs.declared.table.Local.{Local};
 
@@ -40,7 +41,7 @@ pub struct Table {
 
 impl Table {
     ghost use Rattle.janus_places.specs.Standing.{IsTold, AreOpen, code_of};
-    ghost use Rattle.janus_places.specs.Table.{IsTableOf, AreLocals, Opens, Adds, places_in};
+    ghost use Rattle.janus_places.specs.Table.{IsTableOf, AreLocals, Opens, Adds, places_in, AreOpenIn, HasLocals, slot_of};
     ghost use Rattle.janus_linear.specs.Layout.{block_size};
 
     /// No places.
@@ -107,8 +108,9 @@ impl Table {
     /// The names of the locals that are open at a place, the newest first; the only error is want of memory.
     pub fn locals(&self, alloc: Global, at: usize) -> Result<Vec<&str>, AllocError>
         requires { at < places_in self.now }
-        ensures { IfOk result (λ names. (es g : List TheName) (b : Block) → IsTableOf self.now b →
+        ensures text { IfOk result (λ names. (es g : List TheName) (b : Block) → IsTableOf self.now b →
             AreOpen es g b at (map (λ name. name.now) names.items)) }
+        ensures open { IfOk result (λ names. (xs : List TheName) → AreOpenIn self.now at xs → map (λ name. name.now) names.items ≡ xs) }
     {
         let mut names = Vec::new(alloc);
         let mut behind = self.rows[at].locals;
@@ -120,5 +122,48 @@ impl Table {
             behind = local.outer;
         }
         Ok(names)
+    }
+
+    /// How many locals that are open at a place stand below the newest of a name; none where no open local has it.
+    pub fn local(&self, at: usize, name: &str) -> Option<usize>
+        requires { at < places_in self.now }
+        ensures slot { (xs : List TheName) → AreOpenIn self.now at xs → slot_of result ≡ slot_in xs name.now }
+        // Those are the locals that are open there in the text.
+        ensures text { (es g : List TheName) (b : Block) → IsTableOf self.now b → HasLocals self.now es g b at }
+    {
+        self.find(self.rows[at].locals, name)
+    }
+
+    /// How many locals are open behind a place in the table of locals.
+    fn count(&self, from: usize) -> usize
+        ensures { (xs : List TheName) → AreLocals self.now.locals.items from xs → result ≡ length xs }
+    {
+        let mut behind = from;
+        let mut count: usize = 0;
+        while behind > 0 {
+            let Some(local) = self.locals.get(behind - 1) else {
+                return count;
+            };
+            count += 1;
+            behind = local.outer;
+        }
+        count
+    }
+
+    /// How many of them stand below the newest of a name; none where none has it.
+    fn find(&self, from: usize, name: &str) -> Option<usize>
+        ensures { (xs : List TheName) → AreLocals self.now.locals.items from xs → slot_of result ≡ slot_in xs name.now }
+    {
+        let mut behind = from;
+        while behind > 0 {
+            let Some(local) = self.locals.get(behind - 1) else {
+                return None;
+            };
+            if local.name.as_str() == name {
+                return Some(self.count(local.outer));
+            }
+            behind = local.outer;
+        }
+        None
     }
 }

@@ -1,12 +1,12 @@
 //! How far a command goes.
-ghost use Rattle.steps_walk.specs.Walk.{IsWalking, Moves};
+ghost use Rattle.steps_walk.specs.Walk.{IsWalking, Moves, KeepsMet};
 ghost use Rattle.steps_program.specs.Obeyed.{GoesOn, GoesBack};
 
 use crate::kept::Kept;
 use crate::output::place_of;
 use crate::source::{Source, source_of};
 use cells_program::Fault;
-use std::alloc::{AllocError, Global};
+use std::alloc::Global;
 use std::sync::ledger::Ledger;
 use steps_walk::{Exp, Level, Progress, Spot, ValueView, Walk, number_of};
 
@@ -40,31 +40,24 @@ pub(crate) enum Goal<'a> {
     Changes(&'a str, usize, Kept),
 }
 
-/// The value of a name in sight; the only error is want of memory.
-pub(crate) fn value_of<'a, L: Ledger>(
-    alloc: Global,
-    walk: &'a Walk<L>,
-    name: &str,
-) -> Result<Option<ValueView<'a>>, AllocError> {
-    let Some((level, _)) = walk.stand() else {
-        return Ok(None);
-    };
-    let sight = walk.sight(alloc, &level)?;
-    match sight.slot(name) {
-        Some(slot) => Ok(walk.value(slot)),
-        None => Ok(None),
-    }
+/// The value of a name in sight.
+pub(crate) fn value_of<'a, L: Ledger>(walk: &'a Walk<L>, name: &str) -> Option<ValueView<'a>> {
+    let level = walk.level(walk.open_calls())?;
+    let sight = walk.sight(&level)?;
+    walk.value(sight.slot(name)?)
 }
 
-/// Whether an expression over the names in sight holds; the only error is want of memory.
-fn holds<L: Ledger>(alloc: Global, walk: &Walk<L>, exp: &Exp) -> Result<bool, AllocError> {
-    let Some((level, _)) = walk.stand() else {
-        return Ok(false);
+/// Whether an expression over the names in sight holds.
+fn holds<L: Ledger>(walk: &Walk<L>, exp: &Exp) -> bool {
+    let Some(level) = walk.level(walk.open_calls()) else {
+        return false;
     };
-    let sight = walk.sight(alloc, &level)?;
+    let Some(sight) = walk.sight(&level) else {
+        return false;
+    };
     match number_of(walk, &sight, exp) {
-        Ok(number) => Ok(number != 0),
-        Err(_) => Ok(false),
+        Ok(number) => number != 0,
+        Err(_) => false,
     }
 }
 
@@ -93,42 +86,40 @@ fn line_at(sources: &[Source], level: &Level, spot: Spot) -> Option<usize> {
     Some(place.line)
 }
 
-/// Whether the walk stands where a command goes; the only error is want of memory.
-fn is_there<L: Ledger>(
-    alloc: Global,
-    walk: &Walk<L>,
-    sources: &[Source],
-    goal: &Goal<'_>,
-) -> Result<bool, AllocError> {
+/// Whether the walk stands where a command goes.
+fn is_there<L: Ledger>(walk: &Walk<L>, sources: &[Source], goal: &Goal<'_>) -> bool {
     match goal {
-        Goal::Next(depth) => Ok(walk.open_calls() <= *depth && is_stop(walk)),
-        Goal::Fewer(depth) => Ok(walk.open_calls() < *depth),
-        Goal::Line(line) => Ok(is_on_line(walk, sources, *line)),
-        Goal::Holds(exp) => holds(alloc, walk, *exp),
+        Goal::Next(depth) => walk.open_calls() <= *depth && is_stop(walk),
+        Goal::Fewer(depth) => walk.open_calls() < *depth,
+        Goal::Line(line) => is_on_line(walk, sources, *line),
+        Goal::Holds(exp) => holds(walk, *exp),
         Goal::Changes(name, depth, old) => {
-            if walk.open_calls() != *depth {
-                return Ok(false);
-            }
-            Ok(!old.is(value_of(alloc, walk, *name)?))
+            walk.open_calls() == *depth && !old.is(value_of(walk, *name))
         }
     }
 }
 
-/// Where the walk has come, if the command goes no further.
+/// Where the walk has come, if the command goes no further; the body in which it stands is met.
 fn arrived<L: Ledger>(
     alloc: Global,
-    walk: &Walk<L>,
+    walk: &mut Walk<L>,
     sources: &[Source],
     goal: &Goal<'_>,
-) -> Option<Came> {
-    match is_there(alloc, walk, sources, goal) {
-        Ok(true) => Some(Came::There),
-        Ok(false) => None,
-        Err(_) => Some(Came::Memory),
+) -> Option<Came>
+    requires { IsWalking walk.old }
+    ensures { KeepsMet walk.old walk.new }
+{
+    if walk.meet_here(alloc).is_err() {
+        return Some(Came::Memory);
     }
+    if is_there(walk, sources, goal) {
+        return Some(Came::There);
+    }
+    None
 }
 
 /// Takes a step on, and tells where that has led, if the command goes no further.
+#[tactic(auto, using(crate::proofs::Obeying::led))]
 fn step_on<L: Ledger>(
     alloc: Global,
     walk: &mut Walk<L>,

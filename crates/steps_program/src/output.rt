@@ -182,33 +182,33 @@ fn send_call<L: Ledger, W: Write>(
     send(writer, b"\n")
 }
 
-/// Writes a name in sight with its value.
+/// Writes a name with the value in its slot.
 fn send_slot<L: Ledger, W: Write>(
     writer: &mut W,
     walk: &Walk<L>,
-    sight: &Sight,
+    name: &str,
     slot: usize,
 ) -> Result<(), WriteFailed> {
-    match (sight.names.get(slot), walk.value(slot)) {
-        (Some(name), Some(value)) => send_value(writer, name.as_str(), value),
-        _ => Ok(()),
+    match walk.value(slot) {
+        Some(value) => send_value(writer, name, value),
+        None => Ok(()),
     }
 }
 
-/// Writes the names in sight with their values, the oldest first.
+/// Writes these names in sight with their values, the oldest first; they stand the newest first.
 pub(crate) fn send_sight<L: Ledger, W: Write>(
     writer: &mut W,
     walk: &Walk<L>,
-    sight: &Sight,
+    names: &[&str],
 ) -> Result<(), WriteFailed> {
-    for slot in 0..sight.names.len() {
-        send_slot(writer, walk, sight, slot)?;
+    for slot in 0..names.len() {
+        send_slot(writer, walk, names[names.len() - 1 - slot], slot)?;
     }
     Ok(())
 }
 
 /// Whether a name stands among tokens.
-fn names(tokens: &[Token], name: &str) -> bool {
+fn stands_among(tokens: &[Token], name: &str) -> bool {
     for token in tokens {
         if let TokenKind::Name(text) = &token.kind {
             if text.as_str() == name {
@@ -219,20 +219,13 @@ fn names(tokens: &[Token], name: &str) -> bool {
     false
 }
 
-/// Whether the newest of its name stands in a slot, and the name among tokens.
-fn is_read(tokens: &[Token], sight: &Sight, slot: usize) -> bool {
-    match sight.names.get(slot) {
-        Some(name) => sight.slot(name.as_str()) == Some(slot) && names(tokens, name.as_str()),
-        None => false,
-    }
-}
-
-/// Writes those names in sight that stand in a part of a text, with their values.
+/// Writes those of these names in sight that stand in a part of a text, with their values; they stand the newest first.
 pub(crate) fn send_read<L: Ledger, W: Write>(
     alloc: Global,
     writer: &mut W,
     walk: &Walk<L>,
-    sight: &Sight,
+    sight: &Sight<'_>,
+    names: &[&str],
     source: &Source,
     span: Span,
 ) -> Result<(), WriteFailed> {
@@ -242,10 +235,11 @@ pub(crate) fn send_read<L: Ledger, W: Write>(
     let Ok(tokens) = tokens(alloc, part) else {
         return Ok(());
     };
-    for slot in 0..sight.names.len() {
-        if is_read(tokens.as_slice(), sight, slot) {
+    for slot in 0..names.len() {
+        let name = names[names.len() - 1 - slot];
+        if sight.slot(name) == Some(slot) && stands_among(tokens.as_slice(), name) {
             send(writer, b"  ")?;
-            send_slot(writer, walk, sight, slot)?;
+            send_slot(writer, walk, name, slot)?;
         }
     }
     Ok(())

@@ -1,5 +1,6 @@
 //! All of it over a file's text.
 ghost use Rattle.std.specs.Prelude.{◌≡◌, ◌<◌, IfOk};
+ghost use Rattle.kernel_machine.specs.LegalState.{IsLegalState};
 ghost use Rattle.steps_walk.specs.Walk.{IsWalking, Moves};
 ghost use Rattle.steps_program.specs.Obeyed.{Obeys};
 
@@ -115,6 +116,7 @@ fn enter<L: Ledger, W: Write>(
         kernel.discard();
         return Err(fault);
     }
+    legal_law(&kernel);
     let Some(open) = kernel.into_open_cell() else {
         return Err(RunFault::Refused);
     };
@@ -122,6 +124,13 @@ fn enter<L: Ledger, W: Write>(
         Ok(walk) => Ok(walk),
         Err(_) => Err(RunFault::Memory),
     }
+}
+
+/// Law: the state of a kernel is legal.
+fn legal_law<L: Ledger>(kernel: &Kernel<L>)
+    ensures { IsLegalState kernel.now.machine.state }
+{
+    let _world = kernel.world();
 }
 
 /// Posts a cell, and begins it.

@@ -1,5 +1,5 @@
 //! Commands and answers.
-ghost use Rattle.steps_walk.specs.Walk.{IsWalking, Moves};
+ghost use Rattle.steps_walk.specs.Walk.{IsWalking, Moves, KeepsMet};
 ghost use Rattle.steps_program.specs.Obeyed.{GoesOn, GoesBack, Obeys};
 
 use crate::command::Command;
@@ -18,8 +18,25 @@ fn send_no_memory<W: Write>(writer: &mut W) -> Result<(), WriteFailed> {
     send(writer, b"refused no memory\n")
 }
 
-/// Writes where a command has led.
+/// Writes where a command has led; the bodies in which the open calls run are met.
 fn tell<L: Ledger, W: Write>(
+    alloc: Global,
+    walk: &mut Walk<L>,
+    sources: &[Source],
+    came: Came,
+    writer: &mut W,
+) -> Result<(), WriteFailed>
+    requires { IsWalking walk.old }
+    ensures { KeepsMet walk.old walk.new }
+{
+    if walk.meet_calls(alloc).is_err() {
+        send_no_memory(writer)?;
+    }
+    tell_there(alloc, walk, sources, came, writer)
+}
+
+/// Writes where a command has led.
+fn tell_there<L: Ledger, W: Write>(
     alloc: Global,
     walk: &Walk<L>,
     sources: &[Source],
@@ -64,8 +81,11 @@ fn tell_fault<L: Ledger, W: Write>(
     let Some(source) = source_of(sources, level.node) else {
         return Ok(());
     };
-    match walk.sight(alloc, &level) {
-        Ok(sight) => send_read(alloc, writer, walk, &sight, source, span),
+    let Some(sight) = walk.sight(&level) else {
+        return Ok(());
+    };
+    match sight.names(alloc) {
+        Ok(names) => send_read(alloc, writer, walk, &sight, &names, source, span),
         Err(_) => send_no_memory(writer),
     }
 }
@@ -99,7 +119,7 @@ fn until<L: Ledger, W: Write>(
 
 /// The value of a name in sight, kept; the only error is want of memory.
 fn keep_value<L: Ledger>(alloc: Global, walk: &Walk<L>, name: &str) -> Result<Kept, AllocError> {
-    Kept::of(alloc, value_of(alloc, walk, name)?)
+    Kept::of(alloc, value_of(walk, name))
 }
 
 /// Goes on or back until the value of a name changes.
@@ -133,13 +153,17 @@ fn show<L: Ledger, W: Write>(
     let Some((level, _)) = walk.stand() else {
         return Ok(());
     };
-    match walk.sight(alloc, &level) {
-        Ok(sight) => send_sight(writer, walk, &sight),
+    let Some(sight) = walk.sight(&level) else {
+        return Ok(());
+    };
+    match sight.names(alloc) {
+        Ok(names) => send_sight(writer, walk, &names),
         Err(_) => send_no_memory(writer),
     }
 }
 
 /// Takes steps on or back by a command, and tells where they lead.
+#[tactic(auto, using(crate::proofs::Obeying::led))]
 fn go<L: Ledger, W: Write>(
     alloc: Global,
     walk: &mut Walk<L>,
@@ -162,6 +186,7 @@ fn go<L: Ledger, W: Write>(
 }
 
 /// Takes so many steps on, and tells where they lead.
+#[tactic(auto, using(crate::proofs::Obeying::led_on))]
 fn step<L: Ledger, W: Write>(
     alloc: Global,
     walk: &mut Walk<L>,
@@ -178,6 +203,7 @@ fn step<L: Ledger, W: Write>(
 }
 
 /// Takes so many steps back, and tells where they lead.
+#[tactic(auto, using(crate::proofs::Obeying::led_back))]
 fn step_back<L: Ledger, W: Write>(
     alloc: Global,
     walk: &mut Walk<L>,

@@ -1,4 +1,12 @@
 pub mod FacingOn
+pub mod Bodies
 pub mod Standing
+pub mod Levels
 pub mod Moving
+pub mod Meeting
+pub mod Entering
+pub mod Calls
 pub mod Sights
+pub mod InSight
+pub mod Values
+pub mod Naming

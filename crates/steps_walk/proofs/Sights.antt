@@ -1,23 +1,197 @@
--- The name in a slot.
-use Rattle.std.proofs.Common.{◌≡◌, ℕ, ◌<◌, ◌≤◌, List, length, map, slice_get, get_or, Some, ap, ◌∙◌, sym, arith}
-use Rattle.std.specs.Prelude.{option_map, unwrap_or}
-use Rattle.std.proofs.lemmas.List.{length-map}
-use Rattle.std.proofs.lemmas.Option.{slice_get-map, slice_get_within, slice_get-get_or}
+-- The slot of a name among those in sight.
+use Rattle.std.proofs.Common.{◌≡◌, ℕ, zero, suc, ◌+◌, ◌-◌, ◌<◌, ◌≤◌, List, [], ◌∷◌, ◌++◌, length, map, drop, reverse, get_or, Bool, true, false, cond, refl}
+use Rattle.std.proofs.Common.{ap, ◌∙◌, sym, arith, inl, inr}
+use Rattle.std.specs.Prelude.{slice_get, Option, Some, None, IfSome, unwrap_or}
+use Rattle.std.proofs.lemmas.Bool.{cases_lt}
+use Rattle.std.proofs.lemmas.List.{length-map, length-append, length-reverse, reverse-append, reverse-reverse}
+use Rattle.std.proofs.lemmas.Option.{slice_get-get_or, slice_get_within}
+use Rattle.std.proofs.Math.Seq.{get_or-append_seam}
+use Rattle.janus_meaning.specs.Syntax.{Name}
+use Rattle.janus_meaning.specs.Store.{same_name}
+use Rattle.janus_meaning.proofs.Stores.{same_name_self, same_name_true}
+use Rattle.janus_names.specs.Numbers.{IsNumbered, IsUnmet, HaveOneNumber}
+use Rattle.janus_slots.specs.Slots.{slot, slot_in, no_slot}
+use Rattle.janus_places.specs.Table.{slot_of}
+use Rattle.steps_walk.proofs.Bodies.{false_unless}
 
-module _ {X : Type 0} (f : X → List ℕ) (xs : List X) where
-  -- an item by its index
-  item : (i : ℕ) (x : X) → i < length xs → x ≡ get_or xs i x → slice_get (map f xs) i ≡ Some (f x)
-  item i x within is = slice_get-map f xs i ∙ ap (option_map f) (slice_get-get_or xs i x within ∙ ap Some (sym is))
+-- ---- lists
 
-  pub there : (i : ℕ) (x : X) (n : List ℕ) → i < length xs → x ≡ get_or xs i x → f x ≡ n → slice_get (map f xs) i ≡ Some n
-  there i x n within is e = item i x within is ∙ ap Some e
+pub get_left : {A : Type 0} (xs ys : List A) (i : ℕ) → i < length xs → slice_get (xs ++ ys) i ≡ slice_get xs i
+get_left [] ys i l = absurd (omega arith)
+get_left (x ∷ xs) ys zero l = refl
+get_left (x ∷ xs) ys (suc i) l = get_left xs ys i (omega arith)
 
-  pub differs : (i : ℕ) (x : X) (n : List ℕ) → i < length xs → x ≡ get_or xs i x → ¬ (f x ≡ n) → ¬ (slice_get (map f xs) i ≡ Some n)
-  differs i x n within is d e = d (ap (λ o. unwrap_or o (f x)) (sym (item i x within is) ∙ e))
+-- the last of those in the other order
+pub get_last : {A : Type 0} (xs : List A) (x : A) → slice_get (reverse xs ++ x ∷ []) (length xs) ≡ Some x
+get_last xs x =
+    let size : length (reverse xs) ≡ length xs = length-reverse xs in
+    let more : length (reverse xs ++ x ∷ []) ≡ length (reverse xs) + 1 = length-append (reverse xs) (x ∷ []) in
+    slice_get-get_or (reverse xs ++ x ∷ []) (length xs) x (omega (arith, size, more))
+    ∙ ap (λ n. Some (get_or (reverse xs ++ x ∷ []) n x)) (sym size)
+    ∙ ap Some (get_or-append_seam (reverse xs) x [] x)
 
-  -- none stands behind the last
-  pub past : (j : ℕ) (n : List ℕ) → length xs ≤ j → ¬ (slice_get (map f xs) j ≡ Some n)
-  past j n h e =
-      let within : j < length (map f xs) = slice_get_within (map f xs) j n e in
-      let long : length (map f xs) ≡ length xs = length-map xs f in
-      omega (arith, within, long, h)
+pub turned : {A : Type 0} (x : A) (xs : List A) → reverse (x ∷ xs) ≡ reverse xs ++ x ∷ []
+turned x xs = reverse-append (x ∷ []) xs
+
+drop_at : {A : Type 0} (xs : List A) (i : ℕ) (x : A) → i < length xs → get_or xs i x ≡ x → drop i xs ≡ x ∷ drop (suc i) xs
+drop_at [] i x l e = absurd (omega arith)
+drop_at (y ∷ xs) zero x l e = ap (λ z. z ∷ xs) e
+drop_at (y ∷ xs) (suc i) x l e = drop_at xs i x (omega arith) e
+
+length_drop : {A : Type 0} (xs : List A) (i : ℕ) → length (drop i xs) ≡ length xs - i
+length_drop xs zero = omega arith
+length_drop [] (suc i) = omega arith
+length_drop (x ∷ xs) (suc i) = let h = length_drop xs i in omega (arith, h)
+
+drop_none : {A : Type 0} (xs : List A) (i : ℕ) → length xs ≤ i → drop i xs ≡ []
+drop_none [] zero l = refl
+drop_none [] (suc i) l = refl
+drop_none (x ∷ xs) zero l = absurd (omega arith)
+drop_none (x ∷ xs) (suc i) l = drop_none xs i (omega arith)
+
+-- ---- a name in a row of which the first stands on top
+
+module _ {X : Type 0} (f : X → Name) (xs : List X) (n : Name) where
+  -- it has the slot that it has among those from a place on
+  abbrev pub SameFrom : ℕ → Type 0
+  SameFrom i = slot_in (map f xs) n ≡ slot_in (map f (drop i xs)) n
+
+  module _ (i : ℕ) (x : X) (within : i < length xs) (is : get_or xs i x ≡ x) (h : SameFrom i) where
+    with_first : slot_in (map f xs) n ≡ cond (same_name n (f x)) (slot (length (map f (drop (suc i) xs)))) (slot_in (map f (drop (suc i) xs)) n)
+    with_first = h ∙ ap (λ l. slot_in (map f l) n) (drop_at xs i x within is)
+
+    pub found_first : f x ≡ n → slot (length xs - 1 - i) ≡ slot_in (map f xs) n
+    found_first e =
+        let size : length (map f (drop (suc i) xs)) ≡ length (drop (suc i) xs) = length-map (drop (suc i) xs) f in
+        let left : length (drop (suc i) xs) ≡ length xs - suc i = length_drop xs (suc i) in
+        let same : length xs - 1 - i ≡ length (map f (drop (suc i) xs)) = omega (arith, size, left) in
+        ap slot same
+        ∙ sym (with_first ∙ ap (λ b. cond b (slot (length (map f (drop (suc i) xs)))) (slot_in (map f (drop (suc i) xs)) n))
+        (ap (same_name n) e ∙ same_name_self n))
+
+    pub not_first : ¬ (f x ≡ n) → SameFrom (suc i)
+    not_first d =
+        with_first
+        ∙ ap (λ b. cond b (slot (length (map f (drop (suc i) xs)))) (slot_in (map f (drop (suc i) xs)) n)) (false_unless n (f x) (λ e. d (sym e)))
+
+  pub found_none : (i : ℕ) → length xs ≤ i → SameFrom i → no_slot ≡ slot_in (map f xs) n
+  found_none i l h = sym (h ∙ ap (λ l. slot_in (map f l) n) (drop_none xs i l))
+
+-- ---- a name in a table
+
+-- where the name has one number, that is its slot
+slot_of_number : (g : List Name) (x : Name) (k : ℕ) → slice_get (reverse g) k ≡ Some x → ((j : ℕ) → slice_get (reverse g) j ≡ Some x → j ≡ k) →
+    slot_in g x ≡ slot k
+slot_of_number [] x k e one = absurd (let l = slice_get_within {A = Name} [] k x e in omega arith)
+slot_of_number (y ∷ g) x k e one = by (slot_of_number g x k) (same_name x y) refl
+  where
+    all : List Name
+    all = reverse g ++ y ∷ []
+
+    there : (j : ℕ) → slice_get all j ≡ Some x → j ≡ k
+    there j h = one j (ap (λ l. slice_get l j) (turned y g) ∙ h)
+
+    here : slice_get all k ≡ Some x
+    here = ap (λ l. slice_get l k) (sym (turned y g)) ∙ e
+
+    size : length all ≡ length g + 1
+    size = omega (arith, length-append (reverse g) (y ∷ []), length-reverse g)
+
+    below : ¬ (x ≡ y) → k < length (reverse g)
+    below d =
+        let within = slice_get_within all k x here in
+        let long : length (reverse g) ≡ length g = length-reverse g in
+        elim (cases_lt k (length g)) [
+          | inl less ↦ omega (arith, less, long)
+          | inr more ↦
+              (let same : k ≡ length g = omega (arith, within, more, size) in
+              let at : Some y ≡ Some x = sym (get_last g y) ∙ ap (slice_get all) (sym same) ∙ here in
+              absurd (d (ap (λ (o : Option Name). unwrap_or o x) (sym at))))
+        ]
+
+    by : (slice_get (reverse g) k ≡ Some x → ((j : ℕ) → slice_get (reverse g) j ≡ Some x → j ≡ k) → slot_in g x ≡ slot k) →
+        (b : Bool) → same_name x y ≡ b → slot_in (y ∷ g) x ≡ slot k
+    by left true t =
+        let same : x ≡ y = same_name_true x y t in
+        ap (λ b. cond b (slot (length g)) (slot_in g x)) t
+        ∙ ap slot (there (length g) (get_last g y ∙ ap Some (sym same)))
+    by left false t =
+        let d : ¬ (x ≡ y) = λ same. differ (sym t ∙ ap (same_name x) (sym same) ∙ same_name_self x) in
+        let low = below d in
+        ap (λ b. cond b (slot (length g)) (slot_in g x)) t
+        ∙ left (sym (get_left (reverse g) (y ∷ []) k low) ∙ here)
+        (λ j h. there j (get_left (reverse g) (y ∷ []) j (slice_get_within (reverse g) j x h) ∙ h))
+      where
+        differ : false ≡ true → ⊥
+        differ e = cc
+
+slot_of_none : (g : List Name) (x : Name) → ((j : ℕ) → slice_get (reverse g) j ≡ Some x → ⊥) → slot_in g x ≡ no_slot
+slot_of_none [] x none = refl
+slot_of_none (y ∷ g) x none = by (slot_of_none g x) (same_name x y) refl
+  where
+    by : (((j : ℕ) → slice_get (reverse g) j ≡ Some x → ⊥) → slot_in g x ≡ no_slot) → (b : Bool) → same_name x y ≡ b → slot_in (y ∷ g) x ≡ no_slot
+    by left true t =
+        absurd (none (length g) (ap (λ l. slice_get l (length g)) (turned y g) ∙ get_last g y ∙ ap Some (sym (same_name_true x y t))))
+    by left false t =
+        ap (λ b. cond b (slot (length g)) (slot_in g x)) t
+        ∙ left (λ j h. none j
+        (ap (λ l. slice_get l j) (turned y g) ∙ get_left (reverse g) (y ∷ []) j (slice_get_within (reverse g) j x h) ∙ h))
+
+pub slot_in_table : (names : List Name) (x : Name) (k : ℕ) → IsNumbered names k x → HaveOneNumber names → slot k ≡ slot_in (reverse names) x
+slot_in_table names x k e one =
+    let back : reverse (reverse names) ≡ names = reverse-reverse names in
+    sym (slot_of_number (reverse names) x k (ap (λ l. slice_get l k) back ∙ e) (λ j h. one j k x (ap (λ l. slice_get l j) (sym back) ∙ h) e))
+
+pub none_in_table : (names : List Name) (x : Name) → IsUnmet names x → no_slot ≡ slot_in (reverse names) x
+none_in_table names x none =
+    let back : reverse (reverse names) ≡ names = reverse-reverse names in
+    sym (slot_of_none (reverse names) x (λ j h. none j (ap (λ l. slice_get l j) (sym back) ∙ h)))
+
+-- ---- locals above others
+
+slot_number : (m n : ℕ) → slot m ≡ slot n → m ≡ n
+slot_number m n e = cc
+
+no_number : {A : Type 0} (n : ℕ) → slot n ≡ no_slot → A
+no_number n e = absurd (cc)
+
+pub slot_above : (xs g : List Name) (x : Name) (b : ℕ) → slot b ≡ slot_in xs x → slot (length g + b) ≡ slot_in (xs ++ g) x
+slot_above [] g x b e = no_number b e
+slot_above (y ∷ xs) g x b e = by (slot_above xs g x b) (same_name x y) refl
+  where
+    by : (slot b ≡ slot_in xs x → slot (length g + b) ≡ slot_in (xs ++ g) x) → (t : Bool) → same_name x y ≡ t →
+        slot (length g + b) ≡ slot_in ((y ∷ xs) ++ g) x
+    by left true t =
+        let same : b ≡ length xs = slot_number b (length xs) (e ∙ ap (λ v. cond v (slot (length xs)) (slot_in xs x)) t) in
+        let size : length (xs ++ g) ≡ length xs + length g = length-append xs g in
+        let sum : length g + b ≡ length (xs ++ g) = omega (arith, same, size) in
+        ap slot sum ∙ sym (ap (λ v. cond v (slot (length (xs ++ g))) (slot_in (xs ++ g) x)) t)
+    by left false t =
+        left (e ∙ ap (λ v. cond v (slot (length xs)) (slot_in xs x)) t)
+        ∙ sym (ap (λ v. cond v (slot (length (xs ++ g))) (slot_in (xs ++ g) x)) t)
+
+pub slot_under : (xs g : List Name) (x : Name) → no_slot ≡ slot_in xs x → slot_in g x ≡ slot_in (xs ++ g) x
+slot_under [] g x e = refl
+slot_under (y ∷ xs) g x e = by (slot_under xs g x) (same_name x y) refl
+  where
+    by : (no_slot ≡ slot_in xs x → slot_in g x ≡ slot_in (xs ++ g) x) → (t : Bool) → same_name x y ≡ t → slot_in g x ≡ slot_in ((y ∷ xs) ++ g) x
+    by left true t = no_number (length xs) (sym (e ∙ ap (λ v. cond v (slot (length xs)) (slot_in xs x)) t))
+    by left false t =
+        left (e ∙ ap (λ v. cond v (slot (length xs)) (slot_in xs x)) t)
+        ∙ sym (ap (λ v. cond v (slot (length (xs ++ g))) (slot_in (xs ++ g) x)) t)
+
+pub slot_below : (xs : List Name) (x : Name) (b : ℕ) → slot b ≡ slot_in xs x → b < length xs
+slot_below [] x b e = no_number b e
+slot_below (y ∷ xs) x b e = by (slot_below xs x b) (same_name x y) refl
+  where
+    by : (slot b ≡ slot_in xs x → b < length xs) → (t : Bool) → same_name x y ≡ t → b < length (y ∷ xs)
+    by left true t =
+        let same : b ≡ length xs = slot_number b (length xs) (e ∙ ap (λ v. cond v (slot (length xs)) (slot_in xs x)) t) in
+        omega (arith, same)
+    by left false t = let low = left (e ∙ ap (λ v. cond v (slot (length xs)) (slot_in xs x)) t) in omega (arith, low)
+
+-- what is found in a table
+pub of_number : (names : List Name) (x : Name) (r : Option ℕ) → IfSome r (λ k. IsNumbered names k x) → (r ≡ None → IsUnmet names x) → HaveOneNumber names →
+    slot_of r ≡ slot_in (reverse names) x
+of_number names x None met unmet one = none_in_table names x (unmet refl)
+of_number names x (Some k) met unmet one = slot_in_table names x k met one

@@ -1,9 +1,13 @@
 pub mod Walking
 pub mod Where
+pub mod Bodies
 pub mod Walk
 pub mod Standing
+pub mod Stops
 pub mod Sights
+pub mod Values
 -- Of kernel_runner, given again.
 pub use Rattle.kernel_runner.specs.Runner
 -- Of kernel_machine, given again.
 pub use Rattle.kernel_machine.specs.declared.progress
+pub use Rattle.kernel_runner.specs.declared.runner

@@ -1,10 +1,21 @@
 //! The number of an expression over the names in sight.
+ghost use Rattle.std.specs.Prelude.{◌≡◌, List, neg_ℤ};
+ghost use Rattle.janus_meaning.specs.Fault.{Fine, and_then};
+ghost use Rattle.janus_meaning.specs.Syntax.{Name};
+ghost use Rattle.janus_meaning.specs.Store.{look, number as number_in, array as array_in, stack as stack_in, element};
+ghost use Rattle.janus_meaning.specs.Value.{value as value_of_exp, first, is_none, both as both_of, either as either_of};
+ghost use Rattle.janus_meaning.specs.Word.{wrap, bit, nonzero, operate as operate_of};
+ghost use Rattle.janus_syntax.specs.View.{exp_of, operator_of};
+ghost use Rattle.steps_walk.specs.Sights.{AreInSight};
+ghost use Rattle.steps_walk.specs.Walk.{slots_in};
+ghost use Rattle.steps_walk.specs.Values.{sighted, told, found_value, found_array, found_stack};
 
 use crate::sight::Sight;
 use crate::walk::Walk;
 use janus_evaluation::{ValueFault, bit_of, holds, negative, operate};
 use janus_machine::ValueView;
-use janus_syntax::tree::Exp;
+use janus_memory::StackView;
+use janus_syntax::tree::{Exp, Operator};
 use std::sync::ledger::Ledger;
 
 /// Why an expression has no number.
@@ -18,39 +29,69 @@ pub enum NoValue {
     Fault(ValueFault),
 }
 
-/// The value of a name in sight.
+/// The value of a name, if it is in sight.
+#[tactic(auto, using(crate::proofs::Values::unknown, crate::proofs::Values::lent_value, crate::proofs::Values::no_value))]
 fn value_of<'a, L: Ledger>(
     walk: &'a Walk<L>,
-    sight: &Sight,
+    sight: &Sight<'_>,
     name: &str,
-) -> Result<ValueView<'a>, NoValue> {
+) -> Option<ValueView<'a>>
+    ensures { (g : List Name) → AreInSight sight.now g → found_value result ≡ look name.now (sighted (slots_in walk.now) g) }
+{
     let Some(slot) = sight.slot(name) else {
-        return Err(NoValue::Unknown);
+        return None;
     };
     match walk.value(slot) {
-        Some(value) => Ok(value),
-        None => Err(NoValue::Unknown),
+        Some(value) => Some(value),
+        None => None,
     }
 }
 
 /// The number of a name that stands for one.
-fn variable<L: Ledger>(walk: &Walk<L>, sight: &Sight, name: &str) -> Result<i32, NoValue> {
-    match value_of(walk, sight, name)? {
-        ValueView::Number(number) => Ok(number),
-        _ => Err(NoValue::Kind),
+fn variable<L: Ledger>(walk: &Walk<L>, sight: &Sight<'_>, name: &str) -> Result<i32, NoValue>
+    ensures { (g : List Name) → AreInSight sight.now g → told result ≡ and_then (look name.now (sighted (slots_in walk.now) g)) number_in }
+{
+    match value_of(walk, sight, name) {
+        Some(ValueView::Number(number)) => Ok(number),
+        Some(ValueView::Array(_)) | Some(ValueView::Stack(_)) => Err(NoValue::Kind),
+        None => Err(NoValue::Unknown),
     }
 }
 
-/// The element of an array.
-fn element<L: Ledger>(
-    walk: &Walk<L>,
-    sight: &Sight,
+/// The elements of a name that stands for an array.
+fn array<'a, L: Ledger>(
+    walk: &'a Walk<L>,
+    sight: &Sight<'_>,
     name: &str,
-    index: i32,
-) -> Result<i32, NoValue> {
-    let ValueView::Array(items) = value_of(walk, sight, name)? else {
-        return Err(NoValue::Kind);
-    };
+) -> Result<&'a [i32], NoValue>
+    ensures { (g : List Name) → AreInSight sight.now g → found_array result ≡ and_then (look name.now (sighted (slots_in walk.now) g)) array_in }
+{
+    match value_of(walk, sight, name) {
+        Some(ValueView::Array(items)) => Ok(items),
+        Some(ValueView::Number(_)) | Some(ValueView::Stack(_)) => Err(NoValue::Kind),
+        None => Err(NoValue::Unknown),
+    }
+}
+
+/// The values of a name that stands for a stack.
+fn stack<'a, L: Ledger>(
+    walk: &'a Walk<L>,
+    sight: &Sight<'_>,
+    name: &str,
+) -> Result<StackView<'a>, NoValue>
+    ensures { (g : List Name) → AreInSight sight.now g → found_stack result ≡ and_then (look name.now (sighted (slots_in walk.now) g)) stack_in }
+{
+    match value_of(walk, sight, name) {
+        Some(ValueView::Stack(values)) => Ok(values),
+        Some(ValueView::Number(_)) | Some(ValueView::Array(_)) => Err(NoValue::Kind),
+        None => Err(NoValue::Unknown),
+    }
+}
+
+/// The element at an index.
+fn item(items: &[i32], index: i32) -> Result<i32, NoValue>
+    ensures { told result ≡ element items.now index }
+{
     if index < 0 {
         return Err(NoValue::Fault(ValueFault::IndexRange));
     }
@@ -60,56 +101,99 @@ fn element<L: Ledger>(
     }
 }
 
+/// The element of an array at an index.
+fn element(items: Result<&[i32], NoValue>, index: Result<i32, NoValue>) -> Result<i32, NoValue>
+    ensures { told result ≡ and_then (found_array items.entry) (λ l. and_then (told index) (λ k. element l k)) }
+{
+    let items = items?;
+    let index = index?;
+    item(items, index)
+}
+
 /// Whether a stack has no value.
-fn is_empty<L: Ledger>(walk: &Walk<L>, sight: &Sight, name: &str) -> Result<bool, NoValue> {
-    match value_of(walk, sight, name)? {
-        ValueView::Stack(values) => Ok(values.len() == 0),
-        _ => Err(NoValue::Kind),
-    }
+fn emptiness(values: Result<StackView<'_>, NoValue>) -> Result<i32, NoValue>
+    ensures { told result ≡ and_then (found_stack values.entry) (λ l. Fine (wrap (bit (is_none l)))) }
+{
+    let values = values?;
+    Ok(bit_of(values.len() == 0))
 }
 
 /// The newest value of a stack.
-fn top<L: Ledger>(walk: &Walk<L>, sight: &Sight, name: &str) -> Result<i32, NoValue> {
-    let ValueView::Stack(values) = value_of(walk, sight, name)? else {
-        return Err(NoValue::Kind);
-    };
+fn newest(values: Result<StackView<'_>, NoValue>) -> Result<i32, NoValue>
+    ensures { told result ≡ and_then (found_stack values.entry) first }
+{
+    let values = values?;
     if values.len() == 0 {
         return Err(NoValue::Fault(ValueFault::TopEmpty));
     }
     Ok(values.get(0))
 }
 
+/// A number with the other sign.
+fn negated(operand: Result<i32, NoValue>) -> Result<i32, NoValue>
+    ensures { told result ≡ and_then (told operand) (λ v. Fine (wrap (neg_ℤ v))) }
+{
+    Ok(negative(operand?))
+}
+
+/// What an operator makes of two numbers.
+fn combined(
+    operator: Operator,
+    left: Result<i32, NoValue>,
+    right: Result<i32, NoValue>,
+) -> Result<i32, NoValue>
+    ensures { told result ≡ and_then (told left) (λ a. and_then (told right) (λ b. operate_of (operator_of operator) a b)) }
+{
+    let left = left?;
+    let right = right?;
+    match operate(operator, left, right) {
+        Ok(number) => Ok(number),
+        Err(fault) => Err(NoValue::Fault(fault)),
+    }
+}
+
+/// Whether both of two numbers hold as tests; the other is left out where the first doesn't.
+fn both(left: Result<i32, NoValue>, right: Result<i32, NoValue>) -> Result<i32, NoValue>
+    ensures { told result ≡ and_then (told left) (λ a. both_of (nonzero a) (told right)) }
+{
+    let left = left?;
+    if !holds(left) {
+        return Ok(bit_of(false));
+    }
+    Ok(bit_of(holds(right?)))
+}
+
+/// Whether one of two numbers holds as a test; the other is left out where the first does.
+fn either(left: Result<i32, NoValue>, right: Result<i32, NoValue>) -> Result<i32, NoValue>
+    ensures { told result ≡ and_then (told left) (λ a. either_of (nonzero a) (told right)) }
+{
+    let left = left?;
+    if holds(left) {
+        return Ok(bit_of(true));
+    }
+    Ok(bit_of(holds(right?)))
+}
+
 /// The number of an expression over the names in sight, or why it has none.
-pub fn number_of<L: Ledger>(walk: &Walk<L>, sight: &Sight, exp: &Exp) -> Result<i32, NoValue> {
+pub fn number_of<L: Ledger>(walk: &Walk<L>, sight: &Sight<'_>, exp: &Exp) -> Result<i32, NoValue>
+    ensures { (g : List Name) → AreInSight sight.now g → told result ≡ value_of_exp (exp_of exp.now) (sighted (slots_in walk.now) g) }
+{
     match exp {
         Exp::Number(number, _) => Ok(number.cast_signed()),
         Exp::Variable(name) => variable(walk, sight, name.text.as_str()),
-        Exp::Element(name, index) => {
-            let index = number_of(walk, sight, index)?;
-            element(walk, sight, name.text.as_str(), index)
-        }
-        Exp::Empty(name) => Ok(bit_of(is_empty(walk, sight, name.text.as_str())?)),
-        Exp::Top(name) => top(walk, sight, name.text.as_str()),
-        Exp::Negative(operand) => Ok(negative(number_of(walk, sight, operand)?)),
-        Exp::Binary(operator, left, right) => {
-            let left = number_of(walk, sight, left)?;
-            let right = number_of(walk, sight, right)?;
-            match operate(*operator, left, right) {
-                Ok(number) => Ok(number),
-                Err(fault) => Err(NoValue::Fault(fault)),
-            }
-        }
-        Exp::And(left, right) => {
-            if !holds(number_of(walk, sight, left)?) {
-                return Ok(bit_of(false));
-            }
-            Ok(bit_of(holds(number_of(walk, sight, right)?)))
-        }
-        Exp::Or(left, right) => {
-            if holds(number_of(walk, sight, left)?) {
-                return Ok(bit_of(true));
-            }
-            Ok(bit_of(holds(number_of(walk, sight, right)?)))
-        }
+        Exp::Element(name, index) => element(
+            array(walk, sight, name.text.as_str()),
+            number_of(walk, sight, index),
+        ),
+        Exp::Empty(name) => emptiness(stack(walk, sight, name.text.as_str())),
+        Exp::Top(name) => newest(stack(walk, sight, name.text.as_str())),
+        Exp::Negative(operand) => negated(number_of(walk, sight, operand)),
+        Exp::Binary(operator, left, right) => combined(
+            *operator,
+            number_of(walk, sight, left),
+            number_of(walk, sight, right),
+        ),
+        Exp::And(left, right) => both(number_of(walk, sight, left), number_of(walk, sight, right)),
+        Exp::Or(left, right) => either(number_of(walk, sight, left), number_of(walk, sight, right)),
     }
 }

@@ -2,65 +2,46 @@
 ghost use Rattle.std.specs.Prelude.{◌≡◌, ◌+◌, false, IfOk};
 ghost use Rattle.janus_meaning.specs.Writes.{IsWritten};
 ghost use Rattle.kernel_machine.specs.StepsOfSlices.{steps_on, steps_back};
-ghost use Rattle.kernel_runner.specs.Runner.{IsInside, Runs, count_of, writes_of, steps_of};
+ghost use Rattle.kernel_runner.specs.Runner.{Runs, count_of, writes_of, steps_of};
 
-use crate::tables::CellTables;
+use crate::body::{Body, text_of};
 use crate::turning::step_back;
-use kernel_history::{HistoryTree, OpenCell};
+use janus_places::Table;
+use kernel_history::OpenCell;
 use kernel_machine::Progress;
 use std::alloc::{AllocError, Global};
 use std::sync::ledger::Ledger;
-
-/// A cell that ran before the open one: its node, and its places.
-#[derive(Drop)]
-pub(crate) struct Before {
-    pub(crate) node: usize,
-    pub(crate) tables: CellTables,
-}
 
 /// A walk through a cell.
 #[derive(Drop)]
 pub struct Walk<L: Ledger> {
     pub(crate) open: OpenCell<L>,
-    pub(crate) tables: CellTables,
-    /// The cells from the position up to the root.
-    pub(crate) before: Vec<Before>,
-}
-
-/// The places of the cells from the position of a tree up to its root; the only error is want of memory.
-fn cells_before(alloc: Global, tree: &HistoryTree) -> Result<Vec<Before>, AllocError> {
-    let mut all = Vec::new(alloc);
-    let mut node = tree.position;
-    // A parent's number is smaller.
-    for _ in 0..tree.position {
-        if node == 0 || !tree.cells.has(node) {
-            return Ok(all);
-        }
-        let tables = CellTables::of(alloc, tree.cells.content(node).program.cell())?;
-        all.push(Before { node, tables })?;
-        node = tree.cells.parent(node);
-    }
-    Ok(all)
+    /// The places of the cell's own code.
+    pub(crate) block: Table,
+    /// The bodies that were met so far.
+    pub(crate) met: Vec<Body>,
 }
 
 impl<L: Ledger> Walk<L> {
+    ghost use Rattle.std.specs.Prelude.{IfSome};
     ghost use Rattle.steps_walk.specs.Walking.{StepsBack};
-    ghost use Rattle.steps_walk.specs.Walk.{runner_of, program_of, HasTable, IsWalking, Moves};
+    ghost use Rattle.steps_walk.specs.Walk.{runner_of, program_of, tree_of, IsEntered, IsWalking, Moves, KeepsMet};
+    ghost use Rattle.steps_walk.specs.Bodies.{IsMet};
+    ghost use Rattle.steps_walk.specs.Standing.{IsBodyAt};
 
     /// A walk from where the open cell stands; the only error is want of memory.
-    pub fn of(alloc: Global, open: OpenCell<L>) -> Result<Walk<L>, AllocError>
-        requires { IsInside open.runner open.program false }
+    pub fn of(alloc: Global, entered: OpenCell<L>) -> Result<Walk<L>, AllocError>
+        requires { IsEntered entered }
         ensures walks { IfOk result IsWalking }
-        ensures runner { IfOk result (λ walk. runner_of walk ≡ open.runner) }
-        ensures program { IfOk result (λ walk. program_of walk ≡ open.program) }
-        ensures table { IfOk result HasTable }
+        ensures runner { IfOk result (λ walk. runner_of walk ≡ entered.runner) }
+        ensures program { IfOk result (λ walk. program_of walk ≡ entered.program) }
     {
-        let tables = CellTables::of(alloc, &open.program.cell)?;
-        let before = cells_before(alloc, &open.tree)?;
+        entered.runner.entries.one_number_law();
+        let block = Table::of(alloc, &entered.program.cell.statements)?;
         Ok(Walk {
-            open,
-            tables,
-            before,
+            open: entered,
+            block,
+            met: Vec::new(alloc),
         })
     }
 
@@ -96,5 +77,74 @@ impl<L: Ledger> Walk<L> {
         ensures counted { steps_of (runner_of self.new) ≡ steps_of (runner_of self.old) + steps_back (count_of (runner_of self.old)) m }
     {
         step_back(&mut self.open.runner, &self.open.program, m);
+    }
+
+    /// The index of the body that was met of the name of a number.
+    pub(crate) fn body_of(&self, number: usize) -> Option<usize>
+        ensures { IfSome result (IsBodyAt self.now number) }
+    {
+        for k in 0..self.met.len() {
+            if self.met[k].number == number {
+                return Some(k);
+            }
+        }
+        None
+    }
+
+    /// Meets the bodies in which the open calls run, the innermost among them; an error for want of memory, after which some of them are met.
+    #[tactic(auto, using(crate::proofs::Moving::met_none))]
+    pub fn meet_calls(&mut self, alloc: Global) -> Result<(), AllocError>
+        requires { IsWalking self.old }
+        ensures { KeepsMet self.old self.new }
+    {
+        for i in 0..self.open.runner.cursor.open_calls() {
+            let number = self.open.runner.cursor.open_call(i).procedure;
+            self.meet(alloc, number)?;
+        }
+        Ok(())
+    }
+
+    /// Meets the body in which the innermost call runs, if one is open; an error for want of memory.
+    #[tactic(auto, using(crate::proofs::Moving::met_none))]
+    pub fn meet_here(&mut self, alloc: Global) -> Result<(), AllocError>
+        requires { IsWalking self.old }
+        ensures { KeepsMet self.old self.new }
+    {
+        let open = self.open.runner.cursor.open_calls();
+        if open == 0 {
+            return Ok(());
+        }
+        let number = self.open.runner.cursor.open_call(open - 1).procedure;
+        self.meet(alloc, number)
+    }
+
+    /// Meets the body in effect of the name of a number; an error for want of memory.
+    #[tactic(auto, using(crate::proofs::Moving::met_none))]
+    fn meet(&mut self, alloc: Global, number: usize) -> Result<(), AllocError>
+        requires { IsWalking self.old }
+        ensures { KeepsMet self.old self.new }
+    {
+        if self.body_of(number).is_some() {
+            return Ok(());
+        }
+        if let Some(body) = self.made_body(alloc, number)? {
+            self.met.push(body)?;
+        }
+        Ok(())
+    }
+
+    /// What is to be kept of the body in effect of the name of a number; the only error is want of memory.
+    fn made_body(&self, alloc: Global, number: usize) -> Result<Option<Body>, AllocError>
+        requires { IsWalking self.now }
+        ensures { IfOk result (λ made. IfSome made (IsMet (runner_of self.now).entries (program_of self.now) (tree_of self.now))) }
+    {
+        if number >= self.open.runner.entries.len() {
+            return Ok(None);
+        }
+        let name = self.open.runner.entries.name(number);
+        match text_of(&self.open.program, &self.open.tree, name) {
+            Some((node, procedure)) => Ok(Some(Body::of(alloc, number, node, procedure)?)),
+            None => Ok(None),
+        }
     }
 }

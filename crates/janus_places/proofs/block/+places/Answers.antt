@@ -1,12 +1,8 @@
-use Rattle.std.proofs.Common.{refl, ap, ◌∙◌, sym, subst, arith, Some, List, Result, Ok, Err, OnOk, ◌∷◌}
-use Rattle.janus_meaning.specs.Syntax.{Name}
-use Rattle.janus_syntax.specs.declared.tree.Stm as code_stm
+use Rattle.std.proofs.Common.{refl, ap, ◌∙◌, sym, subst, arith, Some}
 use Rattle.janus_syntax.specs.Tree as tree
 use Rattle.janus_syntax.specs.Tree.{name_view, exp_view, stm_view, block_view}
-use Rattle.janus_syntax.specs.View.{name_of}
 use Rattle.janus_syntax.proofs.Views.{view_if, view_loop, view_local_int, view_local_stack}
 use Rattle.janus_places.specs.declared.part.Part.TheVariants as part
-use Rattle.janus_places.specs.declared.part.Branch.TheVariants.{First, Second}
 use Rattle.janus_places.specs.Spots.{Before, After, Enters, Leaves, inside, inner_spots, head_of, tail_of}
 use Rattle.janus_places.specs.Table.{Adds}
 use Rattle.janus_places.proofs.Rows.{both, still, next_statement, last_statement, behind_local, on_ok}

@@ -1,7 +1,7 @@
 use Rattle.std.proofs.Common.{refl, []}
 use Rattle.janus_syntax.specs.Tree.{block_view}
 use Rattle.janus_places.specs.Spots.{Begin, End}
-use Rattle.janus_places.proofs.Rows.{both, still, whole}
+use Rattle.janus_places.proofs.Rows.{both, whole}
 use Rattle.janus_places.proofs.table.Table.of.Goals as goal
 
 pub returns : goal.returns

@@ -1,10 +1,10 @@
-use Rattle.steps_walk.specs.Walk.{with_runner}
-use Rattle.steps_walk.proofs.Moving.{ran, walks}
+use Rattle.steps_walk.proofs.Moving.{ran, walks, moved}
 use Rattle.steps_walk.proofs.walk.Walk.on.Goals as goal
 
 pub returns-clause-moves : goal.returns-clause-moves
-returns-clause-moves g c = ran c.args.self.now c.run.new.self c.args.m c.run.result c.run.ensures.runs
+returns-clause-moves g c = ran c.args.self.now c.run.new.self c.run.ensures.entries c.args.m c.run.result c.run.ensures.runs
 
 pub returns-clause-walks : goal.returns-clause-walks
 returns-clause-walks g c =
-    walks c.args.self.now (with_runner c.args.self.now c.run.new.self) (ran c.args.self.now c.run.new.self c.args.m c.run.result c.run.ensures.runs) c.requires
+    walks c.args.self.now (moved c.args.self.now c.run.new.self c.run.ensures.entries)
+    (ran c.args.self.now c.run.new.self c.run.ensures.entries c.args.m c.run.result c.run.ensures.runs) c.requires

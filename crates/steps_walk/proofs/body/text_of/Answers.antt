@@ -1,0 +1,38 @@
+use Rattle.std.proofs.Common.{◌<◌, sym, ◌∙◌, arith}
+use Rattle.kernel_history.proofs.Nodes.{parent_there, count_of_nodes}
+use Rattle.steps_walk.proofs.Bodies.{found_here, none_here, found_there, none_there}
+use Rattle.steps_walk.proofs.body.text_of.Goals as goal
+
+pub returns-in-Some : goal.returns-in-Some
+returns-in-Some c =
+    found_here c.args.program.now c.args.tree.now c.args.name.now c.in-Some.procedure.now (rw c.deref.ensures.value at c.in-Some.ensures.some)
+
+pub loop-at-init : goal.loop-at-init
+loop-at-init c =
+    let size = count_of_nodes c.args.tree.now in
+    let known = c.requires.position in
+    (omega (arith, size, known), none_here c.args.program.now c.args.tree.now c.args.name.now (rw c.deref.ensures.value at c.in_default.ensures.none))
+
+pub returns-in-Some-newest : goal.returns-in-Some-newest
+returns-in-Some-newest c =
+    let tree = c.args.tree.now in
+    let n = c.loop-at.at in
+    let test = c.loop-at-test.true in
+    let some : 0 < n = omega (arith, test) in
+    found_there c.args.program.now tree c.args.name.now c.requires n c.content.result.now some c.loop-at.invariant.0 (some, c.content.ensures) _
+    (sym (parent_there tree n)) c.loop-at.invariant.1 c.in-Some-newest.procedure.now
+    (rw c.deref-in-loop-at.ensures.value at c.in-Some-newest.ensures.some)
+
+pub loop-at-preserved : goal.loop-at-preserved
+loop-at-preserved c =
+    let tree = c.args.tree.now in
+    let n = c.loop-at.at in
+    let test = c.loop-at-test.true in
+    let some : 0 < n = omega (arith, test) in
+    let known = c.loop-at.invariant.0 in
+    let low = c.parent-at.ensures.before some in
+    let none = rw c.deref-in-loop-at.ensures.value at c.in_default-newest.ensures.none in (
+      omega (arith, low, known),
+      none_there c.args.program.now tree c.args.name.now c.requires n c.content.result.now some known (some, c.content.ensures) c.parent-at.result
+          (c.parent-at.ensures.parent ∙ sym (parent_there tree n)) c.loop-at.invariant.1 none,
+    )

@@ -1,0 +1,13 @@
+use Rattle.std.proofs.Common.{subst}
+use Rattle.steps_walk.specs.Standing.{IsCodeAt}
+use Rattle.steps_walk.proofs.Standing.{tells}
+use Rattle.steps_walk.proofs.walk.Walk.stand.Goals as goal
+
+pub returns : goal.returns
+returns g c =
+    let w = c.args.self.now in
+    let level = c.in_ok-level.level in
+    let told = c.in_ok-level.ensures in
+    let found = c.in_ok-spot.ensures in
+    tells w level c.in_ok-spot.spot (told.here c.open_calls.ensures) (subst (λ i. IsCodeAt w i level.body) c.open_calls.ensures told.code) told.node found.0
+    found.1 found.2
