@@ -7,7 +7,7 @@ ghost use Rattle.std.specs.Prelude.{◌≡◌, ◌<◌};
 use crate::pinging::Pinging;
 use kernel_board::Broadcast;
 use kernel_iopub::{
-    Bulletin, PREFIX_LIMIT, PREFIX_OCTET_LIMIT, Subscriber, SubscriberFault, hear, speak,
+    Bulletin, PREFIX_LIMIT, PREFIX_OCTET_LIMIT, Subscriber, SubscriberFault, Unwatched, hear, speak,
 };
 use std::alloc::{AllocError, Global};
 use std::marker::Brand;
@@ -123,7 +123,13 @@ fn hear_row<L: Ledger, R: Wait>(rt: &R, connected: &Connected<L>, row: &str, she
     match octets_of(sheet.alloc(), row) {
         Ok(octets) => {
             let mut reader = octets.as_slice();
-            let ended = hear(rt, &connected.bulletin, &connected.shared, &mut reader);
+            let ended = hear(
+                rt,
+                &connected.bulletin,
+                &connected.shared,
+                &mut reader,
+                &mut Unwatched,
+            );
             tell_ended(ended, sheet);
         }
         Err(_) => sheet.refuse(),
@@ -151,7 +157,15 @@ fn speak_out<L: Ledger, R: Wait>(rt: &R, connected: &mut Connected<L>, sheet: &m
         shared,
         share,
     } = connected;
-    let ended = speak(rt, alloc, bulletin, shared, share, &mut written);
+    let ended = speak(
+        rt,
+        alloc,
+        bulletin,
+        shared,
+        share,
+        &mut written,
+        &mut Unwatched,
+    );
     tell_spoken(ended, &written, sheet);
 }
 
@@ -193,7 +207,15 @@ fn speak_amid<L: Ledger, R: Wait>(
         at,
         sent,
     };
-    let ended = speak(rt, alloc, bulletin, shared, share, &mut writer);
+    let ended = speak(
+        rt,
+        alloc,
+        bulletin,
+        shared,
+        share,
+        &mut writer,
+        &mut Unwatched,
+    );
     tell_spoken(ended, &writer.written, sheet);
 }
 
