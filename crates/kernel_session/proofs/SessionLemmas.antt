@@ -65,10 +65,10 @@ module _ {W D V : Type 0} (contents : W → Option (List ℕ)) (leads : D → Ca
 
 module _ {W D V : Type 0} (contents : W → Option (List ℕ)) (leads : D → Call → D → Type 0) (notices : V → Option (List Notice))
     (socket : Socket) (key : List ℕ) where
-  abbrev pub DoneAll : List Action → W → W → D → D → State → State → List Event → Type 0
+  abbrev pub DoneAll : List Action → W → W → D → D → V → V → State → State → List Event → Type 0
   DoneAll before w w' d d' v v' s s' es = Whole contents leads notices socket key before w w' d d' v v' s s' es
 
-  abbrev pub DonePart : List Action → W → W → D → D → State → List Event → Type 0
+  abbrev pub DonePart : List Action → W → W → D → D → V → V → State → List Event → Type 0
   DonePart before w w' d d' v v' s es = Cut contents leads notices socket key before w w' d d' v v' s es
 
   -- no event

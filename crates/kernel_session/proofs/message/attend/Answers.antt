@@ -1,6 +1,14 @@
+use Rattle.std.proofs.Common.{◌+◌, ◌<◌, [], inr, refl, arith}
+use Rattle.kernel_session.proofs.ActsLemmas.{told_none}
 use Rattle.kernel_session.proofs.EventLemmas.{attended, attended_part}
-use Rattle.kernel_session.proofs.RequestLemmas.{on_fail}
 use Rattle.kernel_session.proofs.message.attend.Goals as goal
+
+pub returns-then-stamp-gt-LAST_NEXT-clause-ok : goal.returns-then-stamp-gt-LAST_NEXT-clause-ok
+returns-then-stamp-gt-LAST_NEXT-clause-ok g c = (
+  [],
+  told_none g.W.Write.contents g.D.Desk.leads g.V.Watcher.notices c.args.writer.now c.args.desk.now c.args.watcher.now,
+  inr record { past = omega (arith, c.if-stamp-gt-LAST_NEXT.true); quiet = refl; worn = refl },
+)
 
 pub returns-in-Ok-clause-ok : goal.returns-in-Ok-clause-ok
 returns-in-Ok-clause-ok g c =
