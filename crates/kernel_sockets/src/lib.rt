@@ -9,9 +9,9 @@
 //! Who that is [`who_makes_room`] answers, by specs/Room.antt: of those whose time is over one that is not ready, else a stranger, and else who showed the
 //! key and has been silent for long with no request under way; of a class the one that has been silent longest. What strangers bring is counted by
 //! [`Strangers`]: each has its own share, and past their shares they bring no more together than [`COMMON_OCTETS`]. A place has an [`Allowance`] for each
-//! connection that it serves, whose [`Account`] counts what comes on it by a [`Share`] and can't be let go of: it is given back, and the types keep that the count is the sum of what the shares
-//! have, so that one which is given back is counted no longer. The time of a message that is written begins with its first piece and stays with the
-//! others ([`Patience`]).
+//! connection that it serves, whose [`Account`] counts what comes on it by a [`Share`] and can't be let go of: it is given back, and the types keep that
+//! the count is the sum of what the shares have, so that one which is given back is counted no longer. The time of a message that is written begins with its
+//! first piece and stays with the others ([`Patience`]).
 //!
 //! To the layer above this crate promises that rule, that count, that time and safety: no clause can say what a socket does. The register under the
 //! lock is exact on what it is lent ([`Connections`] is that register under a lock). It stands on no other crate of the kernel.
