@@ -1,5 +1,6 @@
 -- Turns that go out one after another.
 use Rattle.std.proofs.Common.{◌≡◌, ℕ, ◌+◌, inl, inr, List, [], ◌∷◌, ◌++◌, length, map, Option, Some, None, refl, sym, ap, ◌∙◌, subst, append_assoc, append-nil}
+use Rattle.std.proofs.Common.{Result, Ok, Err, OnOk}
 use Rattle.std.specs.List.{flat_map}
 use Rattle.std.specs.Option.{option_or}
 use Rattle.std.proofs.lemmas.Grind.{flat_map-append}
@@ -34,6 +35,12 @@ shown b = refl
 
 answered : (context : List ℕ) → outgoing_signs (Pong context) ≡ pong_signs context
 answered context = refl
+
+-- all that were taken were answered
+pub answered_all : {E : Type 0} (r : Result (Unit {0}) E) (taken behind : ℕ) (a b : Gone) (contexts : List (List ℕ)) → WereAsked taken contexts
+    → behind ≡ taken + length contexts → OnOk r (Goes a b (flat_map pong_signs contexts)) → OnOk r (AreAnswered taken a b behind)
+answered_all (Ok done) taken behind a b contexts asked count p = (contexts, asked, count, p)
+answered_all (Err fault) taken behind a b contexts asked count p = tt
 
 -- ---- the broadcasts of a round, and the answers before each of them
 
