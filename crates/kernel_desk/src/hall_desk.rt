@@ -14,7 +14,6 @@ use stamp_texts::present_date;
 use std::alloc::{AllocError, Global};
 use std::marker::Model;
 use std::sync::Wait;
-use std::sync::atomic::{AtomicBool, Ordering};
 use std::sync::ledger::Ledger;
 use std::time::Clock;
 
@@ -29,8 +28,6 @@ pub struct HallDesk<'a, W: Ledger, L: HistoryName, R: Wait + Clock> {
     /// Where the next broadcast is read.
     place: Place,
     was_shut: bool,
-    /// Where it is noted that a message with a valid signature came.
-    trusted: &'a AtomicBool,
 }
 
 impl<'a, W: Ledger, L: HistoryName, R: Wait + Clock> Model for HallDesk<'a, W, L, R> {
@@ -46,15 +43,13 @@ impl<'a, W: Ledger, L: HistoryName, R: Wait + Clock> Model for HallDesk<'a, W, L
 }
 
 impl<'a, W: Ledger, L: HistoryName, R: Wait + Clock> HallDesk<'a, W, L, R> {
-    /// The desk of a pass of the hall and a seat of its bell. It reads the broadcasts that are published from now on, and notes at `trusted` that a
-    /// message with a valid signature came.
+    /// The desk of a pass of the hall and a seat of its bell. It reads the broadcasts that are published from now on.
     pub fn new(
         rt: &'a R,
         hall: &'a Hall<W, L>,
         bulletin: &'a Bulletin,
         pass: Pass<L>,
         seat: RingerSeat,
-        trusted: &'a AtomicBool,
     ) -> HallDesk<'a, W, L, R>
         requires own { seat.bell ≡ hall.now }
         ensures pass { result.pass ≡ pass }
@@ -69,7 +64,6 @@ impl<'a, W: Ledger, L: HistoryName, R: Wait + Clock> HallDesk<'a, W, L, R> {
             seat,
             place: bulletin.join(rt),
             was_shut: false,
-            trusted,
         }
     }
 
@@ -177,8 +171,6 @@ impl<W: Ledger, L: HistoryName, R: Wait + Clock> Desk for HallDesk<'_, W, L, R> 
 
     /// The present date, where its year is 0 to 9999; else the date stays.
     fn date(&mut self, stamp: &mut Stamp) {
-        // A date is asked for each request whose signature is valid, and for nothing else.
-        self.trusted.store(true, Ordering::SeqCst);
         let Some(date) = present_date(self.rt) else {
             return;
         };

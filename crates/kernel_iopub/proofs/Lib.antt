@@ -1,3 +1,4 @@
 mod RoundLemmas
 mod FedLemmas
 mod ServedLemmas
+mod SignLemmas

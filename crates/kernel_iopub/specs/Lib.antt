@@ -1,2 +1,3 @@
 pub mod Pings
 pub mod Round
+pub mod Signs

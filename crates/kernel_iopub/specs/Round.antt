@@ -1,10 +1,6 @@
--- What goes out to a subscriber: messages of broadcasts that were read from the board, and answers to its pings.
+-- What goes out to a subscriber: messages of broadcasts that were read from the board, and answers to its pings, each of which the watcher is told.
 use Rattle.std.specs.Prelude.{◌≡◌, ℕ, ◌+◌, ◌⊎◌, List, [], ◌∷◌, ◌++◌, length, map, Option, Some, None}
 use Rattle.std.specs.List.{flat_map}
-use Rattle.std.specs.Io.KnownBytes.{Appends}
-use Rattle.exact_write.specs.Sent.{SentSome}
-use Rattle.zmtp_wire.specs.Message.{message_octets}
-use Rattle.zmtp_wire.specs.Pong.{pong_octets}
 use Rattle.zmtp_peer.specs.declared.role.Role.TheVariants.{Pub}
 use Rattle.zmtp_peer.specs.Events.{Event}
 use Rattle.zmtp_peer.specs.Reading.{PeerState, Stands}
@@ -16,6 +12,7 @@ use Rattle.kernel_board.specs.declared.log.Place.{Place}
 use Rattle.kernel_board.specs.declared.log.Read.{Read}
 use Rattle.kernel_board.specs.declared.log.Read.TheVariants.{Got, Lagged}
 use Rattle.kernel_iopub.specs.Pings.{WereAsked}
+use Rattle.kernel_iopub.specs.Signs.{Sign, Gone, Goes, GoesSome, message_signs, pong_signs}
 
 -- those of the broadcasts to which a peer has subscribed by these events, in their order
 abbrev pub AreWanted : List Event → List Frames → List Frames → Type 0
@@ -57,9 +54,9 @@ pub data Outgoing : Type 0 where
   Shown : Frames → Outgoing
   Pong : List ℕ → Outgoing
 
-abbrev pub outgoing_octets : Outgoing → List ℕ
-outgoing_octets (Shown frames) = message_octets frames
-outgoing_octets (Pong context) = pong_octets context
+abbrev pub outgoing_signs : Outgoing → List Sign
+outgoing_signs (Shown frames) = message_signs frames
+outgoing_signs (Pong context) = pong_signs context
 
 -- These broadcasts in turn. Before each of them go the answers to all pings that some peer had asked by behind and that were not taken before, in their
 -- order: `taken` were taken before the first one, and `behind` behind the last.
@@ -70,32 +67,32 @@ AreTold taken (b ∷ bs) out behind =
     × (out ≡ map Pong contexts ++ Shown b ∷ rest)
 
 -- they went out so, each whole
-abbrev pub AreToldTo : ℕ → Option (List ℕ) → Option (List ℕ) → List Frames → ℕ → Type 0
-AreToldTo taken old new bs behind = (out : List Outgoing) × AreTold taken bs out behind × Appends old new (flat_map outgoing_octets out)
+abbrev pub AreToldTo : ℕ → Gone → Gone → List Frames → ℕ → Type 0
+AreToldTo taken old new bs behind = (out : List Outgoing) × AreTold taken bs out behind × Goes old new (flat_map outgoing_signs out)
 
--- a beginning of the octets of that went out, for all of them or for the first ones
-abbrev pub AreToldInPart : ℕ → Option (List ℕ) → Option (List ℕ) → List Frames → Type 0
+-- a beginning of the signs of that, for all of them or for the first ones
+abbrev pub AreToldInPart : ℕ → Gone → Gone → List Frames → Type 0
 AreToldInPart taken old new bs =
     (front later : List Frames) × (bs ≡ front ++ later)
-    × (behind : ℕ) × (out : List Outgoing) × AreTold taken front out behind × SentSome old new (flat_map outgoing_octets out)
+    × (behind : ℕ) × (out : List Outgoing) × AreTold taken front out behind × GoesSome old new (flat_map outgoing_signs out)
 
 -- what goes out of a round: all that is kept
-abbrev pub IsSent : ℕ → Option (List ℕ) → Option (List ℕ) → ℕ → ℕ → ℕ → Type 0
+abbrev pub IsSent : ℕ → Gone → Gone → ℕ → ℕ → ℕ → Type 0
 IsSent taken old new from next behind = (kept : List Frames) × IsRound from next kept × AreToldTo taken old new kept behind
 
 -- what goes out of a round that fails: nothing, or a beginning of that
-abbrev pub IsSentInPart : ℕ → Option (List ℕ) → Option (List ℕ) → ℕ → Type 0
-IsSentInPart taken old new from = Appends old new [] ⊎ ((next : ℕ) × (kept : List Frames) × IsRound from next kept × AreToldInPart taken old new kept)
+abbrev pub IsSentInPart : ℕ → Gone → Gone → ℕ → Type 0
+IsSentInPart taken old new from = Goes old new [] ⊎ ((next : ℕ) × (kept : List Frames) × IsRound from next kept × AreToldInPart taken old new kept)
 
 -- what goes out where pings are answered: the answers to all that some peer had asked and that were not taken before
-abbrev pub AreAnswered : ℕ → Option (List ℕ) → Option (List ℕ) → ℕ → Type 0
+abbrev pub AreAnswered : ℕ → Gone → Gone → ℕ → Type 0
 AreAnswered taken old new behind =
-    (contexts : List (List ℕ)) × WereAsked taken contexts × (behind ≡ taken + length contexts) × Appends old new (flat_map pong_octets contexts)
+    (contexts : List (List ℕ)) × WereAsked taken contexts × (behind ≡ taken + length contexts) × Goes old new (flat_map pong_signs contexts)
 
 -- where that fails: nothing, or a beginning of that
-abbrev pub AreAnsweredInPart : ℕ → Option (List ℕ) → Option (List ℕ) → Type 0
+abbrev pub AreAnsweredInPart : ℕ → Gone → Gone → Type 0
 AreAnsweredInPart taken old new =
-    Appends old new [] ⊎ ((contexts : List (List ℕ)) × WereAsked taken contexts × SentSome old new (flat_map pong_octets contexts))
+    Goes old new [] ⊎ ((contexts : List (List ℕ)) × WereAsked taken contexts × GoesSome old new (flat_map pong_signs contexts))
 
 -- ---- all that goes out
 
@@ -116,19 +113,19 @@ number_at None = None
 number_at (Some place) = Some place.number
 
 -- what goes out of all turns so far, whole and in order
-abbrev pub AreSentTo : ℕ → Option (List ℕ) → Option (List ℕ) → Option Place → ℕ → Type 0
-AreSentTo taken old new at behind = (out : List Outgoing) × AreTurns taken (number_at at) behind out × Appends old new (flat_map outgoing_octets out)
+abbrev pub AreSentTo : ℕ → Gone → Gone → Option Place → ℕ → Type 0
+AreSentTo taken old new at behind = (out : List Outgoing) × AreTurns taken (number_at at) behind out × Goes old new (flat_map outgoing_signs out)
 
 -- WHAT HAS GONE OUT to a subscriber: the messages of all that is kept of rounds, and between them the answers to its pings.
-abbrev pub IsServed : ℕ → Option (List ℕ) → Option (List ℕ) → ℕ → Type 0
+abbrev pub IsServed : ℕ → Gone → Gone → ℕ → Type 0
 IsServed taken old new behind = (at : Option Place) × AreSentTo taken old new at behind
 
 -- of the turn behind those nothing went out, or a beginning
-abbrev pub IsTurnInPart : ℕ → Option (List ℕ) → Option (List ℕ) → Option Place → Type 0
+abbrev pub IsTurnInPart : ℕ → Gone → Gone → Option Place → Type 0
 IsTurnInPart taken old new at =
     AreAnsweredInPart taken old new ⊎ ((from : Place) × (at ≡ Some from) × IsSentInPart taken old new from.number)
 
 -- what has gone out to one where the last turn failed: all turns before it, whole, and nothing of it or a beginning
-abbrev pub IsServedInPart : ℕ → Option (List ℕ) → Option (List ℕ) → Type 0
+abbrev pub IsServedInPart : ℕ → Gone → Gone → Type 0
 IsServedInPart taken old new =
-    (mid : Option (List ℕ)) × (at : Option Place) × (behind : ℕ) × AreSentTo taken old mid at behind × IsTurnInPart behind mid new at
+    (mid : Gone) × (at : Option Place) × (behind : ℕ) × AreSentTo taken old mid at behind × IsTurnInPart behind mid new at

@@ -1,20 +1,21 @@
 //! The two halves of a subscriber's connection.
-ghost use Rattle.std.specs.Prelude.{◌≡◌, ◌<◌, ℕ, List, [], ◌∷◌, Option, IfOk, OnOk, OnErr};
+ghost use Rattle.std.specs.Prelude.{◌≡◌, ◌<◌, ℕ, Bool, true, [], ◌∷◌, IfOk, OnOk, OnErr, if◌then◌else◌};
 ghost use Rattle.std.specs.List.{flat_map};
-ghost use Rattle.std.specs.Io.KnownBytes.{Appends};
 ghost use Rattle.zmtp_wire.specs.Message.{bodies_of};
-ghost use Rattle.zmtp_wire.specs.Pong.{pong_octets};
-ghost use Rattle.exact_write.specs.Sent.{SentSome};
+ghost use Rattle.kernel_watch.specs.Hears.{Hears};
+ghost use Rattle.kernel_iopub.specs.Signs.{Gone, Goes, GoesSome, gone, pong_signs, ready_notices};
 ghost use Rattle.kernel_iopub.specs.Round.{AreToldTo, AreToldInPart, IsSent, IsSentInPart, AreSentTo, IsServed, IsServedInPart, AreAnswered, AreAnsweredInPart};
 
 use crate::bulletin::Bulletin;
 use crate::fault::SubscriberFault;
+use crate::news::News;
 use crate::send::{send_broadcast, send_pong};
 use crate::subscriber::{
     PREFIX_LIMIT, PREFIX_OCTET_LIMIT, Subscriber, fall_silent, look, note_answered, take,
     take_pings, wanted,
 };
 use kernel_board::{Broadcast, Place, Read as BoardRead};
+use kernel_watch::{Notice, Watcher};
 use std::alloc::Global;
 use std::io::{Read, Write};
 use std::sync::ledger::{Ledger, Share};
@@ -30,13 +31,38 @@ const FRAME_OCTETS: usize = 32;
 /// to, once to subscribe and once to cancel, by messages or by commands.
 const HEARD_OCTET_LIMIT: usize = 2 * (PREFIX_OCTET_LIMIT + FRAME_OCTETS * (PREFIX_LIMIT as usize));
 
-/// Feeds the peer all that comes, up to the end of the input.
-fn hear_all<L: Ledger, R: Wait, I: Read>(
+/// Tells that the handshake is over, where it is now and was not before. Whether it is.
+fn tell_ready<V: Watcher>(watcher: &mut V, was_ready: bool, is_ready: bool) -> bool
+    ensures ready { result ≡ (if was_ready then true else is_ready) }
+    ensures told { Hears (V.notices watcher.old) (V.notices watcher.new) (if was_ready then [] else ready_notices is_ready) }
+{
+    if was_ready {
+        return true;
+    }
+    if is_ready {
+        watcher.tell(Notice::Ready);
+    }
+    is_ready
+}
+
+/// Wakes the writers where a peer is ready or has sent pings. What else it sends, as that it subscribes, is nothing to wake those of all connections for.
+fn wake_for<R: Wait>(rt: &R, bulletin: &Bulletin, news: News) {
+    if news.is_ready || news.pings > 0 {
+        bulletin.event_count().raise(rt);
+    }
+}
+
+/// Feeds the peer all that comes, up to the end of the input. The watcher is told once, or never, that the handshake is over, and nothing else.
+fn hear_all<L: Ledger, R: Wait, I: Read, V: Watcher>(
     rt: &R,
     bulletin: &Bulletin,
     shared: &Mutex<Subscriber<L>>,
     reader: &mut I,
-) -> Result<(), SubscriberFault> {
+    watcher: &mut V,
+) -> Result<(), SubscriberFault>
+    ensures told { (is_ready : Bool) × Hears (V.notices watcher.old) (V.notices watcher.new) (ready_notices is_ready) }
+{
+    let mut is_ready = false;
     let mut room = [0u8; READ_OCTETS];
     let mut heard: usize = 0;
     for _ in 0..u64::MAX {
@@ -50,41 +76,67 @@ fn hear_all<L: Ledger, R: Wait, I: Read>(
             return Err(SubscriberFault::TooMuch);
         }
         let news = take(rt, bulletin, shared, &room[..count])?;
+        is_ready = tell_ready(watcher, is_ready, news.is_ready);
         heard = heard.saturating_sub(news.ping_octets);
-        // What else it sends, as that it subscribes, is nothing to wake the writers of all connections for.
-        if news.is_ready || news.pings > 0 {
-            bulletin.event_count().raise(rt);
-        }
+        wake_for(rt, bulletin, news);
     }
     Err(SubscriberFault::Read)
 }
 
-/// The reading half: it feeds the peer all that comes, and then tells the other half that nothing more does.
-pub fn hear<L: Ledger, R: Wait, I: Read>(
+/// The reading half: it feeds the peer all that comes, and then tells the other half that nothing more does. The watcher is told that the handshake is
+/// over, once it is, and nothing else.
+pub fn hear<L: Ledger, R: Wait, I: Read, V: Watcher>(
     rt: &R,
     bulletin: &Bulletin,
     shared: &Mutex<Subscriber<L>>,
     reader: &mut I,
-) -> Result<(), SubscriberFault> {
-    let heard = hear_all(rt, bulletin, shared, reader);
+    watcher: &mut V,
+) -> Result<(), SubscriberFault>
+    ensures told { (is_ready : Bool) × Hears (V.notices watcher.old) (V.notices watcher.new) (ready_notices is_ready) }
+{
+    let heard = hear_all(rt, bulletin, shared, reader, watcher);
     fall_silent(rt, shared);
     bulletin.event_count().raise(rt);
     heard
 }
 
-/// Writes answers to pings in turn: all of them, or some and a beginning of the next.
-fn send_pongs<L: Ledger, R: Wait, W: Write>(
+/// Writes the answer to a ping, and tells so once it is out; or a beginning of it.
+fn send_answer<W: Write, V: Watcher>(
+    alloc: Global,
+    writer: &mut W,
+    watcher: &mut V,
+    context: &[u8],
+) -> Result<(), SubscriberFault>
+    ensures ok { OnOk result (Goes (gone (W.contents writer.old) (V.notices watcher.old)) (gone (W.contents writer.new) (V.notices watcher.new))
+        (pong_signs context.now)) }
+    ensures err { OnErr result (GoesSome (gone (W.contents writer.old) (V.notices watcher.old)) (gone (W.contents writer.new) (V.notices watcher.new))
+        (pong_signs context.now)) }
+{
+    match send_pong(alloc, writer, context) {
+        Ok(()) => {
+            watcher.tell(Notice::answered(context));
+            Ok(())
+        }
+        Err(fault) => Err(fault),
+    }
+}
+
+/// Writes answers to pings in turn, and tells of each: all of them, or some and a beginning of the next.
+fn send_pongs<L: Ledger, R: Wait, W: Write, V: Watcher>(
     rt: &R,
     alloc: Global,
     shared: &Mutex<Subscriber<L>>,
     writer: &mut W,
+    watcher: &mut V,
     contexts: &[Vec<u8>],
 ) -> Result<(), SubscriberFault>
-    ensures ok { OnOk result (Appends (W.contents writer.old) (W.contents writer.new) (flat_map pong_octets (bodies_of contexts.now))) }
-    ensures err { OnErr result (SentSome (W.contents writer.old) (W.contents writer.new) (flat_map pong_octets (bodies_of contexts.now))) }
+    ensures ok { OnOk result (Goes (gone (W.contents writer.old) (V.notices watcher.old))
+        (gone (W.contents writer.new) (V.notices watcher.new)) (flat_map pong_signs (bodies_of contexts.now))) }
+    ensures err { OnErr result (GoesSome (gone (W.contents writer.old) (V.notices watcher.old))
+        (gone (W.contents writer.new) (V.notices watcher.new)) (flat_map pong_signs (bodies_of contexts.now))) }
 {
     for context in contexts {
-        match send_pong(alloc, writer, context) {
+        match send_answer(alloc, writer, watcher, context) {
             Ok(()) => note_answered(rt, shared),
             Err(fault) => return Err(fault),
         }
@@ -93,39 +145,46 @@ fn send_pongs<L: Ledger, R: Wait, W: Write>(
 }
 
 /// Answers the pings that wait, all of them.
-fn answer<L: Ledger, R: Wait, W: Write>(
+#[tactic(auto, using(crate::proofs::SignLemmas::goes_none))]
+fn answer<L: Ledger, R: Wait, W: Write, V: Watcher>(
     rt: &R,
     alloc: Global,
     shared: &Mutex<Subscriber<L>>,
     share: &mut Share<L>,
     writer: &mut W,
+    watcher: &mut V,
 ) -> Result<(), SubscriberFault>
     requires share { (share.old.parts ≡ L.parts) × (0 < share.old.parts) }
-    ensures ok { OnOk result (AreAnswered share.old.amount (W.contents writer.old) (W.contents writer.new) share.new.amount) }
-    ensures err { OnErr result (AreAnsweredInPart share.old.amount (W.contents writer.old) (W.contents writer.new)) }
+    ensures ok { OnOk result (AreAnswered share.old.amount (gone (W.contents writer.old) (V.notices watcher.old))
+        (gone (W.contents writer.new) (V.notices watcher.new)) share.new.amount) }
+    ensures err { OnErr result (AreAnsweredInPart share.old.amount (gone (W.contents writer.old) (V.notices watcher.old))
+        (gone (W.contents writer.new) (V.notices watcher.new))) }
     ensures parts { share.new.parts ≡ share.old.parts }
 {
     match take_pings(rt, shared, share) {
-        Ok(contexts) => send_pongs(rt, alloc, shared, writer, &contexts),
+        Ok(contexts) => send_pongs(rt, alloc, shared, writer, watcher, &contexts),
         Err(fault) => Err(fault),
     }
 }
 
 /// Answers the pings that wait, all of them, and then writes a broadcast.
-fn send_next<L: Ledger, R: Wait, W: Write>(
+fn send_next<L: Ledger, R: Wait, W: Write, V: Watcher>(
     rt: &R,
     alloc: Global,
     shared: &Mutex<Subscriber<L>>,
     share: &mut Share<L>,
     writer: &mut W,
+    watcher: &mut V,
     broadcast: &Broadcast,
 ) -> Result<(), SubscriberFault>
     requires share { (share.old.parts ≡ L.parts) × (0 < share.old.parts) }
-    ensures ok { OnOk result (AreToldTo share.old.amount (W.contents writer.old) (W.contents writer.new) (broadcast.now ∷ []) share.new.amount) }
-    ensures err { OnErr result (AreToldInPart share.old.amount (W.contents writer.old) (W.contents writer.new) (broadcast.now ∷ [])) }
+    ensures ok { OnOk result (AreToldTo share.old.amount (gone (W.contents writer.old) (V.notices watcher.old))
+        (gone (W.contents writer.new) (V.notices watcher.new)) (broadcast.now ∷ []) share.new.amount) }
+    ensures err { OnErr result (AreToldInPart share.old.amount (gone (W.contents writer.old) (V.notices watcher.old))
+        (gone (W.contents writer.new) (V.notices watcher.new)) (broadcast.now ∷ [])) }
     ensures parts { share.new.parts ≡ share.old.parts }
 {
-    match answer(rt, alloc, shared, share, writer) {
+    match answer(rt, alloc, shared, share, writer, watcher) {
         Ok(()) => {}
         Err(fault) => return Err(fault),
     }
@@ -136,21 +195,24 @@ fn send_next<L: Ledger, R: Wait, W: Write>(
 }
 
 /// Writes broadcasts in turn, and before each answers the pings that wait then: all of it, or a beginning.
-fn send_all<L: Ledger, R: Wait, W: Write>(
+fn send_all<L: Ledger, R: Wait, W: Write, V: Watcher>(
     rt: &R,
     alloc: Global,
     shared: &Mutex<Subscriber<L>>,
     share: &mut Share<L>,
     writer: &mut W,
+    watcher: &mut V,
     broadcasts: &[Broadcast],
 ) -> Result<(), SubscriberFault>
     requires share { (share.old.parts ≡ L.parts) × (0 < share.old.parts) }
-    ensures ok { OnOk result (AreToldTo share.old.amount (W.contents writer.old) (W.contents writer.new) broadcasts.now share.new.amount) }
-    ensures err { OnErr result (AreToldInPart share.old.amount (W.contents writer.old) (W.contents writer.new) broadcasts.now) }
+    ensures ok { OnOk result (AreToldTo share.old.amount (gone (W.contents writer.old) (V.notices watcher.old))
+        (gone (W.contents writer.new) (V.notices watcher.new)) broadcasts.now share.new.amount) }
+    ensures err { OnErr result (AreToldInPart share.old.amount (gone (W.contents writer.old) (V.notices watcher.old))
+        (gone (W.contents writer.new) (V.notices watcher.new)) broadcasts.now) }
     ensures parts { share.new.parts ≡ share.old.parts }
 {
     for broadcast in broadcasts {
-        match send_next(rt, alloc, shared, share, writer, broadcast) {
+        match send_next(rt, alloc, shared, share, writer, watcher, broadcast) {
             Ok(()) => {}
             Err(fault) => return Err(fault),
         }
@@ -160,18 +222,22 @@ fn send_all<L: Ledger, R: Wait, W: Write>(
 
 /// Reads the board once from a place, and writes what the peer wants of that, and before each message answers to pings: all of it, or a beginning where it
 /// fails. The place behind it.
-fn write_from<L: Ledger, R: Wait, W: Write>(
+#[tactic(auto, using(crate::proofs::SignLemmas::goes_none))]
+fn write_from<L: Ledger, R: Wait, W: Write, V: Watcher>(
     rt: &R,
     alloc: Global,
     bulletin: &Bulletin,
     shared: &Mutex<Subscriber<L>>,
     share: &mut Share<L>,
     writer: &mut W,
+    watcher: &mut V,
     place: Place,
 ) -> Result<Place, SubscriberFault>
     requires share { (share.old.parts ≡ L.parts) × (0 < share.old.parts) }
-    ensures ok { IfOk result (λ next. IsSent share.old.amount (W.contents writer.old) (W.contents writer.new) place.number next.number share.new.amount) }
-    ensures err { OnErr result (IsSentInPart share.old.amount (W.contents writer.old) (W.contents writer.new) place.number) }
+    ensures ok { IfOk result (λ next. IsSent share.old.amount (gone (W.contents writer.old) (V.notices watcher.old))
+        (gone (W.contents writer.new) (V.notices watcher.new)) place.number next.number share.new.amount) }
+    ensures err { OnErr result (IsSentInPart share.old.amount (gone (W.contents writer.old) (V.notices watcher.old))
+        (gone (W.contents writer.new) (V.notices watcher.new)) place.number) }
     ensures parts { share.new.parts ≡ share.old.parts }
 {
     match bulletin.read_from(rt, place) {
@@ -179,7 +245,7 @@ fn write_from<L: Ledger, R: Wait, W: Write>(
         Ok(BoardRead::Lagged(_)) => Err(SubscriberFault::Lagged),
         Ok(BoardRead::Got(broadcasts, next)) => {
             let kept = wanted(rt, alloc, shared, &broadcasts)?;
-            match send_all(rt, alloc, shared, share, writer, &kept) {
+            match send_all(rt, alloc, shared, share, writer, watcher, &kept) {
                 Ok(()) => Ok(next),
                 Err(fault) => Err(fault),
             }
@@ -188,56 +254,60 @@ fn write_from<L: Ledger, R: Wait, W: Write>(
 }
 
 /// One round more, from where the last one ended, if there is a place to read from. The place behind it.
-fn go_on<L: Ledger, R: Wait, W: Write>(
+fn go_on<L: Ledger, R: Wait, W: Write, V: Watcher>(
     rt: &R,
     alloc: Global,
     bulletin: &Bulletin,
     shared: &Mutex<Subscriber<L>>,
     share: &mut Share<L>,
     writer: &mut W,
+    watcher: &mut V,
     before: Option<Place>,
 ) -> Result<Option<Place>, SubscriberFault>
     requires share { (share.old.parts ≡ L.parts) × (0 < share.old.parts) }
-    ensures ok { IfOk result (λ after. (taken : ℕ) (first : Option (List ℕ)) → AreSentTo taken first (W.contents writer.old) before share.old.amount
-        → AreSentTo taken first (W.contents writer.new) after share.new.amount) }
-    ensures err { OnErr result ((taken : ℕ) (first : Option (List ℕ)) → AreSentTo taken first (W.contents writer.old) before share.old.amount
-        → IsServedInPart taken first (W.contents writer.new)) }
+    ensures ok { IfOk result (λ after. (taken : ℕ) (first : Gone) → AreSentTo taken first (gone (W.contents writer.old) (V.notices watcher.old))
+        before share.old.amount → AreSentTo taken first (gone (W.contents writer.new) (V.notices watcher.new)) after share.new.amount) }
+    ensures err { OnErr result ((taken : ℕ) (first : Gone) → AreSentTo taken first (gone (W.contents writer.old) (V.notices watcher.old))
+        before share.old.amount → IsServedInPart taken first (gone (W.contents writer.new) (V.notices watcher.new))) }
     ensures parts { share.new.parts ≡ share.old.parts }
 {
     let Some(place) = before else {
         return Ok(None);
     };
-    match write_from(rt, alloc, bulletin, shared, share, writer, place) {
+    match write_from(rt, alloc, bulletin, shared, share, writer, watcher, place) {
         Ok(next) => Ok(Some(next)),
         Err(fault) => Err(fault),
     }
 }
 
 /// The writing half: it writes what the peer wants from where it joined on, and between messages it answers pings, until nothing more comes from the
-/// peer and all was written.
-pub fn speak<L: Ledger, R: Wait, W: Write>(
+/// peer and all was written. The watcher is told of each answer once it is out, and of nothing else.
+pub fn speak<L: Ledger, R: Wait, W: Write, V: Watcher>(
     rt: &R,
     alloc: Global,
     bulletin: &Bulletin,
     shared: &Mutex<Subscriber<L>>,
     share: &mut Share<L>,
     writer: &mut W,
+    watcher: &mut V,
 ) -> Result<(), SubscriberFault>
     requires share { (share.old.parts ≡ L.parts) × (0 < share.old.parts) }
-    ensures ok { OnOk result (IsServed share.old.amount (W.contents writer.old) (W.contents writer.new) share.new.amount) }
-    ensures err { OnErr result (IsServedInPart share.old.amount (W.contents writer.old) (W.contents writer.new)) }
+    ensures ok { OnOk result (IsServed share.old.amount (gone (W.contents writer.old) (V.notices watcher.old))
+        (gone (W.contents writer.new) (V.notices watcher.new)) share.new.amount) }
+    ensures err { OnErr result (IsServedInPart share.old.amount (gone (W.contents writer.old) (V.notices watcher.old))
+        (gone (W.contents writer.new) (V.notices watcher.new))) }
     ensures parts { share.new.parts ≡ share.old.parts }
 {
     let mut at: Option<Place> = None;
     for _ in rt.forever() {
         let seen = bulletin.event_count().seen(rt);
         let sight = look(rt, shared);
-        match answer(rt, alloc, shared, share, writer) {
+        match answer(rt, alloc, shared, share, writer, watcher) {
             Ok(()) => {}
             Err(fault) => return Err(fault),
         }
         let before = at.or(sight.joined);
-        at = match go_on(rt, alloc, bulletin, shared, share, writer, before) {
+        at = match go_on(rt, alloc, bulletin, shared, share, writer, watcher, before) {
             Ok(after) => after,
             Err(fault) => return Err(fault),
         };

@@ -19,6 +19,10 @@
 //! That is also why [`Bulletin::publish`] and [`Bulletin::join`] have no clause, as the board's own calls have none: what they do is said of a lent
 //! log alone (`kernel_board::publish_on`, `BroadcastLog::end`).
 //!
+//! Each half tells a watcher that it is lent what it knows (`kernel_watch`): the reading half, once, that the handshake is over, and the writing half of
+//! each ping that it answered, once the answer is out. What is told and what goes out is said in one list (specs/Signs.antt), so of a turn that fails it is
+//! told what went out of it whole, and no more.
+//!
 //! Pings are answered before the next whole message, in their order: the reading half has those that came wait under the lock, and wakes the writing
 //! half, which takes them. A peer with 64 of them unanswered is disconnected. The octets of a broadcast are written from where the board has them, so
 //! none are made here.
@@ -43,5 +47,6 @@ pub use bulletin::Bulletin;
 pub use event_count::EventCount;
 pub use fault::SubscriberFault;
 pub use half::{hear, speak};
+pub use kernel_watch::{Notice, Unwatched, Watcher};
 pub use serve::{HangUp, serve_subscriber};
 pub use subscriber::{PREFIX_LIMIT, PREFIX_OCTET_LIMIT, Subscriber};

@@ -1,2 +1,1 @@
 mod Crosses
-pub mod Pongs

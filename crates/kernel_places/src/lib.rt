@@ -10,9 +10,13 @@
 //! it is who showed the key and has been silent longest, for ten minutes at least with no request under way: a connection whose peer is gone without a
 //! word keeps nobody out for ever. Where none of the 32 has to, the next one waits.
 //!
-//! What strangers send is counted before it is kept (`kernel_sockets::Strangers`): until a signed request was served on shell and control,
-//! until something went out on the heartbeat, and as long as the connection is there on iopub and stdin. One by which they would hold too
-//! much ends. Each place has an allowance, and has it again behind each connection.
+//! What strangers send is counted before it is kept (`kernel_sockets::Strangers`): until a message signed under the key came on shell and control,
+//! until a message was sent back on the heartbeat, and as long as the connection is there on iopub and stdin, but for pings that were answered. One by
+//! which they would hold too much ends. Each place has an allowance, and has it again behind each connection.
+//!
+//! Nobody reads these facts from octets: who serves a connection tells them to the [`Watcher`](kernel_watch::Watcher) that it is lent, which notes them at
+//! the connection's place: that the handshake is over, that a message is signed, that a request is under way and that it is done, that a message was sent
+//! back, and how many octets a ping had that was answered.
 //!
 //! A read or a write that a signal interrupted is begun anew, with its time, so a process that was stopped and goes on loses no connection.
 //!
@@ -31,24 +35,24 @@
 //! comes, no contract can say.
 //!
 //! The files, in the order in which a connection passes them: `usher` accepts it and has others make room, `door` is where it waits for a place,
-//! `places` has the places and the listeners, `requests` serves it on shell, control, stdin and heartbeat, `publishing` on iopub; `arrivals`
-//! is what comes on it, `departures` what goes out, `sockets` and `time` have the rules of each socket and its times. `task` is what a thread
+//! `places` has the places and the listeners, `requests` serves it on shell, control, stdin and heartbeat, `publishing` on iopub; `reader`
+//! is the stream on which it comes, `writer` that on which its answers go out, `witness` notes what is told of it, `sockets` and `time` have the rules of
+//! each socket and its times. `task` is what a thread
 //! does, `worker` runs the cells, `latch` is what all threads look at, `service` has all that they share, `start` starts and ends them,
 //! and `warning` tells which limits are near.
 //!
 //! It gives again what a program needs to start it: the kernel, the hall and the comms that it makes.
 //!
-//! In functions that are not public it is proved that of who showed the key no octets are counted, that a stranger's octets come further
-//! only where they are counted, and that for an answer that goes out 25 octets at most are let go of, none where it is no pong. That none
-//! come further before this is asked, and that they are let go of once, is no clause's. `serve_all` has a condition alone.
+//! In functions that are not public it is proved that of who showed the key no octets are counted, and that a stranger's octets come further
+//! only where they are counted. That none come further before this is asked is no clause's. When the watcher is told `kernel_session::serve` and
+//! `kernel_iopub` promise; that what it is told is noted at the place is tested. `serve_all` has a condition alone.
 #![tactic(auto)]
 
-mod arrivals;
-mod departures;
 mod door;
 mod latch;
 mod places;
 mod publishing;
+mod reader;
 mod requests;
 mod service;
 mod sockets;
@@ -57,7 +61,9 @@ mod task;
 mod time;
 mod usher;
 mod warning;
+mod witness;
 mod worker;
+mod writer;
 
 pub use kernel_desk::{Comms, Entry, Hall, HistoryName, Kernel, NewHistory, Note, PARTS_OF_POSTS};
 pub use places::{ALL_PLACES, Listeners, PLACES};

@@ -1,9 +1,10 @@
 //! The places of the iopub socket.
-use crate::arrivals::Arrivals;
-use crate::departures::Departures;
 use crate::places::share;
+use crate::reader::TimedReader;
 use crate::service::Service;
 use crate::time::milliseconds;
+use crate::witness::Witness;
+use crate::writer::TimedWriter;
 use kernel_desk::{HistoryName, Socket};
 use kernel_iopub::{HangUp, serve_subscriber};
 use kernel_sockets::{Allowance, ConnectionInput};
@@ -13,7 +14,7 @@ use std::sync::ledger::Ledger;
 use std::thread::Threads;
 use std::time::Clock;
 
-impl<R: Clock> HangUp for Departures<'_, R> {
+impl<R: Clock> HangUp for TimedWriter<'_, R> {
     fn hang_up(&mut self) {
         self.end();
     }
@@ -36,9 +37,8 @@ fn supply<
         return allowance;
     };
     let input = ConnectionInput::new(stream, &service.subscribers);
-    let mut arrivals = Arrivals::new(
+    let mut reader = TimedReader::new(
         rt,
-        service.alloc,
         stream,
         input,
         presence,
@@ -47,15 +47,19 @@ fn supply<
         &service.strangers,
         allowance,
     );
-    let departures = Departures::new(rt, stream, presence, Socket::Iopub);
+    let writer = TimedWriter::new(rt, stream, presence, Socket::Iopub);
+    let mut hearing = Witness::new(rt, presence);
+    let speaking = Witness::new(rt, presence);
     let _ = serve_subscriber(
         rt,
         service.alloc,
         &service.bulletin,
-        &mut arrivals,
-        departures,
+        &mut reader,
+        writer,
+        &mut hearing,
+        speaking,
     );
-    arrivals.end()
+    reader.end()
 }
 
 /// Takes a subscriber in, serves it and sees it out. The allowance of the place is given back.

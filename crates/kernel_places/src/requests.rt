@@ -1,9 +1,10 @@
 //! The places of the sockets on which something comes: shell, control, stdin and heartbeat.
-use crate::arrivals::Arrivals;
-use crate::departures::Departures;
 use crate::places::{Place, share};
+use crate::reader::TimedReader;
 use crate::service::Service;
 use crate::time::milliseconds;
+use crate::witness::Witness;
+use crate::writer::TimedWriter;
 use kernel_desk::{Desk, HallDesk, HistoryName, QuietDesk, Socket, serve};
 use kernel_sockets::{Allowance, ConnectionInput};
 use std::net::TcpStream;
@@ -28,9 +29,8 @@ fn converse<W: Ledger, L: HistoryName, S: Ledger, D: Desk, R: Wait + Clock>(
         return allowance;
     };
     let input = ConnectionInput::new(stream, &service.callers);
-    let mut arrivals = Arrivals::new(
+    let mut reader = TimedReader::new(
         rt,
-        service.alloc,
         stream,
         input,
         presence,
@@ -39,17 +39,19 @@ fn converse<W: Ledger, L: HistoryName, S: Ledger, D: Desk, R: Wait + Clock>(
         &service.strangers,
         allowance,
     );
-    let mut departures = Departures::new(rt, stream, presence, place.socket);
+    let mut writer = TimedWriter::new(rt, stream, presence, place.socket);
+    let mut witness = Witness::new(rt, presence);
     let _ = serve(
         service.alloc,
         place.socket,
         &service.key,
-        &mut arrivals,
-        &mut departures,
+        &mut reader,
+        &mut writer,
         desk,
+        &mut witness,
         &mut stamp,
     );
-    arrivals.end()
+    reader.end()
 }
 
 /// Takes a connection in, serves it and sees it out. The allowance of the place is given back.

@@ -1,7 +1,7 @@
 //! How each of the five sockets tells whether its peer is active.
 use crate::time::Times;
 use kernel_desk::Socket;
-use kernel_sockets::Stays;
+use kernel_sockets::{Quota, Stays};
 
 /// How long connections of a socket stay where another one waits. On shell and control a signed message shows who has the key, so a stranger has little
 /// time; on the others nothing is signed, and whoever is heard or takes what goes out stays.
@@ -25,11 +25,11 @@ pub(crate) fn is_signed(socket: Socket) -> bool {
     }
 }
 
-/// Whether what goes out answers all that came. On iopub prefixes are kept, and on stdin nothing is asked, so there what came counts as long as the
-/// connection is there, but for pings that were answered.
-pub(crate) fn is_answered(socket: Socket) -> bool {
+/// How much a stranger may bring on a socket. On the heartbeat what is sent back answers all that came. On iopub prefixes are kept, and on stdin nothing is
+/// asked, so there what came counts as long as the connection is there, but for pings that were answered.
+pub(crate) fn quota(socket: Socket) -> Quota {
     match socket {
-        Socket::Heartbeat => true,
-        Socket::Shell | Socket::Control | Socket::Iopub | Socket::Stdin => false,
+        Socket::Heartbeat => Quota::Own,
+        Socket::Shell | Socket::Control | Socket::Iopub | Socket::Stdin => Quota::Common,
     }
 }

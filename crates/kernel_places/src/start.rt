@@ -29,8 +29,7 @@ pub struct Seats {
     pub ringers: Vec<RingerSeat>,
 }
 
-/// The desks of the places of shell and control, as many as there are seats, that of the last place first. Each notes at its place that a
-/// message with a valid signature came.
+/// The desks of the places of shell and control, as many as there are seats.
 fn desks_of<'a, W: Ledger, L: HistoryName, S: Ledger, R: Wait + Clock>(
     rt: &'a R,
     service: &'a Service<W, L, S>,
@@ -39,23 +38,11 @@ fn desks_of<'a, W: Ledger, L: HistoryName, S: Ledger, R: Wait + Clock>(
     requires { All (λ seat. seat.bell ≡ service.now.hall) seats.items }
 {
     let mut desks = Vec::with_capacity(service.alloc, seats.len())?;
-    let mut index = seats.len();
     for seat in seats {
-        index = index.saturating_sub(1);
-        let Some(presence) = service.callers.presence(index) else {
-            return Err(AllocError);
-        };
         let Ok(pass) = service.hall.pass(rt) else {
             return Err(AllocError);
         };
-        desks.push(HallDesk::new(
-            rt,
-            &service.hall,
-            &service.bulletin,
-            pass,
-            seat,
-            presence.trust(),
-        ))?;
+        desks.push(HallDesk::new(rt, &service.hall, &service.bulletin, pass, seat))?;
     }
     Ok(desks)
 }

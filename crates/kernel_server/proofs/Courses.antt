@@ -8,6 +8,7 @@ use Rattle.kernel_core.specs.events.Event.TheVariants as event
 use Rattle.kernel_core.specs.events.Told.{Told}
 use Rattle.kernel_core.specs.events.Told.TheVariants as told
 use Rattle.kernel_message.specs.declared.stamp.Stamp.{Stamp}
+use Rattle.kernel_watch.specs.declared.notice.Notice.{Notice}
 use Rattle.kernel_session.specs.declared.socket.Socket.{Socket}
 use Rattle.kernel_session.specs.declared.fault.ServeFault.{ServeFault}
 use Rattle.kernel_session.specs.declared.fault.ServeFault.TheVariants.{Read, Write, Peer, Memory}
@@ -102,22 +103,22 @@ calls_ran : (old new : Lone) (calls : List Call) → Leads lone_leads old calls 
 calls_ran old new [] h = same old new h
 calls_ran old new (call ∷ calls) h = ran_on old h.0 new (call_ran old h.0 call h.1) (calls_ran h.0 new calls h.2)
 
-module _ {W : Type 0} (contents : W → Option (List ℕ)) (socket : Socket) (key : List ℕ) (before : List Action) (writer writer' : W) (desk desk' : Lone)
-    (old : State) (stamp' : Stamp) where
+module _ {W V : Type 0} (contents : W → Option (List ℕ)) (notices : V → Option (List Notice)) (socket : Socket) (key : List ℕ) (before : List Action)
+    (writer writer' : W) (desk desk' : Lone) (watcher watcher' : V) (old : State) (stamp' : Stamp) where
   -- however a connection ends
   pub connection_ran : (result : Result (Unit {0}) ServeFault) (input : List ℕ) (left : Option (List ℕ))
-      → ends_by contents lone_leads socket key before writer writer' desk desk' old stamp' result input left → RanOn desk desk'
+      → ends_by contents lone_leads notices socket key before writer writer' desk desk' watcher watcher' old stamp' result input left → RanOn desk desk'
   connection_ran (Ok done) input left h =
-      ⊎_elim (λ h. calls_ran desk desk' _ h.1.acts.called) (λ h. calls_ran desk desk' _ h.acts.called) h.3
+      ⊎_elim (λ h. calls_ran desk desk' _ h.1.acts.acts.called) (λ h. calls_ran desk desk' _ h.acts.acts.called) h.3
   connection_ran (Err Read) input left h =
-      ⊎_elim (λ h. calls_ran desk desk' _ h.1.acts.called) (λ h. calls_ran desk desk' _ h.acts.called) h.3
-  connection_ran (Err (Peer fault)) input left h = calls_ran desk desk' _ h.3.2.acts.called
+      ⊎_elim (λ h. calls_ran desk desk' _ h.1.acts.acts.called) (λ h. calls_ran desk desk' _ h.acts.acts.called) h.3
+  connection_ran (Err (Peer fault)) input left h = calls_ran desk desk' _ h.3.2.acts.acts.called
   connection_ran (Err Write) input left h =
-      ⊎_elim (λ h. calls_ran desk desk' _ h.acts.called) (λ h. calls_ran desk desk' _ h.2.acts.called) h.3
+      ⊎_elim (λ h. calls_ran desk desk' _ h.acts.acts.called) (λ h. calls_ran desk desk' _ h.2.acts.acts.called) h.3
   connection_ran (Err Memory) input left h =
       ⊎_elim
-      (λ h. ⊎_elim (λ h. calls_ran desk desk' _ h.acts.called) (λ h. calls_ran desk desk' _ h.acts.called) h.3.3)
-      (λ h. calls_ran desk desk' _ h.3.2.acts.called)
+      (λ h. ⊎_elim (λ h. calls_ran desk desk' _ h.acts.acts.called) (λ h. calls_ran desk desk' _ h.acts.acts.called) h.3.3)
+      (λ h. calls_ran desk desk' _ h.3.2.acts.acts.called)
       h
 
 -- ---- the broadcasts

@@ -29,7 +29,7 @@ pub use kernel_ask::{
     Answer, Ask, CommChange, Comms, Content, Done, HallFault, HistoryAsk, Wish, is_complete,
 };
 pub use kernel_core::{Job, Kernel, PostFault};
-pub use kernel_session::{Desk, ServeFault, Socket, serve};
+pub use kernel_session::{Desk, Notice, ServeFault, Socket, Unwatched, Watcher, serve};
 pub use lone::LoneDesk;
 pub use session::serve_lone;
 pub use slice::Slice;

@@ -9,17 +9,19 @@ use Rattle.zmtp_peer.specs.Reading.{Ending, Awaiting, PeerReads, PeerState, Stan
 use Rattle.zmtp_peer.specs.Laws.{OctetsHaveOneReading}
 use Rattle.kernel_message.specs.declared.stamp.Stamp.{Stamp}
 use Rattle.kernel_session.specs.declared.socket.Socket.{Socket}
+use Rattle.kernel_session.specs.declared.socket.Socket.TheVariants.{Shell, Control, Iopub, Stdin, Heartbeat}
 use Rattle.kernel_session.specs.declared.flow.Flow.{Flow}
 use Rattle.kernel_session.specs.declared.flow.Flow.TheVariants.{Going}
 use Rattle.kernel_session.specs.declared.fault.ServeFault.{ServeFault}
 use Rattle.kernel_session.specs.declared.fault.ServeFault.TheVariants.{Read, Write, Peer, Memory}
+use Rattle.kernel_watch.specs.declared.notice.Notice.{Notice}
 use Rattle.kernel_session.specs.Call.{Call}
-use Rattle.kernel_session.specs.Action.{Action, Acts}
+use Rattle.kernel_session.specs.Action.{Action, Acts, notices_of}
 use Rattle.kernel_session.specs.Closing.{Closes, ClosesPart}
 use Rattle.kernel_session.specs.Parts.{ActedPart}
 use Rattle.kernel_session.specs.Session.{State, going, role_of, IsSession}
 use Rattle.kernel_session.specs.Ends.{Cut, CutAtEnd, IsMidway, stops_by, comes_to, comes_to_end, is_cut_at_end, ends_by}
-use Rattle.kernel_session.proofs.ActsLemmas.{acts_none, acts_join}
+use Rattle.kernel_session.proofs.ActsLemmas.{notices_of-sends, quiet_start, told_none, told_join, told_quiet}
 use Rattle.kernel_session.proofs.RequestLemmas.{starts_with}
 use Rattle.kernel_session.proofs.SessionLemmas.{whole_none, whole_whole, whole_cut, cut_none, cut_whole}
 
@@ -78,74 +80,91 @@ calm_on law a b c xs es fs role p q calm fed given st =
 
 -- ---- one piece
 
-module _ {W D : Type 0} (contents : W → Option (List ℕ)) (leads : D → Call → D → Type 0) (socket : Socket) (key : List ℕ) (stamp stamp2 : Stamp) where
-  pub stops_first : (w : W) (d : D) (a c : PeerState) (piece : List ℕ) (fault : PeerFault) (told : ServeFault)
+module _ {W D V : Type 0} (contents : W → Option (List ℕ)) (leads : D → Call → D → Type 0) (notices : V → Option (List Notice))
+    (socket : Socket) (key : List ℕ) (stamp stamp2 : Stamp) where
+  pub stops_first : (w : W) (d : D) (v : V) (a c : PeerState) (piece : List ℕ) (fault : PeerFault) (told : ServeFault)
       → (fault_of fault ≡ want_of_memory → Brings a [] [] c)
       → (fault_of fault ≢ want_of_memory → Brings a piece [] c × (c.state ≡ Refused (fault_of fault)))
       → ((fault_of fault ≡ want_of_memory) × (told ≡ Memory)) ⊎ ((fault_of fault ≢ want_of_memory) × (told ≡ Peer fault))
-      → stops_by contents leads socket key w w d d stamp stamp a piece c told
-  stops_first w d a c piece fault told memory other so =
+      → stops_by contents leads notices socket key w w d d v v stamp stamp a piece c told
+  stops_first w d v a c piece fault told memory other so =
       elim so [
-        | inl p ↦ subst (λ (f : ServeFault). stops_by contents leads socket key w w d d stamp stamp a piece c f) (sym p.1)
-            ([], piece, refl, [], memory p.0, cut_none contents leads socket key [] [] w w d d (going stamp) [] (acts_none contents leads w d) ([], refl))
-        | inr p ↦ subst (λ (f : ServeFault). stops_by contents leads socket key w w d d stamp stamp a piece c f) (sym p.1)
-            ([], (other p.0).0, p.0, (other p.0).1, whole_none contents leads socket key [] w w d d (going stamp) (acts_none contents leads w d))
+        | inl p ↦ subst (λ (f : ServeFault). stops_by contents leads notices socket key w w d d v v stamp stamp a piece c f) (sym p.1) (
+          [],
+          piece,
+          refl,
+          [],
+          memory p.0,
+          cut_none contents leads notices socket key [] [] w w d d v v (going stamp) []
+              (told_none contents leads notices w d v) ([], refl),
+        )
+        | inr p ↦ subst (λ (f : ServeFault). stops_by contents leads notices socket key w w d d v v stamp stamp a piece c f) (sym p.1) (
+          [],
+          (other p.0).0,
+          p.0,
+          (other p.0).1,
+          whole_none contents leads notices socket key [] w w d d v v (going stamp)
+              (told_none contents leads notices w d v),
+        )
       ]
 
-  pub stops_midway : (w w' : W) (d d' : D) (a b : PeerState) (piece : List ℕ) (es : List Event) (fault : ServeFault) → IsMidway fault
-      → Brings a piece es b → Cut contents leads socket key [] w w' d d' (going stamp) es
-      → stops_by contents leads socket key w w' d d' stamp stamp2 a piece b fault
-  stops_midway w w' d d' a b piece es Read m p q = absurd m
-  stops_midway w w' d d' a b piece es (Peer f) m p q = absurd m
-  stops_midway w w' d d' a b piece es Write m p q = (es, p, q)
-  stops_midway w w' d d' a b piece es Memory m p q = (piece, [], sym (append-nil piece), es, p, q)
+  pub stops_midway : (w w' : W) (d d' : D) (v v' : V) (a b : PeerState) (piece : List ℕ) (es : List Event) (fault : ServeFault) → IsMidway fault
+      → Brings a piece es b → Cut contents leads notices socket key [] w w' d d' v v' (going stamp) es
+      → stops_by contents leads notices socket key w w' d d' v v' stamp stamp2 a piece b fault
+  stops_midway w w' d d' v v' a b piece es Read m p q = absurd m
+  stops_midway w w' d d' v v' a b piece es (Peer f) m p q = absurd m
+  stops_midway w w' d d' v v' a b piece es Write m p q = (es, p, q)
+  stops_midway w w' d d' v v' a b piece es Memory m p q = (piece, [], sym (append-nil piece), es, p, q)
 
   -- the events were taken, and the fault behind them is told
-  pub stops_behind : (w w' : W) (d d' : D) (a b c : PeerState) (piece : List ℕ) (es : List Event) (fault : PeerFault) (told : ServeFault) (flow : Flow) →
+  pub stops_behind : (w w' : W) (d d' : D) (v v' : V) (a b c : PeerState) (piece : List ℕ) (es : List Event) (fault : PeerFault) (told : ServeFault)
+      (flow : Flow) →
       flow ≡ Going
-      → Brings a piece es b → comes_to contents leads socket key [] w w' d d' (going stamp) stamp2 flow es
+      → Brings a piece es b → comes_to contents leads notices socket key [] w w' d d' v v' (going stamp) stamp2 flow es
       → (fault_of fault ≡ want_of_memory → Brings b [] [] c)
       → (fault_of fault ≢ want_of_memory → Brings b [] [] c × (c.state ≡ Refused (fault_of fault)))
       → ((fault_of fault ≡ want_of_memory) × (told ≡ Memory)) ⊎ ((fault_of fault ≢ want_of_memory) × (told ≡ Peer fault))
-      → stops_by contents leads socket key w w' d d' stamp stamp2 a piece c told
-  stops_behind w w' d d' a b c piece es fault told flow on p whole memory other so =
-      let done = subst (λ (f : Flow). comes_to contents leads socket key [] w w' d d' (going stamp) stamp2 f es) on whole in
+      → stops_by contents leads notices socket key w w' d d' v v' stamp stamp2 a piece c told
+  stops_behind w w' d d' v v' a b c piece es fault told flow on p whole memory other so =
+      let done = subst (λ (f : Flow). comes_to contents leads notices socket key [] w w' d d' v v' (going stamp) stamp2 f es) on whole in
       elim so [
-        | inl q ↦ subst (λ (f : ServeFault). stops_by contents leads socket key w w' d d' stamp stamp2 a piece c f) (sym q.1) (
+        | inl q ↦ subst (λ (f : ServeFault). stops_by contents leads notices socket key w w' d d' v v' stamp stamp2 a piece c f) (sym q.1) (
           piece,
           [],
           sym (append-nil piece),
           es,
           brings_on a b c piece es p (memory q.0),
-          cut_whole contents leads socket key [] w w' d d' (going stamp) (going stamp2) es done,
+          cut_whole contents leads notices socket key [] w w' d d' v v' (going stamp) (going stamp2) es done,
         )
-        | inr q ↦ subst (λ (f : ServeFault). stops_by contents leads socket key w w' d d' stamp stamp2 a piece c f) (sym q.1)
+        | inr q ↦ subst (λ (f : ServeFault). stops_by contents leads notices socket key w w' d d' v v' stamp stamp2 a piece c f) (sym q.1)
             (es, brings_on a b c piece es p (other q.0).0, q.0, (other q.0).1, done)
       ]
 
 -- ---- all pieces
 
-module _ {W D : Type 0} (contents : W → Option (List ℕ)) (leads : D → Call → D → Type 0) (socket : Socket) (key : List ℕ) (before : List Action)
-    (w w1 w2 : W) (d d1 d2 : D) (s : State) (stamp stamp2 : Stamp) (peer peer2 : PeerState) (input piece : List ℕ) (given : List Event)
-    (so_far : comes_to contents leads socket key before w w1 d d1 s stamp Going given) (stands : Stands input given peer)
+module _ {W D V : Type 0} (contents : W → Option (List ℕ)) (leads : D → Call → D → Type 0) (notices : V → Option (List Notice))
+    (socket : Socket) (key : List ℕ) (before : List Action) (w w1 w2 : W) (d d1 d2 : D) (v v1 v2 : V) (s : State)
+    (stamp stamp2 : Stamp) (peer peer2 : PeerState) (input piece : List ℕ) (given : List Event)
+    (so_far : comes_to contents leads notices socket key before w w1 d d1 v v1 s stamp Going given) (stands : Stands input given peer)
     (role : peer2.role ≡ role_of socket) where
-  pub comes_by_piece : (found flow : Flow) → found ≡ flow → (es : List Event) → comes_to contents leads socket key [] w1 w2 d1 d2 (going stamp) stamp2 found es
-      → comes_to contents leads socket key before w w2 d d2 s stamp2 flow (given ++ es)
+  pub comes_by_piece : (found flow : Flow) → found ≡ flow → (es : List Event)
+      → comes_to contents leads notices socket key [] w1 w2 d1 d2 v1 v2 (going stamp) stamp2 found es
+      → comes_to contents leads notices socket key before w w2 d d2 v v2 s stamp2 flow (given ++ es)
   comes_by_piece found flow e es p =
       let to : State = record { stamp = stamp2; flow = flow } in
-      whole_whole contents leads socket key before w w1 w2 d d1 d2 s (going stamp) to given es so_far refl
-      (subst (λ (f : Flow). comes_to contents leads socket key [] w1 w2 d1 d2 (going stamp) stamp2 f es) e p)
+      whole_whole contents leads notices socket key before w w1 w2 d d1 d2 v v1 v2 s (going stamp) to given es so_far refl
+      (subst (λ (f : Flow). comes_to contents leads notices socket key [] w1 w2 d1 d2 v1 v2 (going stamp) stamp2 f es) e p)
 
   reads_more : (part : List ℕ) (es : List Event) → Brings peer part es peer2 → PeerReads (role_of socket) (input ++ part) (given ++ es) (ending_of peer2.state)
   reads_more part es p = reads_as socket (input ++ part) (given ++ es) peer2 (p input given stands) role
 
-  cut_more : (es : List Event) → Cut contents leads socket key [] w1 w2 d1 d2 (going stamp) es
-      → Cut contents leads socket key before w w2 d d2 s (given ++ es)
-  cut_more es p = whole_cut contents leads socket key before w w1 w2 d d1 d2 s (going stamp) given es so_far refl p
+  cut_more : (es : List Event) → Cut contents leads notices socket key [] w1 w2 d1 d2 v1 v2 (going stamp) es
+      → Cut contents leads notices socket key before w w2 d d2 v v2 s (given ++ es)
+  cut_more es p = whole_cut contents leads notices socket key before w w1 w2 d d1 d2 v v1 v2 s (going stamp) given es so_far refl p
 
   pub stops_by_piece : (left : Option (List ℕ)) (fault : ServeFault)
-      → stops_by contents leads socket key w1 w2 d1 d2 stamp stamp2 peer piece peer2 fault
-      → ends_by contents leads socket key before w w2 d d2 s stamp2 (Err fault) (input ++ piece) left
+      → stops_by contents leads notices socket key w1 w2 d1 d2 v1 v2 stamp stamp2 peer piece peer2 fault
+      → ends_by contents leads notices socket key before w w2 d d2 v v2 s stamp2 (Err fault) (input ++ piece) left
   stops_by_piece left Read p = absurd p
   stops_by_piece left Write p = (given ++ p.0, ending_of peer2.state, reads_more piece p.0 p.1, inl (cut_more p.0 p.2))
   stops_by_piece left Memory p = inl (
@@ -162,27 +181,45 @@ module _ {W D : Type 0} (contents : W → Option (List ℕ)) (leads : D → Call
   )
 
 -- a beginning, by the fault
-module _ {W D : Type 0} (contents : W → Option (List ℕ)) (leads : D → Call → D → Type 0) (socket : Socket) (key : List ℕ) (before : List Action)
-    (w w' : W) (d d' : D) (s : State) (stamp2 : Stamp) (input : List ℕ) (events : List Event) (ending : Ending) (left : Option (List ℕ)) where
+module _ {W D V : Type 0} (contents : W → Option (List ℕ)) (leads : D → Call → D → Type 0) (notices : V → Option (List Notice))
+    (socket : Socket) (key : List ℕ) (before : List Action) (w w' : W) (d d' : D) (v v' : V) (s : State)
+    (stamp2 : Stamp) (input : List ℕ) (events : List Event) (ending : Ending) (left : Option (List ℕ)) where
   pub ends_midway : (fault : ServeFault) → IsMidway fault → PeerReads (role_of socket) input events ending →
-      Cut contents leads socket key before w w' d d' s events
-      → ends_by contents leads socket key before w w' d d' s stamp2 (Err fault) input left
+      Cut contents leads notices socket key before w w' d d' v v' s events
+      → ends_by contents leads notices socket key before w w' d d' v v' s stamp2 (Err fault) input left
   ends_midway Read m p q = absurd m
   ends_midway (Peer f) m p q = absurd m
   ends_midway Write m p q = (events, ending, p, inl q)
   ends_midway Memory m p q = inl (input, [], sym (append-nil input), (events, ending, p, inr q))
 
   pub ends_at_end : (fault : ServeFault) → IsMidway fault → PeerReads (role_of socket) input events ending
-      → is_cut_at_end contents leads socket key before w w' d d' s stamp2 left events ending
-      → ends_by contents leads socket key before w w' d d' s stamp2 (Err fault) input left
+      → is_cut_at_end contents leads notices socket key before w w' d d' v v' s stamp2 left events ending
+      → ends_by contents leads notices socket key before w w' d d' v v' s stamp2 (Err fault) input left
   ends_at_end Read m p q = absurd m
   ends_at_end (Peer f) m p q = absurd m
   ends_at_end Write m p q = (events, ending, p, inr q)
   ends_at_end Memory m p q = inr (events, ending, p, q)
 
-module _ {W D : Type 0} (contents : W → Option (List ℕ)) (leads : D → Call → D → Type 0) (socket : Socket) (key : List ℕ) (before : List Action)
-    (w w1 w2 : W) (d d1 d2 : D) (s : State) (stamp : Stamp) (events : List Event)
-    (so_far : comes_to contents leads socket key before w w1 d d1 s stamp Going events) where
+-- ---- the end of the input
+
+-- what the end of the input brings has no notice
+closes_quietly : (socket : Socket) (events : List Event) (closing : List Action) → Closes socket events closing → notices_of closing ≡ []
+closes_quietly Iopub events closing p = ap notices_of p.brings ∙ notices_of-sends p.octets
+closes_quietly Shell events closing p = ap notices_of p
+closes_quietly Control events closing p = ap notices_of p
+closes_quietly Stdin events closing p = ap notices_of p
+closes_quietly Heartbeat events closing p = ap notices_of p
+
+part_quietly : (socket : Socket) (events : List Event) (closing : List Action) → ClosesPart socket events closing → notices_of closing ≡ []
+part_quietly Iopub events closing p = ap notices_of p.brings ∙ notices_of-sends p.octets
+part_quietly Shell events closing p = ap notices_of p
+part_quietly Control events closing p = ap notices_of p
+part_quietly Stdin events closing p = ap notices_of p
+part_quietly Heartbeat events closing p = ap notices_of p
+
+module _ {W D V : Type 0} (contents : W → Option (List ℕ)) (leads : D → Call → D → Type 0) (notices : V → Option (List Notice))
+    (socket : Socket) (key : List ℕ) (before : List Action) (w w1 w2 : W) (d d1 d2 : D) (v v1 : V) (s : State) (stamp : Stamp) (events : List Event)
+    (so_far : comes_to contents leads notices socket key before w w1 d d1 v v1 s stamp Going events) where
   -- all events were looked at
   all_seen : IsSession socket key s events so_far.actions (going stamp)
   all_seen =
@@ -190,17 +227,18 @@ module _ {W D : Type 0} (contents : W → Option (List ℕ)) (leads : D → Call
       (sym (so_far.taken ∙ ap (λ (x : List Event). so_far.seen ++ x) (so_far.none_unseen refl) ∙ append-nil so_far.seen)) so_far.session
 
   pub whole_end : (closing : List Action) → Closes socket events closing → Acts contents leads w1 w2 d1 d2 closing
-      → comes_to_end contents leads socket key before w w2 d d2 s stamp events
+      → comes_to_end contents leads notices socket key before w w2 d d2 v v1 s stamp events
   whole_end closing p q = record {
     actions = so_far.actions;
     session = all_seen;
     closing = closing;
     closes = p;
-    acts = acts_join contents leads w w1 w2 d d1 d2 (before ++ so_far.actions) closing so_far.acts q;
+    acts = told_join contents leads notices w w1 w2 d d1 d2 v v1 v1 (before ++ so_far.actions) closing so_far.acts
+        (told_quiet contents leads notices w1 w2 d1 d2 v1 closing (closes_quietly socket events closing p) q);
   }
 
   pub cut_end : (closing : List Action) → ClosesPart socket events closing → ActedPart contents leads w1 w2 d1 d2 closing
-      → CutAtEnd contents leads socket key before w w2 d d2 s events
+      → CutAtEnd contents leads notices socket key before w w2 d d2 v v1 s events
   cut_end closing p q = record {
     actions = so_far.actions;
     new = going stamp;
@@ -208,6 +246,7 @@ module _ {W D : Type 0} (contents : W → Option (List ℕ)) (leads : D → Call
     closing = closing;
     closes = p;
     done = (before ++ so_far.actions) ++ q.0;
-    acts = acts_join contents leads w w1 w2 d d1 d2 (before ++ so_far.actions) q.0 so_far.acts q.1;
+    acts = told_join contents leads notices w w1 w2 d d1 d2 v v1 v1 (before ++ so_far.actions) q.0 so_far.acts
+        (told_quiet contents leads notices w1 w2 d1 d2 v1 q.0 (quiet_start q.0 q.2.0 closing q.2.1 (part_quietly socket events closing p)) q.1);
     start = starts_with (before ++ so_far.actions) q.0 closing q.2;
   }

@@ -1,6 +1,6 @@
 -- What one request brings, from its parts.
-use Rattle.std.proofs.Common.{◌≡◌, ℕ, ◌<◌, ◌≤◌, List, [], ◌∷◌, ◌++◌, map, Option, Some, None, Result, Ok, Err, IfOk, IfErr, OnOk, OnErr, inl, inr, refl, sym}
-use Rattle.std.proofs.Common.{ap, ◌∙◌, subst, append_assoc, append-nil, ◌⊎◌}
+use Rattle.std.proofs.Common.{◌≡◌, ℕ, ◌≤◌, List, [], ◌∷◌, ◌++◌, map, Option, Some, None, Result, Ok, Err, IfOk, IfErr, OnOk, OnErr, refl, sym}
+use Rattle.std.proofs.Common.{ap, ◌∙◌, subst, append_assoc, append-nil}
 use Rattle.std.proofs.lemmas.List.{map-append}
 use Rattle.std.specs.Io.KnownBytes.{Appends}
 use Rattle.jupyter_msg.specs.Message.{frames_of}
@@ -9,12 +9,12 @@ use Rattle.kernel_message.specs.declared.stamp.Stamp.{Stamp}
 use Rattle.kernel_message.specs.Sent.{Sent}
 use Rattle.kernel_session.specs.declared.talk.DeskReply.{DeskReply}
 use Rattle.kernel_session.specs.declared.flow.Flow.{Flow}
-use Rattle.kernel_session.specs.declared.flow.Flow.TheVariants.{OutOfMemory, Worn}
+use Rattle.kernel_session.specs.declared.flow.Flow.TheVariants.{OutOfMemory}
 use Rattle.kernel_session.specs.Call.{Call, Published, Dated, Leads}
 use Rattle.exact_write.specs.Sent.{SentSome}
 use Rattle.kernel_session.specs.Action.{Action, Sent as SentOctet, Called, Acts, IsStartOf, sends, asks}
 use Rattle.kernel_session.specs.Talk.{Heard, IsHeld, talk, says_of}
-use Rattle.kernel_session.specs.Session.{State, IsServed, IsWorn, opened, asking, busy_frames, reply_octets, answered, outgoing, stamp_behind, flow_behind}
+use Rattle.kernel_session.specs.Session.{State, IsServed, opened, asking, busy_frames, reply_octets, answered, outgoing, stamp_behind, flow_behind}
 use Rattle.kernel_session.specs.Session.{state_behind, ends_with, served, last_next}
 use Rattle.kernel_session.specs.Parts.{LedPart, ActedPart, IsBegun, IsDatedAlone, IsTakenUp, IsTakenUpPart}
 use Rattle.kernel_session.proofs.ActsLemmas.{leads_join, acts_none, acts_join, acts_asks, acts_sends}
@@ -120,8 +120,7 @@ module _ {W D : Type 0} (contents : W → Option (List ℕ)) (leads : D → Call
   module _ (w w' : W) (d d1 d2 : D) (r : Request) (stamp stamp1 stamp2 : Stamp) where
     abbrev pub Serves : Flow → Type 0
     Serves flow =
-        (actions : List Action) × Acts contents leads w w' d d2 actions
-        × (IsServed key r stamp actions (record { stamp = stamp2; flow = flow }) ⊎ IsWorn stamp actions (record { stamp = stamp2; flow = flow }))
+        (actions : List Action) × Acts contents leads w w' d d2 actions × IsServed key r stamp actions (record { stamp = stamp2; flow = flow })
 
     abbrev pub ServesPart : Type 0
     ServesPart =
@@ -140,7 +139,7 @@ module _ {W D : Type 0} (contents : W → Option (List ℕ)) (leads : D → Call
           served key r stamp p.dated t,
           acts_join contents leads w w w' d d1 d2 _ _ (acts_asks contents leads w d d1 (asking key r stamp p.dated t) p.called)
               (subst (λ (x : List Action). Acts contents leads w w' d1 d2 x) out q),
-          inl record {
+          record {
             numbered = fits;
             dated = p.dated;
             is_dated = p.is_dated;
@@ -187,7 +186,7 @@ module _ {W D : Type 0} (contents : W → Option (List ℕ)) (leads : D → Call
       let on : OutOfMemory ≡ flow_behind r t.told = ap (λ (o : Option DeskReply). flow_behind r o) p.tells in (
         served key r stamp p.dated t,
         subst (λ (x : List Action). Acts contents leads w w d d1 x) (sym out) (acts_asks contents leads w d d1 (asking key r stamp p.dated t) p.called),
-        inl record {
+        record {
           numbered = fits;
           dated = p.dated;
           is_dated = p.is_dated;
@@ -225,9 +224,6 @@ module _ {W D : Type 0} (contents : W → Option (List ℕ)) (leads : D → Call
           ),
         ),
       )
-
-  pub request_worn : (w : W) (d : D) (r : Request) (stamp : Stamp) → last_next < stamp.next → Serves w w d d d r stamp stamp stamp Worn
-  request_worn w d r stamp past = ([], acts_none contents leads w d, inr record { past = past; quiet = refl; worn = refl })
 
 pub if_ok : {A E : Type 0} (r : Result A E) (P Q : A → Type 0) → ((x : A) → P x → Q x) → IfOk r P → IfOk r Q
 if_ok (Ok x) P Q f p = f x p

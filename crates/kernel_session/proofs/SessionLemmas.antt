@@ -5,11 +5,12 @@ use Rattle.zmtp_peer.specs.Events.{Event, event_of}
 use Rattle.kernel_message.specs.declared.stamp.Stamp.{Stamp}
 use Rattle.kernel_session.specs.declared.socket.Socket.{Socket}
 use Rattle.kernel_session.specs.declared.flow.Flow.TheVariants.{Going}
+use Rattle.kernel_watch.specs.declared.notice.Notice.{Notice}
 use Rattle.kernel_session.specs.Call.{Call}
-use Rattle.kernel_session.specs.Action.{Action, Acts, IsStartOf}
+use Rattle.kernel_session.specs.Action.{Action, ActsTold, IsStartOf}
 use Rattle.kernel_session.specs.Session.{State, going, IsStep, IsSession}
 use Rattle.kernel_session.specs.Ends.{Takes, Begins, Breaks, Whole, Cut}
-use Rattle.kernel_session.proofs.ActsLemmas.{acts_join}
+use Rattle.kernel_session.proofs.ActsLemmas.{told_join}
 
 pub session_join : (socket : Socket) (key : List ℕ) (old : State) (xs ys : List Event) (a b : List Action) (mid new : State)
     → IsSession socket key old xs a mid → IsSession socket key mid ys b new → IsSession socket key old (xs ++ ys) (a ++ b) new
@@ -38,7 +39,8 @@ taken_both es1 es2 xs ys u v p none q =
 
 -- ---- one event
 
-module _ {W D : Type 0} (contents : W → Option (List ℕ)) (leads : D → Call → D → Type 0) (key : List ℕ) (w w' : W) (d d' : D) (stamp : Stamp)
+module _ {W D V : Type 0} (contents : W → Option (List ℕ)) (leads : D → Call → D → Type 0) (notices : V → Option (List Notice)) (key : List ℕ)
+    (w w' : W) (d d' : D) (v v' : V) (stamp : Stamp)
     (socket s : Socket) (on : socket ≡ s) (event e : PeerEvent) (is : event ≡ e) where
   step_is : (actions : List Action) (new : State) → IsStep s key stamp (event_of e) actions new → IsStep socket key stamp (event_of event) actions new
   step_is actions new p =
@@ -46,43 +48,45 @@ module _ {W D : Type 0} (contents : W → Option (List ℕ)) (leads : D → Call
       (subst (λ (x : PeerEvent). IsStep s key stamp (event_of x) actions new) (sym is) p)
 
   pub takes_event : (actions : List Action) (new : State) → IsStep s key stamp (event_of e) actions new
-      → Acts contents leads w w' d d' actions → Takes contents leads socket key w w' d d' stamp (event_of event) new
+      → ActsTold contents leads notices w w' d d' v v' actions → Takes contents leads notices socket key w w' d d' v v' stamp (event_of event) new
   takes_event actions new p q = record { actions = actions; step = step_is actions new p; acts = q }
 
   pub breaks_event : (actions done : List Action) (new : State) → IsStep s key stamp (event_of e) actions new
-      → Acts contents leads w w' d d' done → IsStartOf done actions → Breaks contents leads socket key w w' d d' stamp (event_of event)
+      → ActsTold contents leads notices w w' d d' v v' done → IsStartOf done actions
+      → Breaks contents leads notices socket key w w' d d' v v' stamp (event_of event)
   breaks_event actions done new p q r = record {
     done = done;
     acts = q;
     begun = inl record { actions = actions; new = new; step = step_is actions new p; start = r };
   }
 
-  pub breaks_none : Acts contents leads w w' d d' [] → Breaks contents leads socket key w w' d d' stamp (event_of event)
+  pub breaks_none : ActsTold contents leads notices w w' d d' v v' [] → Breaks contents leads notices socket key w w' d d' v v' stamp (event_of event)
   breaks_none q = record { done = []; acts = q; begun = inr refl }
 
-module _ {W D : Type 0} (contents : W → Option (List ℕ)) (leads : D → Call → D → Type 0) (socket : Socket) (key : List ℕ) where
-  abbrev pub DoneAll : List Action → W → W → D → D → State → State → List Event → Type 0
-  DoneAll before w w' d d' s s' es = Whole contents leads socket key before w w' d d' s s' es
+module _ {W D V : Type 0} (contents : W → Option (List ℕ)) (leads : D → Call → D → Type 0) (notices : V → Option (List Notice))
+    (socket : Socket) (key : List ℕ) where
+  abbrev pub DoneAll : List Action → W → W → D → D → V → V → State → State → List Event → Type 0
+  DoneAll before w w' d d' v v' s s' es = Whole contents leads notices socket key before w w' d d' v v' s s' es
 
-  abbrev pub DonePart : List Action → W → W → D → D → State → List Event → Type 0
-  DonePart before w w' d d' s es = Cut contents leads socket key before w w' d d' s es
+  abbrev pub DonePart : List Action → W → W → D → D → V → V → State → List Event → Type 0
+  DonePart before w w' d d' v v' s es = Cut contents leads notices socket key before w w' d d' v v' s es
 
   -- no event
-  pub whole_none : (before : List Action) (w w' : W) (d d' : D) (s : State) → Acts contents leads w w' d d' before
-      → DoneAll before w w' d d' s s []
-  whole_none before w w' d d' s p = record {
+  pub whole_none : (before : List Action) (w w' : W) (d d' : D) (v v' : V) (s : State) → ActsTold contents leads notices w w' d d' v v' before
+      → DoneAll before w w' d d' v v' s s []
+  whole_none before w w' d d' v v' s p = record {
     seen = [];
     unseen = [];
     taken = refl;
     none_unseen = λ _. refl;
     actions = [];
     session = (refl, refl);
-    acts = subst (Acts contents leads w w' d d') (sym (append-nil before)) p;
+    acts = subst (ActsTold contents leads notices w w' d d' v v') (sym (append-nil before)) p;
   }
 
-  pub whole_one : (w w' : W) (d d' : D) (stamp : Stamp) (e : Event) (new : State)
-      → Takes contents leads socket key w w' d d' stamp e new → DoneAll [] w w' d d' (going stamp) new (e ∷ [])
-  whole_one w w' d d' stamp e new p = record {
+  pub whole_one : (w w' : W) (d d' : D) (v v' : V) (stamp : Stamp) (e : Event) (new : State)
+      → Takes contents leads notices socket key w w' d d' v v' stamp e new → DoneAll [] w w' d d' v v' (going stamp) new (e ∷ [])
+  whole_one w w' d d' v v' stamp e new p = record {
     seen = e ∷ [];
     unseen = [];
     taken = refl;
@@ -92,9 +96,9 @@ module _ {W D : Type 0} (contents : W → Option (List ℕ)) (leads : D → Call
     acts = p.acts;
   }
 
-  begun_part : (w w' : W) (d d' : D) (stamp : Stamp) (e : Event) (done : List Action) → Acts contents leads w w' d d' done
-      → Begins contents leads socket key stamp e done → DonePart [] w w' d d' (going stamp) (e ∷ [])
-  begun_part w w' d d' stamp e done p b = record {
+  begun_part : (w w' : W) (d d' : D) (v v' : V) (stamp : Stamp) (e : Event) (done : List Action) → ActsTold contents leads notices w w' d d' v v' done
+      → Begins contents leads notices socket key stamp e done → DonePart [] w w' d d' v v' (going stamp) (e ∷ [])
+  begun_part w w' d d' v v' stamp e done p b = record {
     seen = e ∷ [];
     unseen = [];
     taken = refl;
@@ -107,9 +111,10 @@ module _ {W D : Type 0} (contents : W → Option (List ℕ)) (leads : D → Call
   }
 
   -- nothing more than a beginning of the actions before was done
-  pub cut_none : (before done : List Action) (w w' : W) (d d' : D) (s : State) (es : List Event) → Acts contents leads w w' d d' done
-      → IsStartOf done before → DonePart before w w' d d' s es
-  cut_none before done w w' d d' s es p q = record {
+  pub cut_none : (before done : List Action) (w w' : W) (d d' : D) (v v' : V) (s : State) (es : List Event)
+      → ActsTold contents leads notices w w' d d' v v' done
+      → IsStartOf done before → DonePart before w w' d d' v v' s es
+  cut_none before done w w' d d' v v' s es p q = record {
     seen = [];
     unseen = es;
     taken = refl;
@@ -122,9 +127,9 @@ module _ {W D : Type 0} (contents : W → Option (List ℕ)) (leads : D → Call
   }
 
   -- all was done, and no more
-  pub cut_whole : (before : List Action) (w w' : W) (d d' : D) (s s' : State) (es : List Event)
-      → DoneAll before w w' d d' s s' es → DonePart before w w' d d' s es
-  cut_whole before w w' d d' s s' es p = record {
+  pub cut_whole : (before : List Action) (w w' : W) (d d' : D) (v v' : V) (s s' : State) (es : List Event)
+      → DoneAll before w w' d d' v v' s s' es → DonePart before w w' d d' v v' s es
+  cut_whole before w w' d d' v v' s s' es p = record {
     seen = p.seen;
     unseen = p.unseen;
     taken = p.taken;
@@ -136,30 +141,30 @@ module _ {W D : Type 0} (contents : W → Option (List ℕ)) (leads : D → Call
     start = ([], sym (append-nil (before ++ p.actions)));
   }
 
-  pub cut_one : (w w' : W) (d d' : D) (stamp : Stamp) (e : Event)
-      → Breaks contents leads socket key w w' d d' stamp e → DonePart [] w w' d d' (going stamp) (e ∷ [])
-  cut_one w w' d d' stamp e p =
+  pub cut_one : (w w' : W) (d d' : D) (v v' : V) (stamp : Stamp) (e : Event)
+      → Breaks contents leads notices socket key w w' d d' v v' stamp e → DonePart [] w w' d d' v v' (going stamp) (e ∷ [])
+  cut_one w w' d d' v v' stamp e p =
       elim p.begun [
-        | inl b ↦ begun_part w w' d d' stamp e p.done p.acts b
-        | inr none ↦ cut_none [] p.done w w' d d' (going stamp) (e ∷ []) p.acts ([], sym (append-nil p.done ∙ none))
+        | inl b ↦ begun_part w w' d d' v v' stamp e p.done p.acts b
+        | inr none ↦ cut_none [] p.done w w' d d' v v' (going stamp) (e ∷ []) p.acts ([], sym (append-nil p.done ∙ none))
       ]
 
-  pub whole_whole : (before : List Action) (w w1 w2 : W) (d d1 d2 : D) (s s1 s2 : State) (es1 es2 : List Event)
-      → DoneAll before w w1 d d1 s s1 es1 → s1.flow ≡ Going → DoneAll [] w1 w2 d1 d2 s1 s2 es2 → DoneAll before w w2 d d2 s s2 (es1 ++ es2)
-  whole_whole before w w1 w2 d d1 d2 s s1 s2 es1 es2 p goes q = record {
+  pub whole_whole : (before : List Action) (w w1 w2 : W) (d d1 d2 : D) (v v1 v2 : V) (s s1 s2 : State) (es1 es2 : List Event)
+      → DoneAll before w w1 d d1 v v1 s s1 es1 → s1.flow ≡ Going → DoneAll [] w1 w2 d1 d2 v1 v2 s1 s2 es2 → DoneAll before w w2 d d2 v v2 s s2 (es1 ++ es2)
+  whole_whole before w w1 w2 d d1 d2 v v1 v2 s s1 s2 es1 es2 p goes q = record {
     seen = p.seen ++ q.seen;
     unseen = q.unseen;
     taken = taken_both es1 es2 p.seen q.seen p.unseen q.unseen p.taken (p.none_unseen goes) q.taken;
     none_unseen = q.none_unseen;
     actions = p.actions ++ q.actions;
     session = session_join socket key s p.seen q.seen p.actions q.actions s1 s2 p.session q.session;
-    acts = subst (Acts contents leads w w2 d d2) (append_assoc before p.actions q.actions)
-        (acts_join contents leads w w1 w2 d d1 d2 _ _ p.acts q.acts);
+    acts = subst (ActsTold contents leads notices w w2 d d2 v v2) (append_assoc before p.actions q.actions)
+        (told_join contents leads notices w w1 w2 d d1 d2 v v1 v2 _ _ p.acts q.acts);
   }
 
-  pub whole_cut : (before : List Action) (w w1 w2 : W) (d d1 d2 : D) (s s1 : State) (es1 es2 : List Event)
-      → DoneAll before w w1 d d1 s s1 es1 → s1.flow ≡ Going → DonePart [] w1 w2 d1 d2 s1 es2 → DonePart before w w2 d d2 s (es1 ++ es2)
-  whole_cut before w w1 w2 d d1 d2 s s1 es1 es2 p goes q =
+  pub whole_cut : (before : List Action) (w w1 w2 : W) (d d1 d2 : D) (v v1 v2 : V) (s s1 : State) (es1 es2 : List Event)
+      → DoneAll before w w1 d d1 v v1 s s1 es1 → s1.flow ≡ Going → DonePart [] w1 w2 d1 d2 v1 v2 s1 es2 → DonePart before w w2 d d2 v v2 s (es1 ++ es2)
+  whole_cut before w w1 w2 d d1 d2 v v1 v2 s s1 es1 es2 p goes q =
       let first = before ++ p.actions in
       record {
         seen = p.seen ++ q.seen;
@@ -169,7 +174,7 @@ module _ {W D : Type 0} (contents : W → Option (List ℕ)) (leads : D → Call
         new = q.new;
         session = session_join socket key s p.seen q.seen p.actions q.actions s1 q.new p.session q.session;
         done = first ++ q.done;
-        acts = acts_join contents leads w w1 w2 d d1 d2 _ _ p.acts q.acts;
+        acts = told_join contents leads notices w w1 w2 d d1 d2 v v1 v2 _ _ p.acts q.acts;
         start = (
           q.start.0,
           sym (append_assoc before p.actions q.actions) ∙ ap (λ (t : List Action). first ++ t) q.start.1 ∙ sym (append_assoc first q.done q.start.0),
@@ -177,9 +182,9 @@ module _ {W D : Type 0} (contents : W → Option (List ℕ)) (leads : D → Call
       }
 
   -- a session that is over, or was cut, leaves what follows unseen
-  pub whole_over : (before : List Action) (w w' : W) (d d' : D) (s s' : State) (es more : List Event)
-      → DoneAll before w w' d d' s s' es → s'.flow ≢ Going → DoneAll before w w' d d' s s' (es ++ more)
-  whole_over before w w' d d' s s' es more p over = record {
+  pub whole_over : (before : List Action) (w w' : W) (d d' : D) (v v' : V) (s s' : State) (es more : List Event)
+      → DoneAll before w w' d d' v v' s s' es → s'.flow ≢ Going → DoneAll before w w' d d' v v' s s' (es ++ more)
+  whole_over before w w' d d' v v' s s' es more p over = record {
     seen = p.seen;
     unseen = p.unseen ++ more;
     taken = ap (λ (t : List Event). t ++ more) p.taken ∙ append_assoc p.seen p.unseen more;
@@ -189,9 +194,9 @@ module _ {W D : Type 0} (contents : W → Option (List ℕ)) (leads : D → Call
     acts = p.acts;
   }
 
-  pub cut_over : (before : List Action) (w w' : W) (d d' : D) (s : State) (es more : List Event)
-      → DonePart before w w' d d' s es → DonePart before w w' d d' s (es ++ more)
-  cut_over before w w' d d' s es more p = record {
+  pub cut_over : (before : List Action) (w w' : W) (d d' : D) (v v' : V) (s : State) (es more : List Event)
+      → DonePart before w w' d d' v v' s es → DonePart before w w' d d' v v' s (es ++ more)
+  cut_over before w w' d d' v v' s es more p = record {
     seen = p.seen;
     unseen = p.unseen ++ more;
     taken = ap (λ (t : List Event). t ++ more) p.taken ∙ append_assoc p.seen p.unseen more;

@@ -11,7 +11,8 @@ use Rattle.kernel_session.specs.declared.flow.Flow.TheVariants.{Going, Closed, W
 use Rattle.kernel_session.specs.declared.fault.ServeFault.{ServeFault}
 use Rattle.kernel_session.specs.declared.fault.ServeFault.TheVariants.{Read, Write, Peer, Memory}
 use Rattle.kernel_session.specs.Call.{Call}
-use Rattle.kernel_session.specs.Action.{Action, Acts, IsStartOf}
+use Rattle.kernel_watch.specs.declared.notice.Notice.{Notice}
+use Rattle.kernel_session.specs.Action.{Action, ActsTold, IsStartOf}
 use Rattle.kernel_session.specs.Session.{State, going, role_of, IsStep, IsSession}
 use Rattle.kernel_session.specs.Closing.{Closes, ClosesPart}
 
@@ -22,13 +23,14 @@ IsMidway Memory = Unit {0}
 IsMidway Read = ⊥
 IsMidway (Peer fault) = ⊥
 
--- what one connection is between, and its key: what a writer holds, what a call does to the desk, the socket
-module _ {W D : Type 0} (contents : W → Option (List ℕ)) (leads : D → Call → D → Type 0) (socket : Socket) (key : List ℕ) where
+-- what one connection is between, and its key: what a writer holds, what a call does to the desk, what a watcher was told, the socket
+module _ {W D V : Type 0} (contents : W → Option (List ℕ)) (leads : D → Call → D → Type 0) (notices : V → Option (List Notice)) (socket : Socket)
+    (key : List ℕ) where
   -- the event was taken, from a session with this stamp
-  pub record Takes (writer writer' : W) (desk desk' : D) (stamp : Stamp) (event : Event) (new : State) : Type 0 where
+  pub record Takes (writer writer' : W) (desk desk' : D) (watcher watcher' : V) (stamp : Stamp) (event : Event) (new : State) : Type 0 where
     pub actions : List Action
     pub step : IsStep socket key stamp event actions new
-    pub acts : Acts contents leads writer writer' desk desk' actions
+    pub acts : ActsTold contents leads notices writer writer' desk desk' watcher watcher' actions
 
   -- a beginning of what the event brings
   pub record Begins (stamp : Stamp) (event : Event) (done : List Action) : Type 0 where
@@ -38,32 +40,33 @@ module _ {W D : Type 0} (contents : W → Option (List ℕ)) (leads : D → Call
     pub start : IsStartOf done actions
 
   -- a beginning of what the event brings was done, or nothing
-  pub record Breaks (writer writer' : W) (desk desk' : D) (stamp : Stamp) (event : Event) : Type 0 where
+  pub record Breaks (writer writer' : W) (desk desk' : D) (watcher watcher' : V) (stamp : Stamp) (event : Event) : Type 0 where
     pub done : List Action
-    pub acts : Acts contents leads writer writer' desk desk' done
+    pub acts : ActsTold contents leads notices writer writer' desk desk' watcher watcher' done
     pub begun : Begins stamp event done ⊎ (done ≡ [])
 
   -- All was done that the events bring, and before it the actions before, from one state of the session to another. Where it is over
   -- some of the events were not looked at.
-  pub record Whole (before : List Action) (writer writer' : W) (desk desk' : D) (old new : State) (events : List Event) : Type 0 where
+  pub record Whole (before : List Action) (writer writer' : W) (desk desk' : D) (watcher watcher' : V) (old new : State) (events : List Event) : Type 0 where
     pub seen : List Event
     pub unseen : List Event
     pub taken : events ≡ seen ++ unseen
     pub none_unseen : new.flow ≡ Going → unseen ≡ []
     pub actions : List Action
     pub session : IsSession socket key old seen actions new
-    pub acts : Acts contents leads writer writer' desk desk' (before ++ actions)
+    pub acts : ActsTold contents leads notices writer writer' desk desk' watcher watcher' (before ++ actions)
 
   -- All was done that the events and the end of the input bring.
-  pub record WholeToEnd (before : List Action) (writer writer' : W) (desk desk' : D) (old new : State) (events : List Event) : Type 0 where
+  pub record WholeToEnd (before : List Action) (writer writer' : W) (desk desk' : D) (watcher watcher' : V) (old new : State)
+      (events : List Event) : Type 0 where
     pub actions : List Action
     pub session : IsSession socket key old events actions new
     pub closing : List Action
     pub closes : Closes socket events closing
-    pub acts : Acts contents leads writer writer' desk desk' (before ++ actions ++ closing)
+    pub acts : ActsTold contents leads notices writer writer' desk desk' watcher watcher' (before ++ actions ++ closing)
 
   -- A beginning was done of what the events bring: a write failed, or memory was refused.
-  pub record Cut (before : List Action) (writer writer' : W) (desk desk' : D) (old : State) (events : List Event) : Type 0 where
+  pub record Cut (before : List Action) (writer writer' : W) (desk desk' : D) (watcher watcher' : V) (old : State) (events : List Event) : Type 0 where
     pub seen : List Event
     pub unseen : List Event
     pub taken : events ≡ seen ++ unseen
@@ -71,46 +74,46 @@ module _ {W D : Type 0} (contents : W → Option (List ℕ)) (leads : D → Call
     pub new : State
     pub session : IsSession socket key old seen actions new
     pub done : List Action
-    pub acts : Acts contents leads writer writer' desk desk' done
+    pub acts : ActsTold contents leads notices writer writer' desk desk' watcher watcher' done
     pub start : IsStartOf done (before ++ actions)
 
   -- the same behind all the events, of what the end of the input brings
-  pub record CutAtEnd (before : List Action) (writer writer' : W) (desk desk' : D) (old : State) (events : List Event) : Type 0 where
+  pub record CutAtEnd (before : List Action) (writer writer' : W) (desk desk' : D) (watcher watcher' : V) (old : State) (events : List Event) : Type 0 where
     pub actions : List Action
     pub new : State
     pub session : IsSession socket key old events actions new
     pub closing : List Action
     pub closes : ClosesPart socket events closing
     pub done : List Action
-    pub acts : Acts contents leads writer writer' desk desk' done
+    pub acts : ActsTold contents leads notices writer writer' desk desk' watcher watcher' done
     pub start : IsStartOf done (before ++ actions ++ closing)
 
   -- how a piece that the peer sent stops a connection
-  abbrev pub stops_by : W → W → D → D → Stamp → Stamp → PeerState → List ℕ → PeerState → ServeFault → Type 0
-  stops_by w w' d d' stamp stamp' peer piece peer' Read = ⊥
-  stops_by w w' d d' stamp stamp' peer piece peer' Write =
-      (events : List Event) × Brings peer piece events peer' × Cut [] w w' d d' (going stamp) events
-  stops_by w w' d d' stamp stamp' peer piece peer' Memory =
+  abbrev pub stops_by : W → W → D → D → V → V → Stamp → Stamp → PeerState → List ℕ → PeerState → ServeFault → Type 0
+  stops_by w w' d d' v v' stamp stamp' peer piece peer' Read = ⊥
+  stops_by w w' d d' v v' stamp stamp' peer piece peer' Write =
+      (events : List Event) × Brings peer piece events peer' × Cut [] w w' d d' v v' (going stamp) events
+  stops_by w w' d d' v v' stamp stamp' peer piece peer' Memory =
       (part : List ℕ) × (rest : List ℕ) × (piece ≡ part ++ rest)
-      × (events : List Event) × Brings peer part events peer' × Cut [] w w' d d' (going stamp) events
-  stops_by w w' d d' stamp stamp' peer piece peer' (Peer fault) =
+      × (events : List Event) × Brings peer part events peer' × Cut [] w w' d d' v v' (going stamp) events
+  stops_by w w' d d' v v' stamp stamp' peer piece peer' (Peer fault) =
       (events : List Event) × Brings peer piece events peer' × (fault_of fault ≢ want_of_memory) × (peer'.state ≡ Refused (fault_of fault))
-      × Whole [] w w' d d' (going stamp) (going stamp') events
+      × Whole [] w w' d d' v v' (going stamp) (going stamp') events
 
-  module _ (before : List Action) (writer writer' : W) (desk desk' : D) (old : State) (stamp' : Stamp) where
+  module _ (before : List Action) (writer writer' : W) (desk desk' : D) (watcher watcher' : V) (old : State) (stamp' : Stamp) where
     abbrev pub comes_to : Flow → List Event → Type 0
-    comes_to flow events = Whole before writer writer' desk desk' old (record { stamp = stamp'; flow = flow }) events
+    comes_to flow events = Whole before writer writer' desk desk' watcher watcher' old (record { stamp = stamp'; flow = flow }) events
 
     abbrev pub comes_to_end : List Event → Type 0
-    comes_to_end events = WholeToEnd before writer writer' desk desk' old (record { stamp = stamp'; flow = Going }) events
+    comes_to_end events = WholeToEnd before writer writer' desk desk' watcher watcher' old (record { stamp = stamp'; flow = Going }) events
 
     -- a beginning of what the events bring
     abbrev pub is_cut : List Event → Type 0
-    is_cut events = Cut before writer writer' desk desk' old events
+    is_cut events = Cut before writer writer' desk desk' watcher watcher' old events
 
     -- all that they bring, at the end of the input, and a beginning of what that brings
     abbrev pub is_cut_at_end : Option (List ℕ) → List Event → Ending → Type 0
-    is_cut_at_end left events ending = (ending ≡ Awaiting) × IsAtEnd left × CutAtEnd before writer writer' desk desk' old events
+    is_cut_at_end left events ending = (ending ≡ Awaiting) × IsAtEnd left × CutAtEnd before writer writer' desk desk' watcher watcher' old events
 
     -- how the octets are read: the events that they tell, and what is behind these
     abbrev pub Reading : (List Event → Ending → Type 0) → List ℕ → Type 0

@@ -8,9 +8,13 @@ use Rattle.kernel_reply.specs.Status.{busy}
 use Rattle.kernel_message.specs.declared.stamp.Stamp.{Stamp}
 use Rattle.kernel_session.specs.declared.talk.DeskReply.{DeskReply}
 use Rattle.kernel_session.specs.Call.{Call, Published, Dated, Leads}
-use Rattle.kernel_session.specs.Action.{Action, Acts, IsStartOf}
+use Rattle.kernel_watch.specs.declared.notice.Notice.{Notice}
+use Rattle.kernel_session.specs.declared.message.Reading.{Reading}
+use Rattle.kernel_session.specs.declared.message.Reading.TheVariants.{NoMessage, Nothing, Asked}
+use Rattle.kernel_session.specs.declared.socket.Socket.{Socket}
+use Rattle.kernel_session.specs.Action.{Action, Acts, ActsTold, IsStartOf}
 use Rattle.kernel_session.specs.Talk.{Heard, talk, says_of, says_with}
-use Rattle.kernel_session.specs.Session.{IsDated, opened, asking, ends_with}
+use Rattle.kernel_session.specs.Session.{IsDated, IsAsked, AsksNothing, IsNoMessage, opened, asking, ends_with}
 
 -- some of the calls were made, in their order
 abbrev pub LedPart : {D : Type 0} → (D → Call → D → Type 0) → D → List Call → D → Type 0
@@ -20,6 +24,18 @@ LedPart leads old calls new = (done : List Call) × (more : List Call) × (calls
 abbrev pub ActedPart : {W D : Type 0} → (W → Option (List ℕ)) → (D → Call → D → Type 0) → W → W → D → D → List Action → Type 0
 ActedPart contents leads writer writer' desk desk' actions =
     (done : List Action) × Acts contents leads writer writer' desk desk' done × IsStartOf done actions
+
+-- the same with the notices
+abbrev pub ActedToldPart : {W D V : Type 0} → (W → Option (List ℕ)) → (D → Call → D → Type 0) → (V → Option (List Notice)) → W → W → D → D → V → V
+    → List Action → Type 0
+ActedToldPart contents leads notices writer writer' desk desk' watcher watcher' actions =
+    (done : List Action) × ActsTold contents leads notices writer writer' desk desk' watcher watcher' done × IsStartOf done actions
+
+-- what was read of the frames of a message is so
+abbrev pub IsRead : Socket → List ℕ → List (List ℕ) → Reading → Type 0
+IsRead socket key frames NoMessage = IsNoMessage key frames
+IsRead socket key frames Nothing = AsksNothing socket key frames
+IsRead socket key frames (Asked request) = IsAsked socket key frames request
 
 module _ {D : Type 0} (leads : D → Call → D → Type 0) (desk desk' : D) (key : List ℕ) (header : List ℕ) (stamp : Stamp) where
   -- the date was set and the status busy published, with this header as parent header

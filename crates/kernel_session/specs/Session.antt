@@ -30,7 +30,10 @@ use Rattle.kernel_session.specs.declared.flow.Flow.{Flow}
 use Rattle.kernel_session.specs.declared.flow.Flow.TheVariants.{Going, Closed, Worn, OutOfMemory}
 use Rattle.kernel_session.specs.declared.talk.DeskReply.{DeskReply}
 use Rattle.kernel_session.specs.Call.{Call, Published, Dated}
-use Rattle.kernel_session.specs.Action.{Action, sends, asks}
+use Rattle.kernel_watch.specs.declared.notice.Notice.{Notice}
+use Rattle.kernel_watch.specs.declared.notice.Notice.TheVariants as notice
+use Rattle.kernel_watch.specs.Pings.{answers}
+use Rattle.kernel_session.specs.Action.{Action, Told, sends, asks, tells}
 use Rattle.kernel_session.specs.Sendable.{sendable}
 use Rattle.kernel_session.specs.Talk.{Heard, Talk, talk, says_of}
 
@@ -87,9 +90,9 @@ pub record AsksNothing (socket : Socket) (key : List ℕ) (frames : List (List �
   pub nothing : ((fault : MsgFault) × (asked message ≡ Err fault))
       ⊎ ((t : RequestType) × (content : Data) × (asked message ≡ Ok (t, content)) × (serves socket t ≡ false))
 
--- They are refused: as no message, or as one that asks nothing which is served.
-abbrev pub IsPassedOver : Socket → List ℕ → List (List ℕ) → Type 0
-IsPassedOver socket key frames = ((fault : MsgFault) × IsRefused key frames fault) ⊎ AsksNothing socket key frames
+-- They are refused as no message: a wrong signature is one reason.
+abbrev pub IsNoMessage : List ℕ → List (List ℕ) → Type 0
+IsNoMessage key frames = (fault : MsgFault) × IsRefused key frames fault
 
 -- ---- what a request brings
 
@@ -189,17 +192,27 @@ pub record IsQuiet (stamp : Stamp) (actions : List Action) (new : State) : Type 
   pub quiet : actions ≡ []
   pub same : new ≡ going stamp
 
+-- a request is served, and the watcher is told as it begins, and as it is done
+abbrev pub IsServedTold : List ℕ → Request → Stamp → List Action → State → Type 0
+IsServedTold key r stamp actions new =
+    (body : List Action) × IsServed key r stamp body new × (actions ≡ Told notice.Begun ∷ (body ++ tells (notice.Done ∷ [])))
+
+-- the watcher is told that the message is signed, and then comes this
+abbrev pub IsSignedThen : (List Action → Type 0) → List Action → Type 0
+IsSignedThen P actions = (rest : List Action) × P rest × (actions ≡ Told notice.Signed ∷ rest)
+
 -- ---- what an event brings
 
--- a request is served; all else is passed over
+-- of a message that is signed the watcher is told; a request is served, and all else is passed over
 abbrev pub IsTurn : Socket → List ℕ → Stamp → List (List ℕ) → List Action → State → Type 0
 IsTurn socket key stamp frames actions new =
-    ((r : Request) × IsAsked socket key frames r × (IsServed key r stamp actions new ⊎ IsWorn stamp actions new))
-    ⊎ (IsPassedOver socket key frames × IsQuiet stamp actions new)
+    ((r : Request) × IsAsked socket key frames r × IsSignedThen (λ rest. IsServedTold key r stamp rest new ⊎ IsWorn stamp rest new) actions)
+    ⊎ ((AsksNothing socket key frames × IsSignedThen (λ rest. IsQuiet stamp rest new) actions)
+    ⊎ (IsNoMessage key frames × IsQuiet stamp actions new))
 
--- the message is sent back
+-- the message is sent back, and then the watcher is told
 abbrev pub IsEcho : Stamp → List (List ℕ) → List Action → State → Type 0
-IsEcho stamp frames actions new = (actions ≡ sends (message_octets frames)) × (new ≡ going stamp)
+IsEcho stamp frames actions new = (actions ≡ sends (message_octets frames) ++ tells (notice.Echoed ∷ [])) × (new ≡ going stamp)
 
 -- what a message brings on each socket: heartbeat sends it back, and stdin passes it over
 abbrev pub IsMessageStep : Socket → List ℕ → Stamp → List (List ℕ) → List Action → State → Type 0
@@ -209,14 +222,18 @@ IsMessageStep Heartbeat key stamp frames actions new = IsEcho stamp frames actio
 IsMessageStep Stdin key stamp frames actions new = IsQuiet stamp actions new
 IsMessageStep Iopub key stamp frames actions new = IsQuiet stamp actions new
 
--- a ping is answered with its context, on each socket: before the next message goes out, and never within one
+-- a ping is answered with its context, on each socket: before the next message goes out, and never within one; and then the watcher is told
 abbrev pub IsPong : Stamp → List ℕ → List Action → State → Type 0
-IsPong stamp context actions new = (actions ≡ sends (pong_octets context)) × (new ≡ going stamp)
+IsPong stamp context actions new = (actions ≡ sends (pong_octets context) ++ tells (answers context ∷ [])) × (new ≡ going stamp)
 
--- READY and subscriptions bring nothing by themselves
+-- the watcher is told that the handshake is over
+abbrev pub IsReady : Stamp → List Action → State → Type 0
+IsReady stamp actions new = (actions ≡ tells (notice.Ready ∷ [])) × (new ≡ going stamp)
+
+-- subscriptions bring nothing by themselves
 abbrev pub IsStep : Socket → List ℕ → Stamp → Event → List Action → State → Type 0
 IsStep socket key stamp (peer.Message frames) actions new = IsMessageStep socket key stamp frames actions new
-IsStep socket key stamp peer.Ready actions new = IsQuiet stamp actions new
+IsStep socket key stamp peer.Ready actions new = IsReady stamp actions new
 IsStep socket key stamp (peer.Subscribe prefix) actions new = IsQuiet stamp actions new
 IsStep socket key stamp (peer.Cancel prefix) actions new = IsQuiet stamp actions new
 IsStep socket key stamp (peer.Ping context) actions new = IsPong stamp context actions new

@@ -23,6 +23,7 @@ use exact_write::send;
 use jupyter_msg::Key;
 use kernel_board::Broadcast;
 use kernel_message::Stamp;
+use kernel_watch::Watcher;
 use std::alloc::Global;
 use std::io::{Read, Write};
 use zmtp_peer::{Peer, PeerFault, octets_have_one_reading_law};
@@ -56,29 +57,40 @@ fn stop(fault: PeerFault) -> ServeFault
 }
 
 /// Takes the next piece of what the peer sends.
-fn advance<W: Write, D: Desk>(
+fn advance<W: Write, D: Desk, V: Watcher>(
     alloc: Global,
     socket: Socket,
     key: &Key,
     peer: &mut Peer,
     writer: &mut W,
     desk: &mut D,
+    watcher: &mut V,
     stamp: &mut Stamp,
     piece: &[u8],
 ) -> Result<Flow, ServeFault>
     ensures ok { IfOk result (λ flow. (events : List Event) × Brings peer.old piece.now events peer.new
-        × comes_to W.contents D.leads socket key.now [] writer.old writer.new desk.old desk.new (going stamp.old) stamp.new flow events) }
+        × comes_to W.contents D.leads V.notices socket key.now [] writer.old writer.new desk.old desk.new watcher.old watcher.new
+        (going stamp.old) stamp.new flow events) }
     ensures quiet { IfOk result (λ flow. flow ≡ Flow.Going → (fed : List ℕ) → (given : List Event) → Stands fed given peer.old
         → ending_of peer.new.state ≡ Awaiting) }
-    ensures err { IfErr result (λ fault. stops_by W.contents D.leads socket key.now writer.old writer.new desk.old desk.new
-        stamp.old stamp.new peer.old piece.now peer.new fault) }
+    ensures err { IfErr result (λ fault. stops_by W.contents D.leads V.notices socket key.now writer.old writer.new desk.old desk.new
+        watcher.old watcher.new stamp.old stamp.new peer.old piece.now peer.new fault) }
     ensures role { peer.new.role ≡ peer.old.role }
 {
     let mut events = match peer.feed(piece) {
         Ok(events) => events,
         Err(fault) => return Err(stop(fault)),
     };
-    let flow = match take_all(alloc, socket, key, writer, desk, stamp, &mut events) {
+    let flow = match take_all(
+        alloc,
+        socket,
+        key,
+        writer,
+        desk,
+        watcher,
+        stamp,
+        &mut events,
+    ) {
         Ok(flow) => flow,
         Err(fault) => return Err(fault),
     };
@@ -188,8 +200,12 @@ fn send_opening<W: Write>(writer: &mut W, peer: &Peer) -> Result<(), ServeFault>
     }
 }
 
-/// Serves one connection: what is written and what is asked of the desk is the session of what was read, and before it the opening of
-/// the socket's role. `Ok` comes at the end of the input, an end inside a frame included, and once a shutdown is answered.
+/// Serves one connection: what is written, what is asked of the desk and what the watcher is told is the session of what was read, and before it the
+/// opening of the socket's role. `Ok` comes at the end of the input, an end inside a frame included, and once a shutdown is answered.
+///
+/// The watcher is told that the handshake is over once it is; of each message on shell and control that it is signed, once its signature was found
+/// right and before anything is done for it; that a request is under way before the first call for it, and that it is done behind its reply; that a
+/// message was sent back, or a ping answered, once all its octets are out. It is told nothing else, and nothing twice.
 ///
 /// # Errors
 ///
@@ -198,18 +214,19 @@ fn send_opening<W: Write>(writer: &mut W, peer: &Peer) -> Result<(), ServeFault>
 /// the wire, and nothing is written for it;
 /// `Memory` where there is none, here or at the desk. With `Write` a beginning of the session was done, with `Memory` a beginning of that of some
 /// beginning of what was read.
-pub fn serve<R: Read, W: Write, D: Desk>(
+pub fn serve<R: Read, W: Write, D: Desk, V: Watcher>(
     alloc: Global,
     socket: Socket,
     key: &Key,
     reader: &mut R,
     writer: &mut W,
     desk: &mut D,
+    watcher: &mut V,
     stamp: &mut Stamp,
 ) -> Result<(), ServeFault>
     ensures session { (input : List ℕ) × Consumes (R.remaining reader.old) (R.remaining reader.new) input
-        × ends_by W.contents D.leads socket key.now (sends (opening_of (role_of socket))) writer.old writer.new desk.old desk.new
-        (going stamp.old) stamp.new result input (R.remaining reader.new) }
+        × ends_by W.contents D.leads V.notices socket key.now (sends (opening_of (role_of socket))) writer.old writer.new desk.old desk.new
+        watcher.old watcher.new (going stamp.old) stamp.new result input (R.remaining reader.new) }
 {
     let mut peer = Peer::new(alloc, socket.role());
     match send_opening(writer, &peer) {
@@ -230,6 +247,7 @@ pub fn serve<R: Read, W: Write, D: Desk>(
             &mut peer,
             writer,
             desk,
+            watcher,
             stamp,
             &room[..count],
         ) {

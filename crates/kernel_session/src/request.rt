@@ -9,7 +9,7 @@ ghost use Rattle.kernel_session.specs.Call.{Leads, Published};
 ghost use Rattle.exact_write.specs.Sent.{SentSome};
 ghost use Rattle.kernel_session.specs.Action.{Action, Acts, IsStartOf};
 ghost use Rattle.kernel_session.specs.Talk.{says_with};
-ghost use Rattle.kernel_session.specs.Session.{State, IsServed, IsWorn, answered, reply_octets, ends_with};
+ghost use Rattle.kernel_session.specs.Session.{State, IsServed, answered, reply_octets, ends_with};
 ghost use Rattle.kernel_session.specs.Parts.{LedPart, IsBegun, IsDatedAlone, IsTakenUp, IsTakenUpPart, ActedPart, HasHandedOn, text_of};
 ghost use Rattle.kernel_session.specs.Ends.{IsMidway};
 
@@ -25,9 +25,6 @@ use kernel_message::{Outgoing, Publication, Stamp};
 use kernel_reply::{answer, answer_ask, opening_by_header, refuse};
 use std::alloc::Global;
 use std::io::Write;
-
-/// The greatest number that a request may begin with: its messages have numbers too.
-const LAST_NEXT: u64 = u64::MAX - 15;
 
 /// Signs a broadcast and publishes it. An `Err` tells that there was no memory; then the desk was not called.
 fn publish<D: Desk>(
@@ -237,7 +234,7 @@ fn flow_after(content: &RequestContent) -> Flow
     }
 }
 
-/// Serves a request. The text of a cell and its user expressions are moved out of it.
+/// Serves a request for which a number is left. The text of a cell and its user expressions are moved out of it.
 pub(crate) fn take_request<W: Write, D: Desk>(
     alloc: Global,
     key: &Key,
@@ -246,17 +243,14 @@ pub(crate) fn take_request<W: Write, D: Desk>(
     stamp: &mut Stamp,
     request: &mut Request,
 ) -> Result<Flow, ServeFault>
+    requires { stamp.old.next ≤ 2 ^ 64 - 16 }
     ensures ok { IfOk result (λ flow. (actions : List Action)
         × Acts W.contents D.leads writer.old writer.new desk.old desk.new actions
-        × (IsServed key.now request.old stamp.old actions (record { stamp = stamp.new; flow = flow })
-        ⊎ IsWorn stamp.old actions (record { stamp = stamp.new; flow = flow }))) }
+        × IsServed key.now request.old stamp.old actions (record { stamp = stamp.new; flow = flow })) }
     ensures err { OnErr result ((actions : List Action) × (new : State) × IsServed key.now request.old stamp.old actions new
         × ActedPart W.contents D.leads writer.old writer.new desk.old desk.new actions) }
     ensures midway { IfErr result IsMidway }
 {
-    if stamp.next > LAST_NEXT {
-        return Ok(Flow::Worn);
-    }
     let consulted = take_up(alloc, key, desk, stamp, request)?;
     let told = match &consulted.told {
         Some(told) => told,

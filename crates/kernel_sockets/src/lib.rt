@@ -4,13 +4,14 @@
 //! A [`Listener`] hands out connections with no delay by Nagle's algorithm, on which a write waits ten seconds at most. [`Connections`] are
 //! those that are served at a number of places: who serves one enters it and leaves again, and who ends the kernel closes them all, so that
 //! no more come in, and reads from those that are there come to their end ([`ConnectionInput`]). Of the connection at each place a [`Presence`] tells
-//! whether it is ready, whether it is trusted, when it was heard and since when no request is under way, so that one makes room where all places are taken.
+//! whether it is ready, whether it is trusted, when it was heard and since when no request is under way, as it was noted there, so that one makes room where
+//! all places are taken.
 //! Who that is [`who_makes_room`] answers, by specs/Room.antt: of those whose time is over one that is not ready, else a stranger, and else who showed the
 //! key and has been silent for long with no request under way; of a class the one that has been silent longest. What strangers bring is counted by
 //! [`Strangers`]: each has its own share, and past their shares they bring no more together than [`COMMON_OCTETS`]. A place has an [`Allowance`] for each
-//! connection that it serves, whose [`Share`] can't be let go of: it is given back, and the types keep that the count is the sum of what the shares
-//! have, so that one which is given back is counted no longer. The time of a message that is written begins with its first piece and stays with the
-//! others ([`Patience`]).
+//! connection that it serves, whose [`Account`] counts what comes on it by a [`Share`] and can't be let go of: it is given back, and the types keep that
+//! the count is the sum of what the shares have, so that one which is given back is counted no longer. The time of a message that is written begins with its
+//! first piece and stays with the others ([`Patience`]).
 //!
 //! To the layer above this crate promises that rule, that count, that time and safety: no clause can say what a socket does. The register under the
 //! lock is exact on what it is lent ([`Connections`] is that register under a lock). It stands on no other crate of the kernel.
@@ -19,6 +20,7 @@
 //! refused, and `Common::bring` refuses other octets only where there would be more than [`COMMON_OCTETS`].
 #![tactic(auto)]
 
+mod account;
 mod connections;
 mod input;
 mod listener;
@@ -28,6 +30,7 @@ mod register;
 mod room;
 mod shares;
 
+pub use account::{Account, Quota};
 pub use connections::Connections;
 pub use input::ConnectionInput;
 pub use listener::Listener;

@@ -15,11 +15,11 @@ pub struct Presence {
     is_answered: AtomicBool,
     /// The octets of what came that were answered one by one since this was asked last.
     answered: AtomicU64,
-    /// When it was let in, or when something came on it, in milliseconds of a clock.
+    /// When it was let in, or when it was seen last that who is not known by a signature is there, in milliseconds of a clock.
     heard: AtomicU64,
-    /// It waits for what comes next: no request is under way.
+    /// No request is under way.
     is_resting: AtomicBool,
-    /// Since when it does.
+    /// Since when that is so and nothing came.
     rested: AtomicU64,
 }
 
@@ -32,7 +32,7 @@ impl Presence {
             is_answered: AtomicBool::new(false),
             answered: AtomicU64::new(0),
             heard: AtomicU64::new(0),
-            is_resting: AtomicBool::new(false),
+            is_resting: AtomicBool::new(true),
             rested: AtomicU64::new(0),
         }
     }
@@ -44,19 +44,29 @@ impl Presence {
         self.is_answered.store(false, Ordering::SeqCst);
         self.answered.store(0, Ordering::SeqCst);
         self.heard.store(now, Ordering::SeqCst);
-        self.is_resting.store(false, Ordering::SeqCst);
+        self.is_resting.store(true, Ordering::SeqCst);
         self.rested.store(now, Ordering::SeqCst);
     }
 
-    /// From this time on it waits for what comes next.
+    /// From this time on no request is under way.
     pub fn rest(&self, now: u64) {
         self.rested.store(now, Ordering::SeqCst);
         self.is_resting.store(true, Ordering::SeqCst);
     }
 
-    /// Something came on it that is looked at now.
+    /// A request is under way.
     pub fn work(&self) {
         self.is_resting.store(false, Ordering::SeqCst);
+    }
+
+    /// Something came on it at this time, whoever sent it: it is not silent.
+    pub fn stir(&self, now: u64) {
+        self.rested.store(now, Ordering::SeqCst);
+    }
+
+    /// Whether its handshake is over.
+    pub fn is_ready(&self) -> bool {
+        self.is_ready.load(Ordering::SeqCst)
     }
 
     /// Its handshake is over.
@@ -64,14 +74,14 @@ impl Presence {
         self.is_ready.store(true, Ordering::SeqCst);
     }
 
-    /// Something came on it at this time.
+    /// Who is not known by a signature is there at this time.
     pub fn hear(&self, now: u64) {
         self.heard.store(now, Ordering::SeqCst);
     }
 
-    /// Where a message with a valid signature is noted.
-    pub fn trust(&self) -> &AtomicBool {
-        &self.is_trusted
+    /// A message with a valid signature came on it.
+    pub fn trust(&self) {
+        self.is_trusted.store(true, Ordering::SeqCst);
     }
 
     /// Whether a message with a valid signature came on it.

@@ -13,7 +13,6 @@ use std::alloc::{AllocError, Global};
 use std::marker::Brand;
 use std::str;
 use std::sync::Wait;
-use std::sync::atomic::AtomicBool;
 use std::sync::ledger::{Blank, Ledger};
 use std::time::Clock;
 use tests_rows::{Sheet, cut};
@@ -129,10 +128,9 @@ fn sit_at<W: Ledger, L: HistoryName, R: Wait + Clock>(
 )
     requires { seat.bell ≡ hall.now }
 {
-    let trusted = AtomicBool::new(false);
     match hall.pass(rt) {
         Ok(pass) => {
-            let mut desk = HallDesk::new(rt, hall, bulletin, pass, seat, &trusted);
+            let mut desk = HallDesk::new(rt, hall, bulletin, pass, seat);
             tell_calls(&mut desk, calls, sheet);
         }
         Err(fault) => sheet.write(fault.name()),

@@ -2,13 +2,15 @@
 //! of 3.1, with their answers.
 //!
 //! No contract says what lies under a lock. These rows show what a desk publishes and reads back, what a subscriber is sent of it, that pings which
-//! wait are answered in their order, each once with its context, and where the limits of a subscriber end its connection. A block of `desk` is a desk
+//! wait are answered in their order, each once with its context, when the watcher of each half is told, and where the limits of a subscriber end its
+//! connection. A block of `desk` is a desk
 //! before a hall of its own, any other a subscriber at a bulletin of its own; what may stand in its rows is said by these two modules.
 //!
 //! The rows stand in the part `== publishing` of the files `stdin` and `stdout` of `tests_calls`.
 #![tactic(auto)]
 
 mod desk;
+mod notices;
 mod pinging;
 mod subscriber;
 

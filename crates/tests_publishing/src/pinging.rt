@@ -1,5 +1,5 @@
 //! A writer whose peer sends something while a message goes out to it.
-use kernel_iopub::{Bulletin, Subscriber, hear};
+use kernel_iopub::{Bulletin, Subscriber, Unwatched, hear};
 use std::io;
 use std::io::{ErrorKind, Write};
 use std::sync::ledger::Ledger;
@@ -22,7 +22,14 @@ impl<L: Ledger, R: Wait> Write for Pinging<'_, '_, '_, '_, L, R> {
     fn write(&mut self, buf: &[u8]) -> io::Result<usize> {
         if self.written.len() == self.at {
             let mut reader = self.sent;
-            if hear(self.rt, self.bulletin, self.shared, &mut reader).is_err() {
+            let heard = hear(
+                self.rt,
+                self.bulletin,
+                self.shared,
+                &mut reader,
+                &mut Unwatched,
+            );
+            if heard.is_err() {
                 return Err(ErrorKind::ConnectionReset.into());
             }
         }

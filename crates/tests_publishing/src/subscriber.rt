@@ -1,13 +1,15 @@
 //! Rows of a subscriber's connection. `publish` (a topic, a number of octets behind it, and how often) publishes broadcasts. `hear` (octets) has the
 //! reading half hear all that comes, and gives how that ends. `speak` has the writing half write to a subscriber that falls silent: how that ends,
 //! and what is written; `amid` (a number, and octets) the same where the octets come from the subscriber once it has this number of octets of what is
-//! written, of which it takes one at a time. `limits` gives how many prefixes, and how many octets of them, a connection may subscribe to.
+//! written, of which it takes one at a time. `ready` (octets) is `hear`, and gives what the watcher of the reading half was told; `answers` (a number) has
+//! the writing half write to a subscriber that takes this number of octets and then fails, and gives what its watcher was told. `limits` gives how many prefixes, and how many octets of them, a connection may subscribe to.
 ghost use Rattle.std.specs.Prelude.{◌≡◌, ◌<◌};
 
+use crate::notices::{Notebook, Taking};
 use crate::pinging::Pinging;
 use kernel_board::Broadcast;
 use kernel_iopub::{
-    Bulletin, PREFIX_LIMIT, PREFIX_OCTET_LIMIT, Subscriber, SubscriberFault, hear, speak,
+    Bulletin, PREFIX_LIMIT, PREFIX_OCTET_LIMIT, Subscriber, SubscriberFault, Unwatched, hear, speak,
 };
 use std::alloc::{AllocError, Global};
 use std::marker::Brand;
@@ -82,6 +84,8 @@ fn answer<L: Ledger, R: Wait>(rt: &R, connected: &mut Connected<L>, call: &str, 
         "hear" => hear_row(rt, connected, rest, sheet),
         "speak" => speak_out(rt, connected, sheet),
         "amid" => amid(rt, connected, rest, sheet),
+        "ready" => tell_ready(rt, connected, rest, sheet),
+        "answers" => tell_answers(rt, connected, rest, sheet),
         _ => limits(sheet),
     }
 }
@@ -123,7 +127,13 @@ fn hear_row<L: Ledger, R: Wait>(rt: &R, connected: &Connected<L>, row: &str, she
     match octets_of(sheet.alloc(), row) {
         Ok(octets) => {
             let mut reader = octets.as_slice();
-            let ended = hear(rt, &connected.bulletin, &connected.shared, &mut reader);
+            let ended = hear(
+                rt,
+                &connected.bulletin,
+                &connected.shared,
+                &mut reader,
+                &mut Unwatched,
+            );
             tell_ended(ended, sheet);
         }
         Err(_) => sheet.refuse(),
@@ -151,7 +161,15 @@ fn speak_out<L: Ledger, R: Wait>(rt: &R, connected: &mut Connected<L>, sheet: &m
         shared,
         share,
     } = connected;
-    let ended = speak(rt, alloc, bulletin, shared, share, &mut written);
+    let ended = speak(
+        rt,
+        alloc,
+        bulletin,
+        shared,
+        share,
+        &mut written,
+        &mut Unwatched,
+    );
     tell_spoken(ended, &written, sheet);
 }
 
@@ -193,8 +211,66 @@ fn speak_amid<L: Ledger, R: Wait>(
         at,
         sent,
     };
-    let ended = speak(rt, alloc, bulletin, shared, share, &mut writer);
+    let ended = speak(
+        rt,
+        alloc,
+        bulletin,
+        shared,
+        share,
+        &mut writer,
+        &mut Unwatched,
+    );
     tell_spoken(ended, &writer.written, sheet);
+}
+
+/// Has the reading half hear the octets of a row, and writes what its watcher was told.
+fn tell_ready<L: Ledger, R: Wait>(rt: &R, connected: &Connected<L>, row: &str, sheet: &mut Sheet) {
+    match octets_of(sheet.alloc(), row) {
+        Ok(octets) => {
+            let mut reader = octets.as_slice();
+            let mut notebook = Notebook::new(sheet.alloc());
+            let ended = hear(
+                rt,
+                &connected.bulletin,
+                &connected.shared,
+                &mut reader,
+                &mut notebook,
+            );
+            tell_ended(ended, sheet);
+            sheet.add(&notebook.notices);
+        }
+        Err(_) => sheet.refuse(),
+    }
+}
+
+/// Has the writing half write to a subscriber that takes a number of octets, and writes what its watcher was told.
+fn tell_answers<L: Ledger, R: Wait>(
+    rt: &R,
+    connected: &mut Connected<L>,
+    row: &str,
+    sheet: &mut Sheet,
+)
+    requires { L.parts ≡ 1 }
+{
+    let alloc = sheet.alloc();
+    let mut writer = Taking { left: number(row) };
+    let mut notebook = Notebook::new(alloc);
+    let Connected {
+        bulletin,
+        shared,
+        share,
+    } = connected;
+    let ended = speak(
+        rt,
+        alloc,
+        bulletin,
+        shared,
+        share,
+        &mut writer,
+        &mut notebook,
+    );
+    tell_ended(ended, sheet);
+    sheet.add(&notebook.notices);
 }
 
 /// The limits of a connection.

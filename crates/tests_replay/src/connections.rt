@@ -4,7 +4,7 @@ use crate::stamps::stamp;
 use hex::FromHexError;
 use jupyter_msg::Key;
 use kernel_message::Stamp;
-use kernel_server::{LoneDesk, Socket, serve_lone};
+use kernel_server::{LoneDesk, Socket, Unwatched, serve_lone};
 use std::sync::ledger::Ledger;
 use tests_rows::Sheet;
 
@@ -95,7 +95,16 @@ fn serve<L: Ledger>(
     let alloc = sheet.alloc();
     let mut input = octets;
     let mut written = Vec::new(alloc);
-    let ended = serve_lone(alloc, socket, key, &mut input, &mut written, desk, stamp);
+    let ended = serve_lone(
+        alloc,
+        socket,
+        key,
+        &mut input,
+        &mut written,
+        desk,
+        &mut Unwatched,
+        stamp,
+    );
     sheet.show(&ended);
     sheet.write("\n");
     write_escaped(&written, sheet);

@@ -2,6 +2,7 @@
 use crate::case::Case;
 use crate::desk::NoKernel;
 use crate::streams::{LimitedWriter, Pieces};
+use crate::watcher::Notebook;
 use jupyter_msg::Key;
 use kernel_board::Broadcast;
 use kernel_message::Stamp;
@@ -37,18 +38,21 @@ pub(crate) fn tell(word: &str, socket: &str, case: &Case, desk: &mut NoKernel, s
     let written = AtomicUsize::new(0);
     let mut reader = case.reader(&written);
     let mut writer = case.writer(&written, sheet);
+    let mut notebook = Notebook::new(sheet.alloc(), &written);
     let ended = served(
         socket_of(socket),
         case,
         &mut reader,
         &mut writer,
         desk,
+        &mut notebook,
         sheet,
     );
     sheet.show(&ended);
     match word {
         "watch" => tell_seen(reader.seen, sheet),
         "calls" => sheet.add(&desk.calls),
+        "notices" => sheet.add(&notebook.notices),
         _ => tell_all(&writer.octets, desk, sheet),
     }
 }
@@ -60,6 +64,7 @@ fn served(
     reader: &mut Pieces<'_>,
     writer: &mut LimitedWriter<'_>,
     desk: &mut NoKernel,
+    notebook: &mut Notebook<'_>,
     sheet: &mut Sheet,
 ) -> Result<(), ServeFault> {
     let key = Key::new(sheet.copied(&case.key));
@@ -71,6 +76,7 @@ fn served(
         reader,
         writer,
         desk,
+        notebook,
         &mut stamp,
     )
 }

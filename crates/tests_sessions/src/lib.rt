@@ -13,7 +13,8 @@
 //! byte string of Rust.
 //!
 //! `serve` a socket tells how the connection ended, what went out, and what the desk of the block has published and was called for by then; `calls` tells of
-//! these the calls alone, and `watch` how many octets had gone out before the last read. `sweep` has a setting, a socket and numbers, which may be written
+//! these the calls alone, `notices` what the watcher was told, with how many octets had gone out by then, and `watch` how many octets had gone out before
+//! the last read. `sweep` has a setting, a socket and numbers, which may be written
 //! with repeated parts: with each number the socket is served before a new desk, and what is told is written where it differs from what was told before.
 //! `date` tells that of the instant so many seconds behind the beginning of 1970, and `name` that of a session whose generator is keyed by zeros.
 //! `see` serves shell before a new kernel, and then what was put aside. `send` sends a message of these frames, and tells in how many writes it goes out.
@@ -29,6 +30,7 @@ mod sending;
 mod stamps;
 mod streams;
 mod sweeps;
+mod watcher;
 
 use crate::case::Case;
 use crate::desk::NoKernel;
@@ -52,7 +54,7 @@ pub fn tell(block: &str, sheet: &mut Sheet) {
 fn answer(row: &str, case: &mut Case, desk: &mut NoKernel, sheet: &mut Sheet) {
     let (word, rest) = cut(row);
     match word {
-        "serve" | "calls" | "watch" => connections::tell(word, rest, case, desk, sheet),
+        "serve" | "calls" | "notices" | "watch" => connections::tell(word, rest, case, desk, sheet),
         "sweep" => sweeps::tell(rest, case, sheet),
         "see" => lone::tell_whole(case, sheet),
         "send" => sending::tell(rest, sheet),

@@ -6,7 +6,7 @@ use crate::connections::{stamp, write_octets};
 use crate::sending::willing;
 use crate::streams::{LimitedWriter, Pieces};
 use jupyter_msg::Key;
-use kernel_server::{Comms, Kernel, LoneDesk, Socket, serve_lone};
+use kernel_server::{Comms, Kernel, LoneDesk, Socket, Unwatched, serve_lone};
 use std::marker::Brand;
 use std::sync::atomic::AtomicUsize;
 use std::sync::ledger::{Blank, Ledger};
@@ -103,6 +103,7 @@ fn tell_ended<L: Ledger>(
         &mut reader,
         writer,
         desk,
+        &mut Unwatched,
         &mut stamp,
     );
     sheet.write(": ");

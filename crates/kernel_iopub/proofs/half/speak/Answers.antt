@@ -1,20 +1,30 @@
 use Rattle.std.proofs.Common.{inl, refl, ◌∙◌}
 use Rattle.kernel_iopub.proofs.ServedLemmas.{nothing_sent, answered_on, sent_before}
+use Rattle.kernel_iopub.specs.Signs.{gone}
 use Rattle.kernel_iopub.proofs.half.speak.Goals as goal
 
 pub loop-init : goal.loop-init
-loop-init g c = record { sent = nothing_sent c.args.share.now.amount (g.W.Write.contents c.args.writer.now); parts = refl }
+loop-init g c = record {
+  sent = nothing_sent c.args.share.now.amount (gone (g.W.Write.contents c.args.writer.now) (g.V.Watcher.notices c.args.watcher.now));
+  parts = refl;
+}
 
 pub returns-in-Err-clause-err : goal.returns-in-Err-clause-err
-returns-in-Err-clause-err g c =
-    (g.W.Write.contents c.loop.writer, c.loop.at, c.loop.share.amount, c.loop.invariant.sent, inl c.in-Err.ensures.err)
+returns-in-Err-clause-err g c = (
+  gone (g.W.Write.contents c.loop.writer) (g.V.Watcher.notices c.loop.watcher),
+  c.loop.at,
+  c.loop.share.amount,
+  c.loop.invariant.sent,
+  inl c.in-Err.ensures.err,
+)
 
 pub returns-in-Err-go_on-clause-err : goal.returns-in-Err-go_on-clause-err
 returns-in-Err-go_on-clause-err g c =
     let taken = c.args.share.now.amount in
-    let first = g.W.Write.contents c.args.writer.now in
+    let first = gone (g.W.Write.contents c.args.writer.now) (g.V.Watcher.notices c.args.watcher.now) in
     let so_far =
-    answered_on taken c.loop.share.amount c.answer.new.share.amount first (g.W.Write.contents c.loop.writer) (g.W.Write.contents c.answer.new.writer) c.loop.at
+    answered_on taken c.loop.share.amount c.answer.new.share.amount first (gone (g.W.Write.contents c.loop.writer) (g.V.Watcher.notices c.loop.watcher))
+    (gone (g.W.Write.contents c.answer.new.writer) (g.V.Watcher.notices c.answer.new.watcher)) c.loop.at
     c.loop.invariant.sent c.in-Ok.ensures.ok in
     let before = sent_before taken c.answer.new.share.amount _ _ c.loop.at c.look-sight.result.joined _ c.or-before.ensures so_far in
     c.in-Err-go_on.ensures.err taken first before
@@ -22,9 +32,10 @@ returns-in-Err-go_on-clause-err g c =
 pub returns-then-sight-clause-ok : goal.returns-then-sight-clause-ok
 returns-then-sight-clause-ok g c =
     let taken = c.args.share.now.amount in
-    let first = g.W.Write.contents c.args.writer.now in
+    let first = gone (g.W.Write.contents c.args.writer.now) (g.V.Watcher.notices c.args.watcher.now) in
     let so_far =
-    answered_on taken c.loop.share.amount c.answer.new.share.amount first (g.W.Write.contents c.loop.writer) (g.W.Write.contents c.answer.new.writer) c.loop.at
+    answered_on taken c.loop.share.amount c.answer.new.share.amount first (gone (g.W.Write.contents c.loop.writer) (g.V.Watcher.notices c.loop.watcher))
+    (gone (g.W.Write.contents c.answer.new.writer) (g.V.Watcher.notices c.answer.new.watcher)) c.loop.at
     c.loop.invariant.sent c.in-Ok.ensures.ok in
     let before = sent_before taken c.answer.new.share.amount _ _ c.loop.at c.look-sight.result.joined _ c.or-before.ensures so_far in
     (c.in-Ok-go_on.after, c.in-Ok-go_on.ensures.ok taken first before)
@@ -32,9 +43,10 @@ returns-then-sight-clause-ok g c =
 pub loop-preserved-then-eq : goal.loop-preserved-then-eq
 loop-preserved-then-eq g c =
     let taken = c.args.share.now.amount in
-    let first = g.W.Write.contents c.args.writer.now in
+    let first = gone (g.W.Write.contents c.args.writer.now) (g.V.Watcher.notices c.args.watcher.now) in
     let so_far =
-    answered_on taken c.loop.share.amount c.answer.new.share.amount first (g.W.Write.contents c.loop.writer) (g.W.Write.contents c.answer.new.writer) c.loop.at
+    answered_on taken c.loop.share.amount c.answer.new.share.amount first (gone (g.W.Write.contents c.loop.writer) (g.V.Watcher.notices c.loop.watcher))
+    (gone (g.W.Write.contents c.answer.new.writer) (g.V.Watcher.notices c.answer.new.watcher)) c.loop.at
     c.loop.invariant.sent c.in-Ok.ensures.ok in
     let before = sent_before taken c.answer.new.share.amount _ _ c.loop.at c.look-sight.result.joined _ c.or-before.ensures so_far in
     record { sent = c.in-Ok-go_on.ensures.ok taken first before; parts = c.go_on.ensures.parts ∙ c.answer.ensures.parts ∙ c.loop.invariant.parts }
@@ -42,9 +54,10 @@ loop-preserved-then-eq g c =
 pub loop-preserved : goal.loop-preserved
 loop-preserved g c =
     let taken = c.args.share.now.amount in
-    let first = g.W.Write.contents c.args.writer.now in
+    let first = gone (g.W.Write.contents c.args.writer.now) (g.V.Watcher.notices c.args.watcher.now) in
     let so_far =
-    answered_on taken c.loop.share.amount c.answer.new.share.amount first (g.W.Write.contents c.loop.writer) (g.W.Write.contents c.answer.new.writer) c.loop.at
+    answered_on taken c.loop.share.amount c.answer.new.share.amount first (gone (g.W.Write.contents c.loop.writer) (g.V.Watcher.notices c.loop.watcher))
+    (gone (g.W.Write.contents c.answer.new.writer) (g.V.Watcher.notices c.answer.new.watcher)) c.loop.at
     c.loop.invariant.sent c.in-Ok.ensures.ok in
     let before = sent_before taken c.answer.new.share.amount _ _ c.loop.at c.look-sight.result.joined _ c.or-before.ensures so_far in
     record { sent = c.in-Ok-go_on.ensures.ok taken first before; parts = c.go_on.ensures.parts ∙ c.answer.ensures.parts ∙ c.loop.invariant.parts }

@@ -14,5 +14,5 @@ abbrev pub invariant-loop : goal.invariant-loop
 invariant-loop g l =
     (input : List ℕ) × (given : List Event) × Consumes (g.R.Read.remaining l.fn.reader) (g.R.Read.remaining l.reader) input
     × Stands input given l.peer × (l.peer.role ≡ role_of l.socket) × (ending_of l.peer.state ≡ Awaiting)
-    × comes_to g.W.Write.contents g.D.Desk.leads l.socket l.key (sends (opening_of (role_of l.socket))) l.fn.writer l.writer l.fn.desk l.desk
-    (going l.fn.stamp) l.stamp Going given
+    × comes_to g.W.Write.contents g.D.Desk.leads g.V.Watcher.notices l.socket l.key (sends (opening_of (role_of l.socket))) l.fn.writer l.writer
+    l.fn.desk l.desk l.fn.watcher l.watcher (going l.fn.stamp) l.stamp Going given

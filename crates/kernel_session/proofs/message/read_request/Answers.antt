@@ -4,10 +4,10 @@ use Rattle.jupyter_msg.specs.Requests.{type_of}
 use Rattle.kernel_session.specs.Session.{serves}
 use Rattle.kernel_session.proofs.message.read_request.Goals as goal
 
-pub returns-else-serves-clause-none : goal.returns-else-serves-clause-none
-returns-else-serves-clause-none c =
+pub returns-else-serves-clause-ok : goal.returns-else-serves-clause-ok
+returns-else-serves-clause-ok c =
     let p = c.in-Ok-take.ensures.request in
-    inr record {
+    record {
       message = octets_of c.in-Ok.opened.message;
       is_message = c.in-Ok.ensures.message;
       nothing = inr (

@@ -8,5 +8,6 @@ use Rattle.kernel_session.proofs.message.take_all.Given as goal
 abbrev pub invariant-loop-i : goal.invariant-loop-i
 invariant-loop-i g l =
     (seen : List Event)
-    × Whole g.W.Write.contents g.D.Desk.leads l.socket l.key [] l.fn.writer l.writer l.fn.desk l.desk (going l.fn.stamp) (going l.stamp) seen
+    × Whole g.W.Write.contents g.D.Desk.leads g.V.Watcher.notices l.socket l.key [] l.fn.writer l.writer l.fn.desk l.desk l.fn.watcher l.watcher
+    (going l.fn.stamp) (going l.stamp) seen
     × (seen ++ events_of (drop l.i l.events) ≡ events_of l.fn.events) × (length l.events ≡ length l.fn.events)

@@ -1,0 +1,2 @@
+mod Pings
+pub mod Hearing
