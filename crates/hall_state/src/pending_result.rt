@@ -10,7 +10,9 @@ ghost use Rattle.hall_state.specs.LastEnds.{IsLastEnd, EndsNoNumber, StandsAt, I
 ghost use Rattle.hall_state.specs.declared.pending_result.PendingResult.{PendingResult};
 
 use crate::open_result::OpenResult;
-use kernel_audit::{Done, Entry, Kernel, Making, NamedValue, Outcome, Wish, shown_after};
+use kernel_audit::{
+    Done, Entry, Kernel, Making, NamedValue, Outcome, SpentWishes, Wish, shown_after,
+};
 use std::alloc::Global;
 use std::mem;
 use std::sync::ledger::Ledger;
@@ -142,8 +144,8 @@ pub(crate) fn open_last<W: Ledger>(
     }
 }
 
-/// Keeps what was made for the job that has ended last, all of which is there.
-pub(crate) fn settle_last(pending_results: &mut [PendingResult], made: OpenResult)
+/// Keeps what was made for the job that has ended last, all of which is there. What is left is the memory of its user expressions.
+pub(crate) fn settle_last(pending_results: &mut [PendingResult], made: OpenResult) -> SpentWishes
     requires there { made.index < length pending_results.old }
     requires all { left_of made.making ≡ [] }
     ensures { SettlesLast pending_results.old pending_results.new made }
@@ -155,7 +157,9 @@ pub(crate) fn settle_last(pending_results: &mut [PendingResult], made: OpenResul
         making,
         ..
     } = made;
-    pending_results[index].settle(place, shown, making.values());
+    let (values, spent) = making.values();
+    pending_results[index].settle(place, shown, values);
+    spent
 }
 
 /// Of the end that stands last in the minutes: its number, where the pending_result of its post stands, its place, and what came of the job.

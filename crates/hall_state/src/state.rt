@@ -30,7 +30,8 @@ use crate::pending_result::{PendingResult, fetch, fetch_first, open_last, settle
 use crate::turn::{Turn, turn_on};
 use kernel_audit::{
     Answer, Ask, AuditFault, Beside, CommChange, Comms, Done, Entry, HallFault, HistoryName, Job,
-    Keeper, Kernel, NewHistory, Note, Pass, Phase, PostFault, Ticket, Wish, ask_on, audit, comm_on,
+    Keeper, Kernel, NewHistory, Note, Pass, Phase, PostFault, SpentWishes, Ticket, Wish, ask_on,
+    audit, comm_on,
 };
 use kernel_bell::{Bell, RunnerSeat};
 use std::alloc::Global;
@@ -235,13 +236,15 @@ impl<W: Ledger, L: HistoryName> State<W, L> {
             show_legal(&self.kernel);
             let opened = open_last(self.alloc, &self.kernel, &mut self.pending_results);
             self.under_way = Some(opened);
-            let _more = self.make();
+            let mut spent = None;
+            let _more = self.make(&mut spent);
         }
         turn
     }
 
-    /// Makes some more of what is under way for the job that has ended last; whether more may be left.
-    pub fn make(&mut self) -> bool
+    /// Makes some more of what is under way for the job that has ended last; whether more may be left. Once nothing is, `spent` has the memory of its user
+    /// expressions, to be let go of without the lock.
+    pub fn make(&mut self, spent: &mut Option<SpentWishes>) -> bool
         ensures kernel { self.new.kernel ≡ self.old.kernel }
         ensures comms { self.new.comms ≡ self.old.comms }
         ensures notes { self.new.notes ≡ self.old.notes }
@@ -270,7 +273,7 @@ impl<W: Ledger, L: HistoryName> State<W, L> {
         }
         if let Some(made) = under_way.take() {
             *settled = made.number;
-            settle_last(pending_results, made);
+            *spent = Some(settle_last(pending_results, made));
         }
         false
     }
@@ -296,7 +299,7 @@ impl<W: Ledger, L: HistoryName> State<W, L> {
         if let Some(mut made) = under_way.take() {
             made.finish(*alloc, kernel);
             *settled = made.number;
-            settle_last(pending_results, made);
+            let _spent = settle_last(pending_results, made);
         }
     }
 

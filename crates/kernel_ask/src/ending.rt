@@ -46,5 +46,6 @@ pub fn values_after<L: Ledger>(
 {
     let mut making = Making::new(outcome, wishes, room);
     making.finish(alloc, kernel);
-    making.values()
+    let (values, _spent) = making.values();
+    values
 }

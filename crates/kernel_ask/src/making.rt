@@ -28,6 +28,12 @@ pub struct Making {
     values: Vec<NamedValue>,
 }
 
+/// The memory of user expressions that are evaluated. To let go of that of many takes long, so it is handed on to where nobody waits.
+#[derive(Drop)]
+pub struct SpentWishes {
+    _queue: VecDeque<Wish>,
+}
+
 /// Whether it is that of a cell that ran.
 fn is_run(outcome: &Outcome) -> bool
     ensures { result ≡ has_values outcome.now }
@@ -139,12 +145,12 @@ impl Making {
         }
     }
 
-    /// The values, once none is left.
-    pub fn values(self) -> Vec<NamedValue>
+    /// The values, once none is left, and the memory of the user expressions.
+    pub fn values(self) -> (Vec<NamedValue>, SpentWishes)
         requires { left_of self ≡ [] }
-        ensures { (o : OutcomeOf) (s : Past) (given : List WishOf) → IsUnderWay o s given self → AreValuesAfter o s given result.items }
+        ensures { (o : OutcomeOf) (s : Past) (given : List WishOf) → IsUnderWay o s given self → AreValuesAfter o s given result.0.items }
     {
-        let Making { values, .. } = self;
-        values
+        let Making { rest, values, .. } = self;
+        (values, SpentWishes { _queue: rest })
     }
 }

@@ -25,8 +25,8 @@ pub use comparison::audit;
 pub use fault::AuditFault;
 pub use kernel_ask::{
     Answer, Ask, Begun, CellText, CommChange, Comms, Content, Done, Entry, HallFault, Job, Kernel,
-    Making, NamedValue, Outcome, Phase, PostFault, Refusal, STEPS_OF_A_SLICE, Sliced, Wish, ask_on,
-    comm_on, judge, shown_after,
+    Making, NamedValue, Outcome, Phase, PostFault, Refusal, STEPS_OF_A_SLICE, Sliced, SpentWishes,
+    Wish, ask_on, comm_on, judge, shown_after,
 };
 pub use note::Note;
 pub use pass::{Pass, Ticket};

@@ -213,10 +213,12 @@ impl<W: Ledger, L: HistoryName> Hall<W, L> {
         (turn, is_making)
     }
 
-    /// Makes some more of the values of a job that has ended; whether more may be left. Once all are there who waits for the job is woken.
+    /// Makes some more of the values of a job that has ended; whether more may be left. Once all are there who waits for the job is woken. The memory of the
+    /// user expressions is let go of behind the lock.
     fn make<R: Wait>(&self, rt: &R) -> bool {
+        let mut spent = None;
         let mut state = self.state.lock(rt);
-        if state.make() {
+        if state.make(&mut spent) {
             return true;
         }
         let number = state.settled();

@@ -7,12 +7,14 @@
 //! What the layer above may rely on:
 //! - `on` and `back` take the steps of the meaning's machine over the cell, and steps back of them: however a walk is moved, it stands in the run of the one
 //!   cell from the one world in which that was entered, behind as many steps as it counts (`Moves`).
-//! - `meet_here` and `meet_calls` make the tables of the bodies in which the open calls run: of each name that is called the text of the procedure which the
-//!   call runs.
+//! - `meet_here` and `meet_calls` make the tables of the bodies in which the open calls run: each that is kept is of the text of the procedure which a call of
+//!   its name runs.
 //! - `stand` tells the place in the innermost code, which way that runs, and which part of the text stands there: in the cell's own code at the place to which
-//!   the steps have led, and in a call in the text of the body that runs. `level` tells the same of each open call's place in its caller's code.
+//!   the steps have led, and in a call in the text of the body that runs. `level` tells the place and the way of each open call in its caller's code, and
+//!   `spot` what stands at such a place in the table of that code.
 //! - `sight` has the names that are in sight there, each with its slot, and `value` lends the value in a slot of the innermost frame; `number_of` is the value
 //!   of an expression over these names.
+//! - Whatever is told is so. Of a body that was not met nothing may be told, and no clause says that a body is met.
 //!
 //! The modules, in the order in which a reader needs them: `turning` (steps back, after which a runner faces on), `body` (the bodies of procedures in the texts
 //! of their cells), `walk` (the open cell, its steps, and the bodies that are met), `level` (where it stands, in the cell and in the open calls), `sight` (the
