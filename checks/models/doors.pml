@@ -1,14 +1,18 @@
 /* How the ushers of sockets, their places and the end of the kernel wait: an usher, two places and three connections that come, or with -DDOORS=2 two
-   ushers, each with a place and a connection of its own; one who starts and ends all, and a shutdown that any connection may bring.
+   ushers, each with a place and a connection of its own; one who starts and ends all, and a shutdown that any connection may bring. A peer goes away, or
+   stays until it is shut.
 
    Claims: no invalid end state: once a shutdown came, every thread comes to its end; and `ends`: it does so in the end, under weak fairness.
-   Spoiled: the door tells the places nothing as it is closed. */
+   Spoiled: the door tells the places nothing as it is closed; or with -DSPOILED=2 connections of the second place are not shut as all ends. */
 #include "waiting.h"
 
 #ifndef DOORS
 #define DOORS       1
 #endif
 #define PLACES      2
+#ifndef SPOILED
+#define SPOILED     0
+#endif
 #define CONNECTIONS (5 - 2 * DOORS)
 #define DOOR(place) ((place) % DOORS)
 
@@ -16,8 +20,8 @@ bool door[DOORS];               /* Door::entrance */
 byte offered[DOORS], taken[DOORS];                      /* Door::offered, Door::taken */
 bool has_next[DOORS], is_door_closed[DOORS];            /* Entrance */
 byte idle[DOORS];
-bool latch;                     /* Latch::set of started and of ending */
-byte setting;
+bool starting, ending;          /* the locks of the two latches, Latch::set */
+byte started, ended;            /* their Latch::setting */
 bool is_started, is_ending;
 bool is_listening = true;       /* the listener, until Listeners::close */
 byte come[DOORS];               /* connections that came */
@@ -28,13 +32,13 @@ byte running = PLACES + DOORS;      /* threads to be joined */
 
 inline set_ending() {           /* Latch::set */
     is_ending = true;
-    UNDER(latch, skip);
-    WAKE_ALL(setting)
+    UNDER(ending, skip);
+    WAKE_ALL(ended)
 }
 
 inline close_door(d) {          /* Door::close */
     UNDER(door[d], is_door_closed[d] = true; has_next[d] = false);
-#ifndef SPOILED
+#if SPOILED != 1
     WAKE_ALL(offered[d]);
 #endif
     WAKE_ALL(taken[d])
@@ -42,12 +46,12 @@ inline close_door(d) {          /* Door::close */
 
 proctype Usher(byte me; byte d) {
     bool is_awaited;
-    LOCK(latch);                                        /* started.wait */
+    LOCK(starting);                                     /* Latch::wait, of what has started */
     do
     :: is_started -> break
-    :: !is_started -> SLEEP(latch, setting)
+    :: !is_started -> SLEEP(starting, started)
     od;
-    UNLOCK(latch);
+    UNLOCK(starting);
     do
     :: is_ending -> break
     :: !is_ending ->
@@ -85,7 +89,7 @@ again:
 }
 
 proctype Place(byte me) {
-    bool has;
+    bool has, stays;
     do
     :: true ->
         LOCK(door[DOOR(me)]);                           /* Door::take */
@@ -111,11 +115,19 @@ proctype Place(byte me) {
         :: !has -> skip
         :: has ->
             if                                          /* serve: until the peer goes away, it is shut, or a shutdown was answered */
-            :: true -> skip
-            :: has_to_end[me] -> skip
-            :: true -> set_ending()
+            :: stays = true
+            :: stays = false
             fi;
-            is_served[me] = false                       /* Connections::leave */
+            if
+            :: !stays -> skip
+            :: has_to_end[me] -> skip
+            fi;
+            is_served[me] = false;                      /* Connections::leave */
+            if
+            :: !stays -> set_ending()                   /* requests::attend: HallDesk::was_shut */
+            :: skip
+            fi;
+            stays = false
         fi
     od;
     running--
@@ -123,21 +135,25 @@ proctype Place(byte me) {
 
 /* start::serve_callers: a shutdown comes in the end, as from a console of its own */
 proctype Starter(byte me) {
-    is_started = true;                                  /* started.set */
-    UNDER(latch, skip);
-    WAKE_ALL(setting);
-    LOCK(latch);                                        /* ending.wait */
+    is_started = true;                                  /* Latch::set, of what has started */
+    UNDER(starting, skip);
+    WAKE_ALL(started);
+    LOCK(ending);                                       /* warning::tell_until_end: Latch::wait_for, which here never gives up */
     do
     :: is_ending -> break
-    :: !is_ending -> SLEEP(latch, setting)
+    :: !is_ending -> SLEEP(ending, ended)
     od;
-    UNLOCK(latch);
+    UNLOCK(ending);
     is_listening = false;                               /* start::end_all: Listeners::close, Doors::close, Connections::close */
     close_door(0);
 #if DOORS > 1
     close_door(1);
 #endif
+#if SPOILED == 2
+    atomic { is_register_closed = true; has_to_end[0] = true };
+#else
     atomic { is_register_closed = true; has_to_end[0] = true; has_to_end[1] = true };
+#endif
     running == 0                                        /* thread::scope joins them */
 }
 

@@ -4,11 +4,15 @@
 
    Claims: no invalid end state; and `heard`: what is published behind the place at which a peer joined is read by its writing half, or that half has
    come to its end, under weak fairness.
-   Spoiled: the writing half takes the count after it has looked, so that what comes in between wakes it no more. */
+   Spoiled: the writing half takes the count after it has looked, so that what comes in between wakes it no more; or with -DSPOILED=2 who raises the count
+   wakes one of those who sleep. */
 #include "waiting.h"
 
 #ifndef PUBLISHERS
 #define PUBLISHERS 1
+#endif
+#ifndef SPOILED
+#define SPOILED    0
 #endif
 #define BROADCASTS (2 / PUBLISHERS)
 #define NOWHERE    99
@@ -24,13 +28,22 @@ byte at[2];                     /* the place of a writing half */
 bool has_spoken[2];
 
 inline raise() {                /* EventCount::raise */
-    UNDER(lock, has_risen[0] = true; has_risen[1] = true); WAKE_ALL(risen)
+    UNDER(lock, has_risen[0] = true; has_risen[1] = true);
+#if SPOILED == 2
+    WAKE_ONE(risen)
+#else
+    WAKE_ALL(risen)
+#endif
 }
 
 proctype Publisher() {
     byte count;
     do
-    :: count < BROADCASTS -> count++; board++; raise()  /* Bulletin::publish, and then Bulletin::wake */
+    :: count < BROADCASTS -> count++; board++;          /* Bulletin::publish */
+        if
+        :: count < BROADCASTS -> skip                   /* request::publish_each publishes more first */
+        :: raise()                                      /* Bulletin::wake */
+        fi
     :: count == BROADCASTS -> break
     od
 }
@@ -56,8 +69,8 @@ proctype Speaks(byte me) {
     bool was_silent;
     do
     :: true ->
-#ifndef SPOILED
-        UNDER(lock, has_risen[me] = false);         /* EventCount::seen */
+#if SPOILED != 1
+        UNDER(lock, has_risen[me] = false);             /* EventCount::seen */
 #endif
         atomic { joined_at = joined[me]; was_silent = is_silent[me] };      /* subscriber::look */
         pings[me] = 0;                                  /* half::answer: take_pings */
@@ -66,7 +79,7 @@ proctype Speaks(byte me) {
         :: before == NOWHERE -> skip                    /* half::go_on: no place to read from */
         :: before != NOWHERE -> at[me] = board          /* Bulletin::read_from */
         fi;
-#ifdef SPOILED
+#if SPOILED == 1
         UNDER(lock, has_risen[me] = false);
 #endif
         if
