@@ -16,13 +16,12 @@
 #define CONNECTIONS (5 - 2 * DOORS)
 #define DOOR(place) ((place) % DOORS)
 
-bool door[DOORS];               /* Door::entrance */
 byte offered[DOORS], taken[DOORS];                      /* Door::offered, Door::taken */
-bool has_next[DOORS], is_door_closed[DOORS];            /* Entrance */
+bool has_next[DOORS], is_door_closed[DOORS];            /* Door::entrance */
 byte idle[DOORS];
-bool starting, ending;          /* the locks of the two latches, Latch::set */
-byte started, ended;            /* their Latch::setting */
-bool is_started, is_ending;
+byte starting, ending;          /* the places to wait at of the two latches, Latch::setting */
+bool has_started, has_ended;    /* what is under their locks, Latch::set */
+bool is_ending;                 /* Latch::is_set of the end */
 bool is_listening = true;       /* the listener, until Listeners::close */
 byte come[DOORS];               /* connections that came */
 bool is_served[PLACES];         /* who is in the register of Connections */
@@ -32,12 +31,12 @@ byte running = PLACES + DOORS;      /* threads to be joined */
 
 inline set_ending() {           /* Latch::set */
     is_ending = true;
-    UNDER(ending, skip);
-    WAKE_ALL(ended)
+    has_ended = true;
+    WAKE_ALL(ending)
 }
 
 inline close_door(d) {          /* Door::close */
-    UNDER(door[d], is_door_closed[d] = true; has_next[d] = false);
+    atomic { is_door_closed[d] = true; has_next[d] = false };
 #if SPOILED != 1
     WAKE_ALL(offered[d]);
 #endif
@@ -45,13 +44,8 @@ inline close_door(d) {          /* Door::close */
 }
 
 proctype Usher(byte me; byte d) {
-    bool is_awaited;
-    LOCK(starting);                                     /* Latch::wait, of what has started */
-    do
-    :: is_started -> break
-    :: !is_started -> SLEEP(starting, started)
-    od;
-    UNLOCK(starting);
+    bool offers, is_awaited;
+    AWAIT(has_started, starting, skip);                 /* Latch::wait */
     do
     :: is_ending -> break
     :: !is_ending ->
@@ -59,17 +53,10 @@ proctype Usher(byte me; byte d) {
         :: is_listening && come[d] < CONNECTIONS -> come[d]++         /* usher::accept */
         :: !is_listening -> goto again
         fi;
-        LOCK(door[d]);                                  /* Door::offer */
-        do
-        :: !has_next[d] -> break
-        :: has_next[d] -> SLEEP(door[d], taken[d])
-        od;
-        if
-        :: is_door_closed[d] -> UNLOCK(door[d]); is_awaited = true
-        :: !is_door_closed[d] ->
-            atomic { has_next[d] = true; is_awaited = idle[d] > 0 };
-            UNLOCK(door[d]);
-            WAKE_ONE(offered[d])
+        AWAIT(!has_next[d], taken[d], offers = !is_door_closed[d]; has_next[d] = offers; is_awaited = !offers || idle[d] > 0);
+        if                                              /* Door::offer */
+        :: !offers -> skip
+        :: offers -> WAKE_ONE(offered[d])
         fi;
         do                                              /* usher::see_in */
         :: is_awaited -> break
@@ -92,14 +79,9 @@ proctype Place(byte me) {
     bool has, stays;
     do
     :: true ->
-        LOCK(door[DOOR(me)]);                           /* Door::take */
-        idle[DOOR(me)]++;
-        do
-        :: has_next[DOOR(me)] || is_door_closed[DOOR(me)] -> break
-        :: !has_next[DOOR(me)] && !is_door_closed[DOOR(me)] -> SLEEP(door[DOOR(me)], offered[DOOR(me)])
-        od;
-        atomic { idle[DOOR(me)]--; has = has_next[DOOR(me)]; has_next[DOOR(me)] = false };
-        UNLOCK(door[DOOR(me)]);
+        idle[DOOR(me)]++;                               /* Door::take */
+        AWAIT(has_next[DOOR(me)] || is_door_closed[DOOR(me)], offered[DOOR(me)],
+            idle[DOOR(me)]--; has = has_next[DOOR(me)]; has_next[DOOR(me)] = false);
         WAKE_ALL(taken[DOOR(me)]);
         if
         :: !has -> break
@@ -135,15 +117,9 @@ proctype Place(byte me) {
 
 /* start::serve_callers: a shutdown comes in the end, as from a console of its own */
 proctype Starter(byte me) {
-    is_started = true;                                  /* Latch::set, of what has started */
-    UNDER(starting, skip);
-    WAKE_ALL(started);
-    LOCK(ending);                                       /* warning::tell_until_end: Latch::wait_for, which here never gives up */
-    do
-    :: is_ending -> break
-    :: !is_ending -> SLEEP(ending, ended)
-    od;
-    UNLOCK(ending);
+    has_started = true;                                 /* Latch::set */
+    WAKE_ALL(starting);
+    AWAIT(has_ended, ending, skip);                     /* warning::tell_until_end: Latch::wait_for, which here never gives up */
     is_listening = false;                               /* start::end_all: Listeners::close, Doors::close, Connections::close */
     close_door(0);
 #if DOORS > 1

@@ -2,8 +2,8 @@
    never, with -DCLOSERS=2 from two sides. A frontend that is refused goes away. Each job is of one cell or two, and ends at the begin of one, or after at most
    two slices of it.
 
-   Claims: nobody is left asleep as all others are done (no invalid end state); and `answered`: who waits for the end of a job gets it, where each
-   thread that can go on does so in the end (weak fairness).
+   Claims: nobody is left asleep as all others are done (no invalid end state); and `answered`: who waits for the end of a job gets it, whatever thread
+   goes on, since the jobs come to an end.
    Spoiled: a post wakes nobody, so that a worker that sleeps is not told of it. */
 #include "waiting.h"
 
