@@ -1,24 +1,27 @@
 /* How the ushers of sockets, their places and the end of the kernel wait: an usher, two places and three connections that come, or with -DDOORS=2 two
-   ushers, each with a place and a connection of its own; one who starts and ends all, and a shutdown that any connection may bring.
+   ushers, each with a place and a connection of its own; one who starts and ends all, and a shutdown that any connection may bring. A peer goes away, or
+   stays until it is shut.
 
    Claims: no invalid end state: once a shutdown came, every thread comes to its end; and `ends`: it does so in the end, under weak fairness.
-   Spoiled: the door tells the places nothing as it is closed. */
+   Spoiled: the door tells the places nothing as it is closed; or with -DSPOILED=2 connections of the second place are not shut as all ends. */
 #include "waiting.h"
 
 #ifndef DOORS
 #define DOORS       1
 #endif
 #define PLACES      2
+#ifndef SPOILED
+#define SPOILED     0
+#endif
 #define CONNECTIONS (5 - 2 * DOORS)
 #define DOOR(place) ((place) % DOORS)
 
-bool door[DOORS];               /* Door::entrance */
 byte offered[DOORS], taken[DOORS];                      /* Door::offered, Door::taken */
-bool has_next[DOORS], is_door_closed[DOORS];            /* Entrance */
+bool has_next[DOORS], is_door_closed[DOORS];            /* Door::entrance */
 byte idle[DOORS];
-bool latch;                     /* Latch::set of started and of ending */
-byte setting;
-bool is_started, is_ending;
+byte starting, ending;          /* the places to wait at of the two latches, Latch::setting */
+bool has_started, has_ended;    /* what is under their locks, Latch::set */
+bool is_ending;                 /* Latch::is_set of the end */
 bool is_listening = true;       /* the listener, until Listeners::close */
 byte come[DOORS];               /* connections that came */
 bool is_served[PLACES];         /* who is in the register of Connections */
@@ -28,26 +31,21 @@ byte running = PLACES + DOORS;      /* threads to be joined */
 
 inline set_ending() {           /* Latch::set */
     is_ending = true;
-    UNDER(latch, skip);
-    WAKE_ALL(setting)
+    has_ended = true;
+    WAKE_ALL(ending)
 }
 
 inline close_door(d) {          /* Door::close */
-    UNDER(door[d], is_door_closed[d] = true; has_next[d] = false);
-#ifndef SPOILED
+    atomic { is_door_closed[d] = true; has_next[d] = false };
+#if SPOILED != 1
     WAKE_ALL(offered[d]);
 #endif
     WAKE_ALL(taken[d])
 }
 
 proctype Usher(byte me; byte d) {
-    bool is_awaited;
-    LOCK(latch);                                        /* started.wait */
-    do
-    :: is_started -> break
-    :: !is_started -> SLEEP(latch, setting)
-    od;
-    UNLOCK(latch);
+    bool offers, is_awaited;
+    AWAIT(has_started, starting, skip);                 /* Latch::wait */
     do
     :: is_ending -> break
     :: !is_ending ->
@@ -55,17 +53,10 @@ proctype Usher(byte me; byte d) {
         :: is_listening && come[d] < CONNECTIONS -> come[d]++         /* usher::accept */
         :: !is_listening -> goto again
         fi;
-        LOCK(door[d]);                                  /* Door::offer */
-        do
-        :: !has_next[d] -> break
-        :: has_next[d] -> SLEEP(door[d], taken[d])
-        od;
-        if
-        :: is_door_closed[d] -> UNLOCK(door[d]); is_awaited = true
-        :: !is_door_closed[d] ->
-            atomic { has_next[d] = true; is_awaited = idle[d] > 0 };
-            UNLOCK(door[d]);
-            WAKE_ONE(offered[d])
+        AWAIT(!has_next[d], taken[d], offers = !is_door_closed[d]; has_next[d] = offers; is_awaited = !offers || idle[d] > 0);
+        if                                              /* Door::offer */
+        :: !offers -> skip
+        :: offers -> WAKE_ONE(offered[d])
         fi;
         do                                              /* usher::see_in */
         :: is_awaited -> break
@@ -85,17 +76,12 @@ again:
 }
 
 proctype Place(byte me) {
-    bool has;
+    bool has, stays;
     do
     :: true ->
-        LOCK(door[DOOR(me)]);                           /* Door::take */
-        idle[DOOR(me)]++;
-        do
-        :: has_next[DOOR(me)] || is_door_closed[DOOR(me)] -> break
-        :: !has_next[DOOR(me)] && !is_door_closed[DOOR(me)] -> SLEEP(door[DOOR(me)], offered[DOOR(me)])
-        od;
-        atomic { idle[DOOR(me)]--; has = has_next[DOOR(me)]; has_next[DOOR(me)] = false };
-        UNLOCK(door[DOOR(me)]);
+        idle[DOOR(me)]++;                               /* Door::take */
+        AWAIT(has_next[DOOR(me)] || is_door_closed[DOOR(me)], offered[DOOR(me)],
+            idle[DOOR(me)]--; has = has_next[DOOR(me)]; has_next[DOOR(me)] = false);
         WAKE_ALL(taken[DOOR(me)]);
         if
         :: !has -> break
@@ -111,11 +97,19 @@ proctype Place(byte me) {
         :: !has -> skip
         :: has ->
             if                                          /* serve: until the peer goes away, it is shut, or a shutdown was answered */
-            :: true -> skip
-            :: has_to_end[me] -> skip
-            :: true -> set_ending()
+            :: stays = true
+            :: stays = false
             fi;
-            is_served[me] = false                       /* Connections::leave */
+            if
+            :: !stays -> skip
+            :: has_to_end[me] -> skip
+            fi;
+            is_served[me] = false;                      /* Connections::leave */
+            if
+            :: !stays -> set_ending()                   /* requests::attend: HallDesk::was_shut */
+            :: skip
+            fi;
+            stays = false
         fi
     od;
     running--
@@ -123,21 +117,19 @@ proctype Place(byte me) {
 
 /* start::serve_callers: a shutdown comes in the end, as from a console of its own */
 proctype Starter(byte me) {
-    is_started = true;                                  /* started.set */
-    UNDER(latch, skip);
-    WAKE_ALL(setting);
-    LOCK(latch);                                        /* ending.wait */
-    do
-    :: is_ending -> break
-    :: !is_ending -> SLEEP(latch, setting)
-    od;
-    UNLOCK(latch);
+    has_started = true;                                 /* Latch::set */
+    WAKE_ALL(starting);
+    AWAIT(has_ended, ending, skip);                     /* warning::tell_until_end: Latch::wait_for, which here never gives up */
     is_listening = false;                               /* start::end_all: Listeners::close, Doors::close, Connections::close */
     close_door(0);
 #if DOORS > 1
     close_door(1);
 #endif
+#if SPOILED == 2
+    atomic { is_register_closed = true; has_to_end[0] = true };
+#else
     atomic { is_register_closed = true; has_to_end[0] = true; has_to_end[1] = true };
+#endif
     running == 0                                        /* thread::scope joins them */
 }
 

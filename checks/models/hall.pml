@@ -1,8 +1,9 @@
 /* How threads wait at the hall: two frontends, each of which runs two jobs and asks behind each, the worker, and a shutdown that may come at any time or
-   never, with -DCLOSERS=2 from two sides. A frontend that is refused goes away. Each job ends after at most two slices, or at its begin.
+   never, with -DCLOSERS=2 from two sides. A frontend that is refused goes away. Each job is of one cell or two, and ends at the begin of one, or after at most
+   two slices of it.
 
-   Claims: nobody is left asleep as all others are done (no invalid end state); and `answered`: who waits for the end of a job gets it, where each
-   thread that can go on does so in the end (weak fairness).
+   Claims: nobody is left asleep as all others are done (no invalid end state); and `answered`: who waits for the end of a job gets it, whatever thread
+   goes on, since the jobs come to an end.
    Spoiled: a post wakes nobody, so that a worker that sleeps is not told of it. */
 #include "waiting.h"
 
@@ -16,11 +17,12 @@ byte moved;                     /* Hall::moved */
 byte ends[PLACES];              /* Ends::places, of which the hall has 16 */
 byte posted, ended;             /* the minutes: posts and ends, both numbered from 1 */
 byte settled;                   /* State::settled: of so many jobs all is made that is told */
-bool is_inside, is_closing;     /* the kernel */
-byte slices;
+bool is_open, is_inside, is_closing;    /* the kernel: whether a job is open, and whether it is inside a cell of it */
+byte slices, cells;             /* how many more the cell has at most, and the job */
 bool waits[FRONTENDS];          /* whose job was posted and whose end was not told yet */
 
-#define IS_IDLE  (!is_inside && posted == ended)
+#define IS_IDLE  (!is_open && posted == ended)
+#define END_JOB  is_open = false; is_inside = false; ended++; number = ended
 
 proctype Frontend(byte me) {
     byte posts, number;
@@ -76,13 +78,15 @@ end_of_work:                                            /* it may sleep for ever
             od;
             UNLOCK(lock)
         fi;
-        LOCK(lock);                                     /* Hall::turn */
+        LOCK(lock);                                     /* Hall::turn_on */
         number = 0;
         if
         :: is_inside && slices > 0 -> slices--          /* Kernel::slice goes on */
-        :: is_inside -> atomic { is_inside = false; ended++; number = ended }       /* or ends the job */
-        :: !is_inside && !is_closing -> atomic { is_inside = true; slices = 1 }     /* Kernel::begin enters a cell */
-        :: !is_inside -> atomic { ended++; number = ended }                         /* or refuses the job */
+        :: is_inside && cells > 0 -> atomic { is_inside = false; cells-- }          /* or comes to the border of two cells */
+        :: is_inside -> atomic { END_JOB }              /* or ends the job */
+        :: !is_inside && is_open -> atomic { is_inside = true; slices = 1 }         /* Kernel::begin enters the next cell */
+        :: !is_open && !is_closing -> atomic { is_open = true; is_inside = true; slices = 1; cells = 1 }    /* or the first one */
+        :: !is_inside -> atomic { END_JOB }             /* or ends the job at once */
         fi;
         if
         :: number > 0 -> settled = ended                /* State::make, which the turn calls, makes all values */

@@ -17,3 +17,11 @@
     :: place & 8 -> place = place & ~8 \
     :: !place -> skip \
     fi
+
+/* Waits under a lock at a place until something holds, and does something then. To look, and to fall asleep or to go on, is one step: what is looked at
+   changes under the lock alone, and nothing but this is done in between. */
+#define AWAIT(until, place, then) \
+    do \
+    :: atomic { (until) -> then; break } \
+    :: atomic { !(until) -> place = place | (1 << me) }; !(place & (1 << me)) \
+    od
