@@ -130,5 +130,5 @@ has_locals t es g b n row is lt h =
     let s = stands_there t es g b n row is lt h in (
       locals_of s.spot,
       (row, slice_get-get_or t.rows.items n row lt ∙ ap Some (sym is), s.is.locals),
-      record { spot = s.spot; stands = s.stands; names = refl },
+      record { spot = s.spot; there = s.there; stands = s.stands; names = refl },
     )

@@ -165,6 +165,7 @@ table_long t es g b h = rows_long t.locals.items t.rows.items (spots b) h ∙ as
 
 pub record Stands (t : Table) (es g : List Name) (b : Block) (n : ℕ) (row : Row) : Type 0 where
   pub spot : Spot
+  pub there : slice_get (spots b) n ≡ Some spot
   pub stands : StandsAt es g spot (place_at Straight (code_of es g b) n)
   pub is : IsRowOf t.locals.items row spot
 
@@ -176,6 +177,7 @@ stands_there t es g b n row e lt h =
     let same : s.0 ≡ r.0 = ap (λ o. unwrap_or o r.0) (sym s.1 ∙ r.1) in
     record {
       spot = r.0;
+      there = r.1;
       stands = subst (λ spot. StandsAt es g spot (place_at Straight (code_of es g b) n)) same s.2;
       is = subst (λ row. IsRowOf t.locals.items row r.0) (sym e) r.2;
     }
@@ -184,7 +186,7 @@ pub told_at : (t : Table) (es g : List Name) (b : Block) (n : ℕ) (row : Row) �
     IsTold es g b n row.part row.span
 told_at t es g b n row e lt h =
     let s = stands_there t es g b n row e lt h in
-    record { spot = s.spot; stands = s.stands; part = s.is.part; span = s.is.span }
+    record { spot = s.spot; there = s.there; stands = s.stands; part = s.is.part; span = s.is.span }
 
 -- ---- the locals of a row
 
@@ -192,7 +194,7 @@ pub open_at : (t : Table) (es g : List Name) (b : Block) (n : ℕ) (row : Row) (
     n < length t.rows.items → IsTableOf t b → ((xs : List Name) → AreLocals t.locals.items row.locals xs → names ≡ xs) → AreOpen es g b n names
 open_at t es g b n row names e lt h all =
     let s = stands_there t es g b n row e lt h in
-    record { spot = s.spot; stands = s.stands; names = all (locals_of s.spot) s.is.locals }
+    record { spot = s.spot; there = s.there; stands = s.stands; names = all (locals_of s.spot) s.is.locals }
 
 -- what is told of the locals from here on
 abbrev pub Left : List Local → ℕ → List (Bor (List ℕ)) → List Name → Type 0

@@ -65,9 +65,10 @@ SpotsStand =
 abbrev pub AsManySpots : Type 0
 AsManySpots = (es g : List Name) (b : Block) → length (spots b) ≡ block_size (code_of es g b)
 
--- The n-th place of a block's code is this part of a statement of its text, which stands there.
+-- The n-th place of a block's code is the n-th spot of its text: this part of a statement, which stands there.
 pub record IsTold (es g : List Name) (b : Block) (n : ℕ) (p : Part) (at : Option Span) : Type 0 where
   pub spot : Spot
+  pub there : slice_get (spots b) n ≡ Some spot
   pub stands : StandsAt es g spot (place_at Straight (code_of es g b) n)
   pub part : p ≡ part_of spot
   pub span : at ≡ span_of spot
@@ -75,5 +76,6 @@ pub record IsTold (es g : List Name) (b : Block) (n : ℕ) (p : Part) (at : Opti
 -- These locals are open there, the newest first.
 pub record AreOpen (es g : List Name) (b : Block) (n : ℕ) (xs : List Name) : Type 0 where
   pub spot : Spot
+  pub there : slice_get (spots b) n ≡ Some spot
   pub stands : StandsAt es g spot (place_at Straight (code_of es g b) n)
   pub names : xs ≡ locals_of spot
