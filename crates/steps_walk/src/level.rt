@@ -69,7 +69,9 @@ impl<L: Ledger> Walk<L> {
 
     /// Where the walk stands, and what stands there in the text.
     pub fn stand(&self) -> Option<(Level, Spot)>
-        ensures { IfSome result (TellsPlace self.now) }
+        ensures tells { IfSome result (TellsPlace self.now) }
+        ensures here { IfSome result (λ told. IsHere self.now told.0) }
+        ensures code { IfSome result (λ told. IsCodeAt self.now (calls_in self.now) told.0.body) }
     {
         let level = self.level(self.open_calls())?;
         let spot = self.spot(&level)?;

@@ -142,11 +142,14 @@ fn add_parameters<'a>(all: &mut Vec<&'a str>, names: &'a [String]) -> Result<(),
 }
 
 impl<L: Ledger> Walk<L> {
-    ghost use Rattle.steps_walk.specs.Walk.{slots_in};
+    ghost use Rattle.steps_walk.specs.Walk.{slots_in, calls_in};
+    ghost use Rattle.steps_walk.specs.Standing.{IsHere, IsCodeAt};
     ghost use Rattle.steps_walk.specs.Sights.{IsSightAt, base_of, base_at};
 
-    /// The names in sight at the innermost level.
+    /// The names in sight at the innermost level, whose values the walk lends.
     pub fn sight(&self, level: &Level) -> Option<Sight<'_>>
+        requires here { IsHere self.now level.now }
+        requires code { IsCodeAt self.now (calls_in self.now) level.now.body }
         ensures { IfSome result (IsSightAt self.now level.now) }
     {
         let table = self.table(level)?;

@@ -3,8 +3,8 @@ use Rattle.steps_walk.specs.Standing.{IsCodeAt}
 use Rattle.steps_walk.proofs.Standing.{tells}
 use Rattle.steps_walk.proofs.walk.Walk.stand.Goals as goal
 
-pub returns : goal.returns
-returns g c =
+pub returns-clause-tells : goal.returns-clause-tells
+returns-clause-tells g c =
     let w = c.args.self.now in
     let level = c.in_ok-level.level in
     let told = c.in_ok-level.ensures in
