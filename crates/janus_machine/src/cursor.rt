@@ -46,6 +46,7 @@ impl Cursor {
     ghost use Rattle.janus_frames.specs.StoreState.{StoreState};
     ghost use Rattle.janus_frames.specs.Calls.{Caller};
     ghost use Rattle.janus_machine.specs.declared.procedures.Procedures as declared;
+    ghost use Rattle.janus_machine.specs.declared.linked_code.LinkedCode.{LinkedCode};
     ghost use Rattle.janus_machine.specs.declared.direction.Direction.TheVariants.{Forward, Inverse};
     ghost use Rattle.janus_machine.specs.Places.{block_in};
     ghost use Rattle.janus_machine.specs.Cursors.{place_of, has_ended, IsStanding};
@@ -53,12 +54,13 @@ impl Cursor {
     ghost use Rattle.janus_machine.specs.Cursor.{count_in, with_count, is_turned};
     ghost use Rattle.janus_machine.specs.Turns.{IsMirrored, AgreesMirrored};
 
-    /// A cursor at no place of a book yet, with the memory of all calls that may be open. No step is taken.
+    /// A cursor that stands behind the end of any book's block, where no call is open, with the memory of all calls that may be open. No step is taken.
     ///
     /// # Errors
     ///
     /// `RoomFault::Memory` where there is no memory for it.
     pub fn new(alloc: Global) -> Result<Cursor, RoomFault>
+        ensures stands { IfOk result (λ cursor. (t : declared.Procedures) (b : LinkedCode) (h : StoreState) → h.callers ≡ [] → IsStanding t b cursor h) }
         ensures ended { IfOk result (λ cursor. has_ended cursor ≡ true) }
         ensures counts { IfOk result IsAtEntry }
     {

@@ -44,7 +44,8 @@ struct Made {
 
 /// Loads a cell's text over the names that the runner's store declares and the procedures in effect: its program, or why the text is refused. A fault of
 /// the text is told before one of the check. The names of its procedures come into the table behind the others, and their bodies are kept behind the
-/// others; all else stays, and all where the text is refused. No name is copied, and nothing is looked at of earlier cells but what is in effect.
+/// others; all else stays, and all where the text is refused. No declared name is copied, and no earlier cell is looked at: only the procedures in effect, and
+/// where the cell defines some, how many there are by the table of names.
 pub fn load<L: Ledger>(
     alloc: Global,
     text: &str,
