@@ -5,7 +5,7 @@
 //! How long connections have [`Times`] says. A connection whose handshake takes ten seconds fails, and so does a message that takes ten seconds to be
 //! written. Where all places of a socket are taken and another connection comes, one makes room (`kernel_sockets::who_makes_room`): one whose handshake is
 //! not over, 200 milliseconds after it was let in. Where there is none, on shell and control it is the one that was let in longest ago of those
-//! on which no signed request came that the kernel serves, if 200 milliseconds ago; on stdin, iopub and the heartbeat, where nothing is
+//! on which no message signed under the key came, if 200 milliseconds ago; on stdin, iopub and the heartbeat, where nothing is
 //! signed, the one that has been silent longest, and for a minute at least: nothing came on it, and it took nothing. Where there is none of these either,
 //! it is who showed the key and has been silent longest, for ten minutes at least with no request under way: a connection whose peer is gone without a
 //! word keeps nobody out for ever. Where none of the 32 has to, the next one waits.

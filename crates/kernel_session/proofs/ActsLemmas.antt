@@ -6,7 +6,7 @@ use Rattle.kernel_session.specs.Call.{Call, Leads}
 use Rattle.kernel_watch.specs.declared.notice.Notice.{Notice}
 use Rattle.kernel_watch.specs.Hears.{Hears}
 use Rattle.kernel_watch.proofs.Hearing.{hears_none, hears_join}
-use Rattle.kernel_session.specs.Action.{Action, Sent, Called, Told, Acts, ActsTold, sends, asks, tells, sent_of, calls_of, notices_of}
+use Rattle.kernel_session.specs.Action.{Action, Sent, Called, Told, Acts, ActsTold, sends, asks, sent_of, calls_of, notices_of}
 
 pub consumes_none : (a : Option (List ℕ)) → Consumes a a []
 consumes_none None = tt

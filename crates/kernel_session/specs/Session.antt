@@ -30,7 +30,6 @@ use Rattle.kernel_session.specs.declared.flow.Flow.{Flow}
 use Rattle.kernel_session.specs.declared.flow.Flow.TheVariants.{Going, Closed, Worn, OutOfMemory}
 use Rattle.kernel_session.specs.declared.talk.DeskReply.{DeskReply}
 use Rattle.kernel_session.specs.Call.{Call, Published, Dated}
-use Rattle.kernel_watch.specs.declared.notice.Notice.{Notice}
 use Rattle.kernel_watch.specs.declared.notice.Notice.TheVariants as notice
 use Rattle.kernel_watch.specs.Pings.{answers}
 use Rattle.kernel_session.specs.Action.{Action, Told, sends, asks, tells}

@@ -1,5 +1,5 @@
 -- What is told one after the other is told together.
-use Rattle.std.proofs.Common.{◌≡◌, List, [], ◌++◌, Option, Some, None, sym, ap, ◌∙◌, append_assoc, append-nil}
+use Rattle.std.proofs.Common.{List, [], ◌++◌, Option, Some, None, sym, ap, ◌∙◌, append_assoc, append-nil}
 use Rattle.kernel_watch.specs.declared.notice.Notice.{Notice}
 use Rattle.kernel_watch.specs.Hears.{Hears}
 

@@ -1,4 +1,4 @@
-use Rattle.std.proofs.Common.{◌+◌, ◌<◌, [], inr, refl, arith}
+use Rattle.std.proofs.Common.{[], inr, refl, arith}
 use Rattle.kernel_session.proofs.ActsLemmas.{told_none}
 use Rattle.kernel_session.proofs.EventLemmas.{attended, attended_part}
 use Rattle.kernel_session.proofs.message.attend.Goals as goal
