@@ -38,7 +38,7 @@ pub use crate::fault::InvertFault;
 pub use crate::flat::flatten;
 pub use crate::inverse::{invert, opposite};
 pub use crate::procedure::flatten_procedure;
-pub use janus_check::{CheckFault, Checked, Env, Kind, Sight, check};
+pub use janus_check::{CheckFault, Checked, Env, Kind, Sight, SymbolTable, check};
 pub use janus_names::Names;
 
 /// A law about the definitions of `specs/`: the inverse of a cell's inverse is the cell. It does nothing.

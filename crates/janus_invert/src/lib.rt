@@ -16,8 +16,8 @@ mod turned;
 pub use crate::turned::invert_code;
 pub use janus_code::{
     Block, CheckFault, Checked, Code, Env, FlatExp, FlatParameter, FlatProcedure, InvertFault,
-    Kind, Names, SlottedCode, SlottedProcedure, Statement, Symbol, check, flat_exp, flatten,
-    flatten_procedure, invert,
+    Kind, Names, SlottedCode, SlottedProcedure, Statement, Symbol, SymbolTable, check, flat_exp,
+    flatten, flatten_procedure, invert,
 };
 pub use janus_syntax::{Cell, Declaration, Exp, Name, Operator, Parameter, Procedure, Stm, Update};
 

@@ -46,6 +46,7 @@ impl Cursor {
     ghost use Rattle.janus_frames.specs.StoreState.{StoreState};
     ghost use Rattle.janus_frames.specs.Calls.{Caller};
     ghost use Rattle.janus_machine.specs.declared.procedures.Procedures as declared;
+    ghost use Rattle.janus_machine.specs.declared.linked_code.LinkedCode.{LinkedCode};
     ghost use Rattle.janus_machine.specs.declared.direction.Direction.TheVariants.{Forward, Inverse};
     ghost use Rattle.janus_machine.specs.Places.{block_in};
     ghost use Rattle.janus_machine.specs.Cursors.{place_of, has_ended, IsStanding};
@@ -60,6 +61,7 @@ impl Cursor {
     /// `RoomFault::Memory` where there is no memory for it.
     pub fn new(alloc: Global) -> Result<Cursor, RoomFault>
         ensures ended { IfOk result (λ cursor. has_ended cursor ≡ true) }
+        ensures stands { IfOk result (λ cursor. (t : declared.Procedures) (b : LinkedCode) (h : StoreState) → h.callers ≡ [] → IsStanding t b cursor h) }
         ensures counts { IfOk result IsAtEntry }
     {
         let calls = Vec::with_capacity(alloc, CALL_LIMIT)?;
