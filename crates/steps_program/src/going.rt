@@ -1,6 +1,9 @@
 //! How far a command goes.
+ghost use Rattle.std.specs.Prelude.{IfSome, IfNone, IsTrue, true, false};
 ghost use Rattle.steps_walk.specs.Walk.{IsWalking, Moves, KeepsMet};
+ghost use Rattle.steps_walk.specs.Standing.{IsMetHere};
 ghost use Rattle.steps_program.specs.Obeyed.{GoesOn, GoesBack};
+ghost use Rattle.steps_program.specs.Going.{TellsStop, TellsHolding, IsThere, Arrives, TakesOne, TakesLast, GoesTo, GoesBackTo};
 
 use crate::kept::Kept;
 use crate::output::place_of;
@@ -48,7 +51,11 @@ pub(crate) fn value_of<'a, L: Ledger>(walk: &'a Walk<L>, name: &str) -> Option<V
 }
 
 /// Whether an expression over the names in sight holds.
-fn holds<L: Ledger>(walk: &Walk<L>, exp: &Exp) -> bool {
+fn holds<L: Ledger>(walk: &Walk<L>, exp: &Exp) -> bool
+    requires walking { IsWalking walk.now }
+    requires met { IsMetHere walk.now }
+    ensures { TellsHolding exp.now walk.now result }
+{
     let Some(level) = walk.level(walk.open_calls()) else {
         return false;
     };
@@ -62,7 +69,11 @@ fn holds<L: Ledger>(walk: &Walk<L>, exp: &Exp) -> bool {
 }
 
 /// Whether the next step begins a statement or makes one of its tests.
-fn is_stop<L: Ledger>(walk: &Walk<L>) -> bool {
+fn is_stop<L: Ledger>(walk: &Walk<L>) -> bool
+    requires walking { IsWalking walk.now }
+    requires met { IsMetHere walk.now }
+    ensures { TellsStop walk.now result }
+{
     match walk.stand() {
         Some((level, spot)) => spot.is_stop(level.inverse),
         None => true,
@@ -70,7 +81,9 @@ fn is_stop<L: Ledger>(walk: &Walk<L>) -> bool {
 }
 
 /// Whether such a step stands on a line of the file.
-fn is_on_line<L: Ledger>(walk: &Walk<L>, sources: &[Source], line: usize) -> bool {
+fn is_on_line<L: Ledger>(walk: &Walk<L>, sources: &[Source], line: usize) -> bool
+    ensures { IsTrue result → TellsStop walk.now true }
+{
     match walk.stand() {
         Some((level, spot)) => {
             spot.is_stop(level.inverse) && line_at(sources, &level, spot) == Some(line)
@@ -87,7 +100,11 @@ fn line_at(sources: &[Source], level: &Level, spot: Spot) -> Option<usize> {
 }
 
 /// Whether the walk stands where a command goes.
-fn is_there<L: Ledger>(walk: &Walk<L>, sources: &[Source], goal: &Goal<'_>) -> bool {
+fn is_there<L: Ledger>(walk: &Walk<L>, sources: &[Source], goal: &Goal<'_>) -> bool
+    requires walking { IsWalking walk.now }
+    requires met { IsMetHere walk.now }
+    ensures { IsThere goal.now walk.now result }
+{
     match goal {
         Goal::Next(depth) => walk.open_calls() <= *depth && is_stop(walk),
         Goal::Fewer(depth) => walk.open_calls() < *depth,
@@ -107,7 +124,9 @@ fn arrived<L: Ledger>(
     goal: &Goal<'_>,
 ) -> Option<Came>
     requires { IsWalking walk.old }
-    ensures { KeepsMet walk.old walk.new }
+    ensures kept { KeepsMet walk.old walk.new }
+    ensures some { IfSome result (Arrives goal.now walk.new) }
+    ensures none { IfNone result (IsThere goal.now walk.new false) }
 {
     if walk.meet_here(alloc).is_err() {
         return Some(Came::Memory);
@@ -129,6 +148,8 @@ fn step_on<L: Ledger>(
     requires { IsWalking walk.old }
     ensures walks { IsWalking walk.new }
     ensures moves { Moves walk.old walk.new }
+    ensures some { IfSome result (TakesLast goal.now walk.old walk.new) }
+    ensures none { IfNone result (TakesOne walk.old walk.new × IsThere goal.now walk.new false) }
 {
     match walk.on(1) {
         Progress::Ended(_) => Some(Came::End),
@@ -147,13 +168,13 @@ pub(crate) fn go_on<L: Ledger>(
     requires { IsWalking walk.old }
     ensures walks { IsWalking walk.new }
     ensures moves { Moves walk.old walk.new }
+    ensures goes { GoesTo goal.now walk.old walk.new result }
 {
-    for _ in 0..u64::MAX {
+    loop {
         if let Some(came) = step_on(alloc, walk, sources, goal) {
             return came;
         }
     }
-    Came::There
 }
 
 /// Takes steps back until the walk stands where a command goes, one at least.
@@ -166,6 +187,7 @@ pub(crate) fn go_back<L: Ledger>(
     requires { IsWalking walk.old }
     ensures walks { IsWalking walk.new }
     ensures moves { Moves walk.old walk.new }
+    ensures goes { GoesBackTo goal.now walk.old walk.new result }
 {
     for _ in 0..walk.count() {
         walk.back(1);

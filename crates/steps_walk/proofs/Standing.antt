@@ -126,16 +126,16 @@ last_of c cs =
     ∙ ap Some (get_or-append_seam (reverse cs) c [] c)
 
 module _ {L : Type 0} (w : Walk L) (walking : IsWalking w) where
-  abbrev entries : List Name
+  abbrev pub entries : List Name
   entries = (runner_of w).entries
 
   abbrev bodies : Procedures
   bodies = (runner_of w).procedures
 
-  abbrev began : List Proc
+  abbrev pub began : List Proc
   began = (start_at walking.stands.at).procedures
 
-  began_over : began ≡ procedures_over (program_of w) (tree_of w)
+  pub began_over : began ≡ procedures_over (program_of w) (tree_of w)
   began_over =
       ap (λ (c : Code). (start_of c walking.stands.at.world).procedures) walking.stands.code
       ∙ ap (λ (v : World). (entered (cell_of_program (program_of w)) v).procedures) walking.stands.world
