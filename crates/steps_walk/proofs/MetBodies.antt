@@ -1,6 +1,7 @@
 -- The bodies in which open calls run are met.
-use Rattle.std.proofs.Common.{◌≡◌, ℕ, zero, suc, ◌+◌, ◌-◌, ◌<◌, ◌≤◌, List, [], ◌∷◌, ◌++◌, length, reverse, Bool, true, false, refl, ap, ◌∙◌, sym, subst, arith}
-use Rattle.std.specs.Prelude.{All, Option, None, Some, IsSome, slice_get, unwrap_or}
+use Rattle.std.proofs.Common.{◌≡◌, ℕ, zero, suc, ◌+◌, ◌-◌, ◌<◌, ◌≤◌, List, [], ◌∷◌, ◌++◌, length, reverse, Bool, true, false, leb, ◌⊎◌, inl, inr, refl, ap, ◌∙◌, sym, subst, arith}
+use Rattle.std.specs.Prelude.{All, Option, None, Some, Result, Ok, Err, OnOk, slice_get, unwrap_or}
+use Rattle.std.proofs.lemmas.Bool.Decides.{leb_tells}
 use Rattle.std.proofs.lemmas.List.{reverse-append}
 use Rattle.std.proofs.lemmas.List.Elements.{All-append, All-cons, All-nil, All-head, All-tail, All-get_or}
 use Rattle.std.proofs.lemmas.Option.{slice_get_within, get_or_from_slice_get}
@@ -11,7 +12,7 @@ use Rattle.janus_meaning.proofs.Stores.{same_name_self, same_name_true}
 use Rattle.janus_names.specs.Numbers.{IsNumbered, HaveOneNumber}
 use Rattle.janus_slots.specs.Slots.{slot, number_in, procedure_in, procedures_in}
 use Rattle.janus_slots.specs.Law.{AreListed}
-use Rattle.janus_frames.specs.Calls.{Caller}
+use Rattle.janus_machine.specs.FrameCalls.{Caller}
 use Rattle.janus_machine.specs.declared.linked_code.LinkedCode.{LinkedCode}
 use Rattle.janus_machine.specs.declared.linked_procedure.LinkedProcedure.{LinkedProcedure}
 use Rattle.janus_machine.specs.declared.direction.Direction.{Direction}
@@ -58,10 +59,11 @@ named es one [] h n q e = absurd (broken e)
   where
     broken : Bad Broken ≡ Fine q → ⊥
     broken e = cc
-named es one (p ∷ ps) h n q e = by (same_name (slot n) (number_in es p.name)) refl
+named es one (p ∷ ps) h n q e = by (named es one ps h.1 n q) (same_name (slot n) (number_in es p.name)) refl
   where
-    by : (b : Bool) → same_name (slot n) (number_in es p.name) ≡ b → IsNamed es (p ∷ ps) n
-    by true s =
+    by : (find (slot n) (procedures_in es ps) ≡ Fine q → IsNamed es ps n) → (b : Bool) → same_name (slot n) (number_in es p.name) ≡ b →
+        IsNamed es (p ∷ ps) n
+    by under true s =
         let k = h.0.0 in
         let same : n ≡ k = slot_same n k (same_name_true (slot n) (number_in es p.name) s ∙ number_is es k p.name h.0.1 one) in
         record {
@@ -70,9 +72,8 @@ named es one (p ∷ ps) h n q e = by (same_name (slot n) (number_in es p.name)) 
           procedure = p;
           found = ap (λ b. pick b p (find p.name ps)) (same_name_self p.name);
         }
-    by false s =
-        let rest = named es one ps h.1 n q
-            (sym (ap (λ b. pick b (procedure_in es p) (find (slot n) (procedures_in es ps))) s) ∙ e) in
+    by under false s =
+        let rest = under (sym (ap (λ b. pick b (procedure_in es p) (find (slot n) (procedures_in es ps))) s) ∙ e) in
         let found = found_over rest.name p rest.procedure ps rest.found in
         record { name = rest.name; numbered = rest.numbered; procedure = found.0; found = found.1 }
 
@@ -99,7 +100,7 @@ module _ {L : Type 0} (w : Walk L) (walking : IsWalking w) where
       let t = (runner_of w).procedures in
       let calls = calls_of (runner_of w).cursor in
       let all = all_turned (Runs t) calls
-          (all_run t (program_of w).book (direction_of (runner_of w).cursor) calls (runner_of w).counted.store.callers walking.stands.stands.standing.calls) in
+      (all_run t (program_of w).book (direction_of (runner_of w).cursor) calls (runner_of w).counted.store.callers walking.stands.stands.standing.calls) in
       subst (Runs t) (get_or_from_slice_get (reverse calls) i c c e)
       (All-get_or (Runs t) (reverse calls) i c (slice_get_within (reverse calls) i c e) all)
 
@@ -109,7 +110,7 @@ module _ {L : Type 0} (w : Walk L) (walking : IsWalking w) where
       let entries = (runner_of w).entries in
       let began = (start_at walking.stands.at).procedures in
       let found = subst (λ o. IsFound o (find (slot number) (procedures_in entries began))) has.1
-          (defined_in_effect (runner_of w).procedures walking.stands.at.bodies (procedures_in entries began) walking.stands.stands.defined number) in
+      (defined_in_effect (runner_of w).procedures walking.stands.at.bodies (procedures_in entries began) walking.stands.stands.defined number) in
       subst (λ ps. IsNamed entries ps number) (began_over w walking)
       (named entries walking.one_number began walking.stands.stands.listed number found.0 found.1)
 
@@ -169,3 +170,52 @@ module _ {L : Type 0} (w : Walk L) where
       no : Some number ≡ None → ⊥
       no e = cc
   all_met n all h (suc i) few number called = subst (IsMetAt w) (sym called.2) (h i (omega (arith, few, all)) called.0 called.1)
+
+-- ---- one body more
+
+there_still : {A : Type 0} (xs ys : List A) (k : ℕ) (x : A) → slice_get xs k ≡ Some x → slice_get (xs ++ ys) k ≡ Some x
+there_still [] ys k x e = absurd (let l = slice_get_within [] k x e in omega (arith, l))
+there_still (y ∷ xs) ys zero x e = e
+there_still (y ∷ xs) ys (suc k) x e = there_still xs ys k x e
+
+there_last : {A : Type 0} (xs : List A) (x : A) → slice_get (xs ++ x ∷ []) (length xs) ≡ Some x
+there_last [] x = refl
+there_last (y ∷ xs) x = there_last xs x
+
+module _ {L : Type 0} (old new : Walk L) where
+  pub met_before : (more : List Body) → bodies_of new ≡ bodies_of old ++ more → (number : ℕ) → IsMetAt old number → IsMetAt new number
+  met_before more e number met = (
+    met.0,
+    record {
+      body = met.1.body;
+      there = ap (λ bodies. slice_get bodies met.0) e ∙ there_still (bodies_of old) more met.0 met.1.body met.1.there;
+      named = met.1.named;
+    },
+  )
+
+  pub met_last : (body : Body) → bodies_of new ≡ bodies_of old ++ body ∷ [] → IsMetAt new body.number
+  met_last body e = (
+    length (bodies_of old),
+    record { body = body; there = ap (λ bodies. slice_get bodies (length (bodies_of old))) e ∙ there_last (bodies_of old) body; named = refl },
+  )
+
+  -- the next open call is met as well
+  pub met_next : (i : ℕ) (r : OpenCall) → runner_of new ≡ runner_of old → IsCallOf (runner_of old).cursor i r → AreMetUpTo old i →
+      ((number : ℕ) → IsMetAt old number → IsMetAt new number) → IsMetAt new r.procedure → AreMetUpTo new (i + 1)
+  met_next i r same of before more met j low c there =
+      let there_old = subst (λ (x : Runner L). slice_get (reverse (calls_of x.cursor)) j ≡ Some c) same there in
+      by (leb_tells (suc j) i) there_old
+    where
+      by : ((leb (suc j) i ≡ true) × (suc j ≤ i)) ⊎ ((leb (suc j) i ≡ false) × (i < suc j)) →
+          slice_get (reverse (calls_of (runner_of old).cursor)) j ≡ Some c → IsMetAt new c.procedure
+      by (inl e) at = let l = e.1 in more c.procedure (before j (omega (arith, l)) c at)
+      by (inr e) at =
+          let l = e.1 in
+          let z : j ≡ i = omega (arith, l, low) in
+          let at_i = subst (λ k. slice_get (reverse (calls_of (runner_of old).cursor)) k ≡ Some c) z at in
+          let call : of.call ≡ c = ap (λ (o : Option Call). unwrap_or o c) (sym of.there ∙ at_i) in
+          subst (IsMetAt new) (of.procedure ∙ ap (λ (x : Call). x.procedure) call) met
+
+pub on_ok : {A E : Type 0} (r : Result A E) (P Q : Type 0) → (P → Q) → OnOk r P → OnOk r Q
+on_ok (Ok a) P Q f h = f h
+on_ok (Err e) P Q f h = h
