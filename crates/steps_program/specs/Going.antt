@@ -1,23 +1,12 @@
 -- Where a command goes that is looked at behind each step, and which steps it passes on the way there.
-use Rattle.std.specs.Prelude.{◌≡◌, ℕ, ℤ, List, Bool, true, false, ◌&&◌, nat_le, nat_lt, IsTrue}
-use Rattle.janus_meaning.specs.Fault.{Res, Fine, Bad}
-use Rattle.janus_meaning.specs.Syntax.{Name}
-use Rattle.janus_meaning.specs.Value.{value}
-use Rattle.janus_meaning.specs.Word.{nonzero}
-use Rattle.janus_syntax.specs.View.{exp_of}
-use Rattle.janus_syntax.specs.declared.tree.Exp.{Exp}
+use Rattle.std.specs.Prelude.{◌≡◌, ℕ, Bool, true, false, ◌&&◌, nat_le, nat_lt, IsTrue}
 use Rattle.steps_walk.specs.progress.Progress.{Progress}
 use Rattle.steps_walk.specs.progress.Progress.TheVariants.{Went, Ended, Stopped}
 use Rattle.steps_walk.specs.Runner.{Runs, count_of}
-use Rattle.steps_walk.specs.declared.level.Level.{Level}
-use Rattle.steps_walk.specs.declared.level.Spot.{Spot}
-use Rattle.steps_walk.specs.declared.sight.Sight.{Sight}
 use Rattle.steps_walk.specs.declared.walk.Walk.{Walk}
-use Rattle.steps_walk.specs.Walk.{runner_of, program_of, calls_in, slots_in, Moves}
-use Rattle.steps_walk.specs.Standing.{IsHere, IsCodeAt, TellsPlace}
-use Rattle.steps_walk.specs.Stops.{is_stop}
-use Rattle.steps_walk.specs.Sights.{AreInSight, IsSightAt}
-use Rattle.steps_walk.specs.Values.{sighted}
+use Rattle.steps_walk.specs.Walk.{runner_of, program_of, calls_in, Moves}
+use Rattle.steps_walk.specs.Stops.{TellsStop}
+use Rattle.steps_walk.specs.Values.{TellsHolding}
 use Rattle.steps_program.specs.declared.going.Came.{Came}
 use Rattle.steps_program.specs.declared.going.Came.TheVariants as came
 use Rattle.steps_program.specs.declared.going.Goal.{Goal}
@@ -25,26 +14,6 @@ use Rattle.steps_program.specs.declared.going.Goal.TheVariants.{Next, Fewer, Lin
 use Rattle.steps_program.specs.Obeyed.{GoesBack}
 
 -- ---- where a command goes
-
--- whether the next step begins a statement or makes one of its tests, by what is told of its place
-pub record TellsStop {L : Type 0} (w : Walk L) (stops : Bool) : Type 0 where
-  pub told : Level × Spot
-  pub tells : TellsPlace w told
-  pub is : stops ≡ is_stop told.0.inverse told.1.part
-
--- it is a number, and not 0
-abbrev pub holds_as : Res ℤ → Bool
-holds_as (Fine n) = nonzero n
-holds_as (Bad fault) = false
-
--- whether an expression holds over the names that are in sight at the innermost level
-pub record TellsHolding {L : Type 0} (exp : Exp) (w : Walk L) (holds : Bool) : Type 0 where
-  pub level : Level
-  pub here : IsHere w level
-  pub code : IsCodeAt w (calls_in w) level.body
-  pub sight : Sight
-  pub of : IsSightAt w level sight
-  pub is : (g : List Name) → AreInSight sight g → holds ≡ holds_as (value (exp_of exp) (sighted (slots_in w) g))
 
 -- Whether the walk is where a command goes. Of a line it is told that a statement or a test comes next, and not which lines the text has; of a name's value
 -- that as many calls are open as when it was kept.

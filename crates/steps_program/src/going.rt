@@ -3,7 +3,8 @@ ghost use Rattle.std.specs.Prelude.{IfSome, IfNone, IsTrue, true, false};
 ghost use Rattle.steps_walk.specs.Walk.{IsWalking, Moves, KeepsMet};
 ghost use Rattle.steps_walk.specs.Standing.{IsMetHere};
 ghost use Rattle.steps_program.specs.Obeyed.{GoesOn, GoesBack};
-ghost use Rattle.steps_program.specs.Going.{TellsStop, TellsHolding, IsThere, Arrives, TakesOne, TakesLast, GoesTo, GoesBackTo};
+ghost use Rattle.steps_walk.specs.Stops.{TellsStop};
+ghost use Rattle.steps_program.specs.Going.{IsThere, Arrives, TakesOne, TakesLast, GoesTo, GoesBackTo};
 
 use crate::kept::Kept;
 use crate::output::place_of;
@@ -11,7 +12,7 @@ use crate::source::{Source, source_of};
 use cells_program::Fault;
 use std::alloc::Global;
 use std::sync::ledger::Ledger;
-use steps_walk::{Exp, Level, Progress, Spot, ValueView, Walk, number_of};
+use steps_walk::{Exp, Level, Progress, Spot, ValueView, Walk, is_holding};
 
 /// Where a command has led.
 #[derive(Clone, Copy)]
@@ -50,37 +51,7 @@ pub(crate) fn value_of<'a, L: Ledger>(walk: &'a Walk<L>, name: &str) -> Option<V
     walk.value(sight.slot(name)?)
 }
 
-/// Whether an expression over the names in sight holds.
-fn holds<L: Ledger>(walk: &Walk<L>, exp: &Exp) -> bool
-    requires walking { IsWalking walk.now }
-    requires met { IsMetHere walk.now }
-    ensures { TellsHolding exp.now walk.now result }
-{
-    let Some(level) = walk.level(walk.open_calls()) else {
-        return false;
-    };
-    let Some(sight) = walk.sight(&level) else {
-        return false;
-    };
-    match number_of(walk, &sight, exp) {
-        Ok(number) => number != 0,
-        Err(_) => false,
-    }
-}
-
-/// Whether the next step begins a statement or makes one of its tests.
-fn is_stop<L: Ledger>(walk: &Walk<L>) -> bool
-    requires walking { IsWalking walk.now }
-    requires met { IsMetHere walk.now }
-    ensures { TellsStop walk.now result }
-{
-    match walk.stand() {
-        Some((level, spot)) => spot.is_stop(level.inverse),
-        None => true,
-    }
-}
-
-/// Whether such a step stands on a line of the file.
+/// Whether a statement or one of its tests comes next, on this line of the file.
 fn is_on_line<L: Ledger>(walk: &Walk<L>, sources: &[Source], line: usize) -> bool
     ensures { IsTrue result → TellsStop walk.now true }
 {
@@ -106,10 +77,10 @@ fn is_there<L: Ledger>(walk: &Walk<L>, sources: &[Source], goal: &Goal<'_>) -> b
     ensures { IsThere goal.now walk.now result }
 {
     match goal {
-        Goal::Next(depth) => walk.open_calls() <= *depth && is_stop(walk),
+        Goal::Next(depth) => walk.open_calls() <= *depth && walk.is_at_stop(),
         Goal::Fewer(depth) => walk.open_calls() < *depth,
         Goal::Line(line) => is_on_line(walk, sources, *line),
-        Goal::Holds(exp) => holds(walk, *exp),
+        Goal::Holds(exp) => is_holding(walk, *exp),
         Goal::Changes(name, depth, old) => {
             walk.open_calls() == *depth && !old.is(value_of(walk, *name))
         }

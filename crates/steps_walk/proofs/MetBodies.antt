@@ -31,7 +31,7 @@ use Rattle.steps_walk.specs.declared.body.Body.{Body}
 use Rattle.steps_walk.specs.declared.walk.Walk.{Walk}
 use Rattle.steps_walk.specs.Bodies.{procedures_over}
 use Rattle.steps_walk.specs.Walk.{runner_of, program_of, tree_of, bodies_of, calls_in, IsWalking}
-use Rattle.steps_walk.specs.Standing.{IsBodyAt, IsCalledAt, HasBody, IsMetAt, IsLevelMet, IsMetHere, AreMet}
+use Rattle.steps_walk.specs.Standing.{IsCalledAt, HasBody, IsMetAt, IsLevelMet, IsMetHere, AreMet}
 use Rattle.steps_walk.proofs.Standing.{number_is, began_over}
 
 -- ---- the name of a number that a call runs

@@ -2,7 +2,7 @@
 ghost use Rattle.std.specs.Prelude.{◌≡◌, ◌≤◌, ◌<◌, IfSome, IsSome, true, false};
 ghost use Rattle.janus_machine.specs.Whereabouts.{IsWrittenAt, faces_inverse};
 ghost use Rattle.janus_places.specs.declared.table.Table.{Table as TheTable};
-ghost use Rattle.steps_walk.specs.Stops.{is_stop, has_end};
+ghost use Rattle.steps_walk.specs.Stops.{is_stop, has_end, TellsStop};
 
 use crate::walk::Walk;
 use janus_machine::Book;
@@ -164,6 +164,18 @@ impl<L: Ledger> Walk<L> {
                 Some(body) => Some(&body.table),
                 None => None,
             },
+        }
+    }
+
+    /// Whether the next step begins a statement, or makes one of its tests, or is the first or the last of its code.
+    pub fn is_at_stop(&self) -> bool
+        requires walking { IsWalking self.now }
+        requires met { IsMetHere self.now }
+        ensures { TellsStop self.now result }
+    {
+        match self.stand() {
+            Some((level, spot)) => spot.is_stop(level.inverse),
+            None => unreachable!(),
         }
     }
 

@@ -35,7 +35,7 @@ mod sight;
 mod turning;
 mod walk;
 
-pub use crate::evaluation::{NoValue, number_of};
+pub use crate::evaluation::{NoValue, is_holding, number_of};
 pub use crate::level::{Level, Spot};
 pub use crate::sight::Sight;
 pub use crate::walk::Walk;

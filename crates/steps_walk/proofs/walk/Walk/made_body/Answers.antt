@@ -1,4 +1,4 @@
-use Rattle.std.proofs.Common.{ℕ, length, sym, subst, arith}
+use Rattle.std.proofs.Common.{ℕ, sym, subst, arith}
 use Rattle.std.specs.Prelude.{Option}
 use Rattle.steps_walk.specs.Bodies.{IsTextOf}
 use Rattle.steps_walk.specs.Walk.{runner_of, program_of, tree_of}

@@ -1,4 +1,4 @@
-use Rattle.std.proofs.Common.{◌≤◌, length, ap, sym, subst, arith}
+use Rattle.std.proofs.Common.{length, ap, sym, subst, arith}
 use Rattle.janus_machine.specs.Cursor.{calls_of}
 use Rattle.kernel_runner.specs.declared.runner.Runner.{Runner}
 use Rattle.steps_walk.specs.Standing.{HasBody}

@@ -1,4 +1,4 @@
-use Rattle.std.proofs.Common.{◌≡◌, ◌<◌, ◌≤◌, ap, arith}
+use Rattle.std.proofs.Common.{ap, arith}
 use Rattle.janus_places.specs.Table.{places_in}
 use Rattle.steps_walk.proofs.Standing.{inside_table, same_table, none_some}
 use Rattle.steps_walk.proofs.walk.Walk.sight.Goals as goal
