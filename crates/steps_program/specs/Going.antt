@@ -1,5 +1,5 @@
 -- Where a command goes that is looked at behind each step, and which steps it passes on the way there.
-use Rattle.std.specs.Prelude.{◌≡◌, ℕ, Bool, true, false, ◌&&◌, nat_le, nat_lt, IsTrue}
+use Rattle.std.specs.Prelude.{◌≡◌, ℕ, Bool, true, false, nat_le, nat_lt, IsTrue}
 use Rattle.steps_walk.specs.progress.Progress.{Progress}
 use Rattle.steps_walk.specs.progress.Progress.TheVariants.{Went, Ended, Stopped}
 use Rattle.steps_walk.specs.Runner.{Runs, count_of}
@@ -15,10 +15,15 @@ use Rattle.steps_program.specs.Obeyed.{GoesBack}
 
 -- ---- where a command goes
 
+-- whether it stops there, if no more calls are open than may be
+abbrev pub StopsWithin : {L : Type 0} → Bool → Walk L → Bool → Type 0
+StopsWithin true w there = TellsStop w there
+StopsWithin false w there = there ≡ false
+
 -- Whether the walk is where a command goes. Of a line it is told that a statement or a test comes next, and not which lines the text has; of a name's value
 -- that as many calls are open as when it was kept.
 abbrev pub IsThere : {L : Type 0} → Goal → Walk L → Bool → Type 0
-IsThere (Next depth) w there = (stops : Bool) × TellsStop w stops × (there ≡ (nat_le (calls_in w) depth && stops))
+IsThere (Next depth) w there = StopsWithin (nat_le (calls_in w) depth) w there
 IsThere (Fewer depth) w there = there ≡ nat_lt (calls_in w) depth
 IsThere (Line line) w there = IsTrue there → TellsStop w true
 IsThere (Holds exp) w there = TellsHolding exp.now w there
