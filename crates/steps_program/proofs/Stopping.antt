@@ -1,5 +1,5 @@
 -- How far a command goes.
-use Rattle.std.proofs.Common.{◌≡◌, ℕ, ◌+◌, ◌-◌, false, ap, ◌∙◌, sym, subst}
+use Rattle.std.proofs.Common.{◌≡◌, ◌+◌, ◌-◌, Bool, true, false, ap, ◌∙◌, sym, subst}
 use Rattle.std.specs.Prelude.{Option, None, Some, IfSome, IfNone}
 use Rattle.steps_walk.specs.progress.Progress.TheVariants.{Went}
 use Rattle.steps_walk.specs.runner.Runner.{Runner}
@@ -9,8 +9,9 @@ use Rattle.steps_walk.specs.Walk.{runner_of, program_of, IsWalking, Moves, Keeps
 use Rattle.steps_program.specs.declared.going.Came.{Came}
 use Rattle.steps_program.specs.declared.going.Came.TheVariants as came
 use Rattle.steps_program.specs.declared.going.Goal.{Goal}
-use Rattle.steps_program.specs.Obeyed.{GoesBack}
+use Rattle.steps_program.specs.Counted.{GoesBack}
 use Rattle.steps_program.specs.Going.{Arrives, TakesOne, TakesLast, TakesLastBack}
+use Rattle.steps_program.specs.Obeyed.{Goes, IsLed}
 use Rattle.steps_program.proofs.Obeying.{led}
 
 pub if_some : {A : Type 0} (o : Option A) (P Q : A → Type 0) → ((a : A) → P a → Q a) → IfSome o P → IfSome o Q
@@ -52,3 +53,10 @@ module _ {L : Type 0} (old new : Walk L) (walking : IsWalking old) where
 
   pub count_back : GoesBack 1 old new → count_of (runner_of new) ≡ count_of (runner_of old) - 1
   count_back back = (back.goes walking.stands.at walking.stands.stands).counted ∙ ap (λ n. n - 1) (sym walking.stands.stands.counted)
+
+-- ---- bodies that are met where it has led
+
+pub led_there : {L : Type 0} (onward : Bool) (goal : Goal) (old at new : Walk L) (to : Came) → Goes onward goal old at to → KeepsMet at new →
+    IsLed onward goal old new
+led_there true goal old at new to h met = record { at = at; to = to; goes = h; met = met; moves = led old at new met h.moves }
+led_there false goal old at new to h met = record { at = at; to = to; goes = h; met = met; moves = led old at new met h.moves }

@@ -1,6 +1,5 @@
 -- Where a command goes that is looked at behind each step, and which steps it passes on the way there.
 use Rattle.std.specs.Prelude.{◌≡◌, ℕ, Bool, true, false, nat_le, nat_lt, IsTrue}
-use Rattle.steps_walk.specs.progress.Progress.{Progress}
 use Rattle.steps_walk.specs.progress.Progress.TheVariants.{Went, Ended, Stopped}
 use Rattle.steps_walk.specs.Runner.{Runs, count_of}
 use Rattle.steps_walk.specs.declared.walk.Walk.{Walk}
@@ -11,7 +10,7 @@ use Rattle.steps_program.specs.declared.going.Came.{Came}
 use Rattle.steps_program.specs.declared.going.Came.TheVariants as came
 use Rattle.steps_program.specs.declared.going.Goal.{Goal}
 use Rattle.steps_program.specs.declared.going.Goal.TheVariants.{Next, Fewer, Line, Holds, Changes}
-use Rattle.steps_program.specs.Obeyed.{GoesBack}
+use Rattle.steps_program.specs.Counted.{GoesBack}
 
 -- ---- where a command goes
 
@@ -72,9 +71,11 @@ pub record GoesTo {L : Type 0} (goal : Goal) (old new : Walk L) (to : Came) : Ty
   pub mid : Walk L
   pub passes : Passes goal old mid
   pub last : TakesLast goal mid new to
+  pub moves : Moves old new
 
 -- Steps back, as far as the first after which it is there, or the start, or want of memory.
 pub record GoesBackTo {L : Type 0} (goal : Goal) (old new : Walk L) (to : Came) : Type 0 where
   pub mid : Walk L
   pub passes : PassesBack goal old mid
   pub last : TakesLastBack goal mid new to
+  pub moves : Moves old new

@@ -1,2 +1,3 @@
-pub mod Obeyed
+pub mod Counted
 pub mod Going
+pub mod Obeyed

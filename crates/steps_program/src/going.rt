@@ -2,7 +2,7 @@
 ghost use Rattle.std.specs.Prelude.{IfSome, IfNone, IsTrue, true, false};
 ghost use Rattle.steps_walk.specs.Walk.{IsWalking, Moves, KeepsMet};
 ghost use Rattle.steps_walk.specs.Standing.{IsMetHere};
-ghost use Rattle.steps_program.specs.Obeyed.{GoesOn, GoesBack};
+ghost use Rattle.steps_program.specs.Counted.{GoesOn, GoesBack};
 ghost use Rattle.steps_walk.specs.Stops.{TellsStop};
 ghost use Rattle.steps_program.specs.Going.{IsThere, Arrives, TakesOne, TakesLast, GoesTo, GoesBackTo};
 

@@ -1,4 +1,4 @@
-use Rattle.std.proofs.Common.{◌≡◌, ◌+◌, ◌-◌, refl, arith}
+use Rattle.std.proofs.Common.{refl, arith}
 use Rattle.steps_walk.proofs.Moving.{stays, further}
 use Rattle.steps_program.specs.Going.{BegunBack, FurtherBack}
 use Rattle.steps_program.proofs.Obeying.{led, led_back}
@@ -35,6 +35,8 @@ returns-in-Some-clause-goes g c = record {
   last = last_back c.args.goal.now c.loop.walk c.arrived.new.walk c.in-Some.came
       (led_back c.loop.walk c.back.new.self c.arrived.new.walk c.arrived.ensures.kept 1 (record { moves = c.back.ensures.moves; goes = c.back.ensures.goes }))
       c.in-Some.ensures.some;
+  moves = led c.args.walk.now c.back.new.self c.arrived.new.walk c.arrived.ensures.kept
+      (further c.args.walk.now c.loop.walk c.back.new.self c.loop.invariant.moves c.back.ensures.moves);
 }
 
 pub returns-clause-goes : goal.returns-clause-goes
@@ -42,4 +44,4 @@ returns-clause-goes g c =
     let taken = c.loop.invariant.taken in
     let many = c.count-end.ensures in
     let done = c.loop-test.false in
-    record { mid = c.loop.walk; passes = c.loop.invariant.passes; last = (refl, omega (arith, taken, many, done)) }
+    record { mid = c.loop.walk; passes = c.loop.invariant.passes; last = (refl, omega (arith, taken, many, done)); moves = c.loop.invariant.moves }

@@ -14,3 +14,11 @@ loop-came-preserved g c = record {
   moves = further c.args.walk.now c.loop-came.walk c.step_on.new.walk c.loop-came.invariant.moves c.step_on.ensures.moves;
   passes = Further c.loop-came.walk c.step_on.new.walk c.loop-came.invariant.passes c.in_default.ensures.none.0 c.in_default.ensures.none.1;
 }
+
+pub returns-in-Some-clause-goes : goal.returns-in-Some-clause-goes
+returns-in-Some-clause-goes g c = record {
+  mid = c.loop-came.walk;
+  passes = c.loop-came.invariant.passes;
+  last = c.in-Some.ensures.some;
+  moves = further c.args.walk.now c.loop-came.walk c.step_on.new.walk c.loop-came.invariant.moves c.step_on.ensures.moves;
+}
