@@ -1,6 +1,10 @@
 //! How far a command goes.
+ghost use Rattle.std.specs.Prelude.{IfSome, IfNone, IsTrue, true, false};
 ghost use Rattle.steps_walk.specs.Walk.{IsWalking, Moves, KeepsMet};
-ghost use Rattle.steps_program.specs.Obeyed.{GoesOn, GoesBack};
+ghost use Rattle.steps_walk.specs.Standing.{IsMetHere};
+ghost use Rattle.steps_program.specs.Counted.{GoesOn, GoesBack};
+ghost use Rattle.steps_walk.specs.Stops.{TellsStop};
+ghost use Rattle.steps_program.specs.Going.{IsThere, Arrives, TakesOne, TakesLast, GoesTo, GoesBackTo};
 
 use crate::kept::Kept;
 use crate::output::place_of;
@@ -8,7 +12,7 @@ use crate::source::{Source, source_of};
 use cells_program::Fault;
 use std::alloc::Global;
 use std::sync::ledger::Ledger;
-use steps_walk::{Exp, Level, Progress, Spot, ValueView, Walk, number_of};
+use steps_walk::{Exp, Level, Progress, Spot, ValueView, Walk, is_holding};
 
 /// Where a command has led.
 #[derive(Clone, Copy)]
@@ -47,30 +51,10 @@ pub(crate) fn value_of<'a, L: Ledger>(walk: &'a Walk<L>, name: &str) -> Option<V
     walk.value(sight.slot(name)?)
 }
 
-/// Whether an expression over the names in sight holds.
-fn holds<L: Ledger>(walk: &Walk<L>, exp: &Exp) -> bool {
-    let Some(level) = walk.level(walk.open_calls()) else {
-        return false;
-    };
-    let Some(sight) = walk.sight(&level) else {
-        return false;
-    };
-    match number_of(walk, &sight, exp) {
-        Ok(number) => number != 0,
-        Err(_) => false,
-    }
-}
-
-/// Whether the next step begins a statement or makes one of its tests.
-fn is_stop<L: Ledger>(walk: &Walk<L>) -> bool {
-    match walk.stand() {
-        Some((level, spot)) => spot.is_stop(level.inverse),
-        None => true,
-    }
-}
-
-/// Whether such a step stands on a line of the file.
-fn is_on_line<L: Ledger>(walk: &Walk<L>, sources: &[Source], line: usize) -> bool {
+/// Whether a statement or one of its tests comes next, on this line of the file.
+fn is_on_line<L: Ledger>(walk: &Walk<L>, sources: &[Source], line: usize) -> bool
+    ensures { IsTrue result → TellsStop walk.now true }
+{
     match walk.stand() {
         Some((level, spot)) => {
             spot.is_stop(level.inverse) && line_at(sources, &level, spot) == Some(line)
@@ -87,12 +71,16 @@ fn line_at(sources: &[Source], level: &Level, spot: Spot) -> Option<usize> {
 }
 
 /// Whether the walk stands where a command goes.
-fn is_there<L: Ledger>(walk: &Walk<L>, sources: &[Source], goal: &Goal<'_>) -> bool {
+fn is_there<L: Ledger>(walk: &Walk<L>, sources: &[Source], goal: &Goal<'_>) -> bool
+    requires walking { IsWalking walk.now }
+    requires met { IsMetHere walk.now }
+    ensures { IsThere goal.now walk.now result }
+{
     match goal {
-        Goal::Next(depth) => walk.open_calls() <= *depth && is_stop(walk),
+        Goal::Next(depth) => walk.open_calls() <= *depth && walk.is_at_stop(),
         Goal::Fewer(depth) => walk.open_calls() < *depth,
         Goal::Line(line) => is_on_line(walk, sources, *line),
-        Goal::Holds(exp) => holds(walk, *exp),
+        Goal::Holds(exp) => is_holding(walk, *exp),
         Goal::Changes(name, depth, old) => {
             walk.open_calls() == *depth && !old.is(value_of(walk, *name))
         }
@@ -107,7 +95,9 @@ fn arrived<L: Ledger>(
     goal: &Goal<'_>,
 ) -> Option<Came>
     requires { IsWalking walk.old }
-    ensures { KeepsMet walk.old walk.new }
+    ensures kept { KeepsMet walk.old walk.new }
+    ensures some { IfSome result (Arrives goal.now walk.new) }
+    ensures none { IfNone result (IsThere goal.now walk.new false) }
 {
     if walk.meet_here(alloc).is_err() {
         return Some(Came::Memory);
@@ -129,6 +119,8 @@ fn step_on<L: Ledger>(
     requires { IsWalking walk.old }
     ensures walks { IsWalking walk.new }
     ensures moves { Moves walk.old walk.new }
+    ensures some { IfSome result (TakesLast goal.now walk.old walk.new) }
+    ensures none { IfNone result (TakesOne walk.old walk.new × IsThere goal.now walk.new false) }
 {
     match walk.on(1) {
         Progress::Ended(_) => Some(Came::End),
@@ -147,13 +139,13 @@ pub(crate) fn go_on<L: Ledger>(
     requires { IsWalking walk.old }
     ensures walks { IsWalking walk.new }
     ensures moves { Moves walk.old walk.new }
+    ensures goes { GoesTo goal.now walk.old walk.new result }
 {
-    for _ in 0..u64::MAX {
+    loop {
         if let Some(came) = step_on(alloc, walk, sources, goal) {
             return came;
         }
     }
-    Came::There
 }
 
 /// Takes steps back until the walk stands where a command goes, one at least.
@@ -166,6 +158,7 @@ pub(crate) fn go_back<L: Ledger>(
     requires { IsWalking walk.old }
     ensures walks { IsWalking walk.new }
     ensures moves { Moves walk.old walk.new }
+    ensures goes { GoesBackTo goal.now walk.old walk.new result }
 {
     for _ in 0..walk.count() {
         walk.back(1);

@@ -1,6 +1,9 @@
 //! Commands and answers.
-ghost use Rattle.steps_walk.specs.Walk.{IsWalking, Moves, KeepsMet};
-ghost use Rattle.steps_program.specs.Obeyed.{GoesOn, GoesBack, Obeys};
+ghost use Rattle.std.specs.Prelude.{true};
+ghost use Rattle.steps_walk.specs.Walk.{IsWalking, KeepsMet, calls_in};
+ghost use Rattle.steps_program.specs.declared.going.Goal.TheVariants.{Fewer};
+ghost use Rattle.steps_program.specs.Counted.{GoesOn, GoesBack};
+ghost use Rattle.steps_program.specs.Obeyed.{Obeys, IsLed, IsLedUntil, IsLedByChange};
 
 use crate::command::Command;
 use crate::going::{Came, Goal, go_back, go_on, steps_back, steps_on, value_of};
@@ -109,7 +112,7 @@ fn until<L: Ledger, W: Write>(
 ) -> Result<(), WriteFailed>
     requires { IsWalking walk.old }
     ensures walks { IsWalking walk.new }
-    ensures moves { Moves walk.old walk.new }
+    ensures led { IsLedUntil is_onward text.now walk.old walk.new }
 {
     match parse_exp(alloc, text) {
         Ok(exp) => go(alloc, walk, sources, Goal::Holds(&exp), is_onward, writer),
@@ -133,7 +136,7 @@ fn watch<L: Ledger, W: Write>(
 ) -> Result<(), WriteFailed>
     requires { IsWalking walk.old }
     ensures walks { IsWalking walk.new }
-    ensures moves { Moves walk.old walk.new }
+    ensures led { IsLedByChange is_onward name.entry walk.old walk.new }
 {
     match keep_value(alloc, walk, name) {
         Ok(old) => {
@@ -174,7 +177,7 @@ fn go<L: Ledger, W: Write>(
 ) -> Result<(), WriteFailed>
     requires { IsWalking walk.old }
     ensures walks { IsWalking walk.new }
-    ensures moves { Moves walk.old walk.new }
+    ensures led { IsLed is_onward goal.entry walk.old walk.new }
 {
     if is_onward {
         let came = go_on(alloc, walk, sources, &goal);
@@ -228,7 +231,7 @@ fn finish<L: Ledger, W: Write>(
 ) -> Result<(), WriteFailed>
     requires { IsWalking walk.old }
     ensures walks { IsWalking walk.new }
-    ensures moves { Moves walk.old walk.new }
+    ensures led { IsLed true (Fewer (calls_in walk.old)) walk.old walk.new }
 {
     let goal = Goal::Fewer(walk.open_calls());
     go(alloc, walk, sources, goal, true, writer)

@@ -10,3 +10,4 @@ pub mod Sights
 pub mod InSight
 pub mod Values
 pub mod Naming
+pub mod MetBodies

@@ -109,7 +109,7 @@ number_from_is (h ∷ es) k (suc n) f e first =
     ap (λ b. cond b (slot k) (number_from (suc k) es f)) differ
     ∙ number_from_is es (suc k) n f e (λ j l. first (suc j) (omega arith)) ∙ ap slot z
 
-number_is : (es : List Name) (n : ℕ) (f : Name) → IsNumbered es n f → HaveOneNumber es → number_in es f ≡ slot n
+pub number_is : (es : List Name) (n : ℕ) (f : Name) → IsNumbered es n f → HaveOneNumber es → number_in es f ≡ slot n
 number_is es n f e one =
     let z : 0 + n ≡ n = omega arith in
     number_from_is es 0 n f e (λ j l s. let same : j ≡ n = one j n f s e in omega (arith, l, same)) ∙ ap slot z
@@ -126,16 +126,16 @@ last_of c cs =
     ∙ ap Some (get_or-append_seam (reverse cs) c [] c)
 
 module _ {L : Type 0} (w : Walk L) (walking : IsWalking w) where
-  abbrev entries : List Name
+  abbrev pub entries : List Name
   entries = (runner_of w).entries
 
   abbrev bodies : Procedures
   bodies = (runner_of w).procedures
 
-  abbrev began : List Proc
+  abbrev pub began : List Proc
   began = (start_at walking.stands.at).procedures
 
-  began_over : began ≡ procedures_over (program_of w) (tree_of w)
+  pub began_over : began ≡ procedures_over (program_of w) (tree_of w)
   began_over =
       ap (λ (c : Code). (start_of c walking.stands.at.world).procedures) walking.stands.code
       ∙ ap (λ (v : World). (entered (cell_of_program (program_of w)) v).procedures) walking.stands.world
@@ -163,39 +163,97 @@ module _ {L : Type 0} (w : Walk L) (walking : IsWalking w) where
       by None at h = absurd (broken h)
       by (Some b) at h = (b, at, h.2.body ∙ ap (λ (q : Proc). q.body) (fine h.1))
 
+  -- the body that was met of the innermost call, and the code that runs in it
+  record RunsIn (k : ℕ) (c : Call) : Type 0 where
+    body : Body
+    there : slice_get (bodies_of w) k ≡ Some body
+    met : IsMet entries (program_of w) (tree_of w) body
+    number : body.number ≡ c.procedure
+    code : LinkedProcedure
+    book : book_of bodies (program_of w).book (runner_of w).cursor ≡ body_of code
+    same : block_in (body_of code) Forward ≡ code_of entries (parameters_of met.procedure) (text_body met.procedure)
+
+  runs_in : (k : ℕ) (c : Call) (cs : List Call) → calls_of (runner_of w).cursor ≡ c ∷ cs → Calls w (length cs) k → RunsIn k c
+  runs_in k c cs opened calls =
+      let last : calls.call ≡ c =
+      ap (λ (o : Option Call). unwrap_or o c)
+      (sym calls.there ∙ ap (λ (l : List Call). slice_get (reverse l) (length cs)) opened ∙ last_of c cs) in
+      let b : Body = calls.runs.body in
+      let within = slice_get_within (bodies_of w) k b calls.runs.there in
+      let m : IsMet entries (program_of w) (tree_of w) b =
+      subst (IsMet entries (program_of w) (tree_of w)) (get_or_from_slice_get (bodies_of w) k b b calls.runs.there)
+      (All-get_or (IsMet entries (program_of w) (tree_of w)) (bodies_of w) k b within walking.met) in
+      let number : b.number ≡ c.procedure = calls.runs.named ∙ ap (λ (x : Call). x.procedure) last in
+      let there = in_body c.procedure b.node m.procedure
+      (subst (λ (n : ℕ). IsInEffect entries (program_of w) (tree_of w) n b.node m.procedure) number m.in_effect) in
+      record {
+        body = b;
+        there = calls.runs.there;
+        met = m;
+        number = number;
+        code = there.0;
+        book = ap (book_in bodies (program_of w).book) opened ∙ ap (book_or (program_of w).book) there.1;
+        same = there.2;
+      }
+
+  -- the innermost place is one of the table of its code
+  module _ (level : Level) (here : IsHere w level) where
+    called_inside : (k : ℕ) (c : Call) (cs : List Call) → calls_of (runner_of w).cursor ≡ c ∷ cs → Calls w (length cs) k →
+        (t : Table) × IsTableAt w (Some k) t × (level.at < places_in t)
+    called_inside k c cs opened calls =
+        let r = runs_in k c cs opened calls in
+        let p = r.met.procedure in
+        let within : level.at < block_size (block_in (body_of r.code) Forward) =
+        subst (λ (b : LinkedCode). level.at < block_size (block_in b Forward)) r.book here.written.within in
+        let size : block_size (block_in (body_of r.code) Forward) ≡ block_size (code_of entries (parameters_of p) (text_body p)) = ap block_size r.same in
+        let long = table_long r.body.table entries (parameters_of p) (text_body p) r.met.is.table in (
+          r.body.table,
+          subst (λ (o : Option Body). IsTableIn o r.body.table) (sym r.there) refl,
+          omega (arith, within, size, long),
+        )
+
+    inside_by : (cs : List Call) → calls_of (runner_of w).cursor ≡ cs → (body : Option ℕ) → IsCodeAt w (length cs) body →
+        (t : Table) × IsTableAt w body t × (level.at < places_in t)
+    inside_by [] e None code =
+        let none : (runner_of w).cursor.calls.items ≡ [] = sym (reverse-reverse (runner_of w).cursor.calls.items) ∙ ap reverse e in (
+          block_of w,
+          refl,
+          inside (runner_of w) (program_of w) (block_of w) walking.stands.at level.at walking.stands.stands (ap are_no_calls none) walking.table
+              here.written,
+        )
+    inside_by [] e (Some k) code = absurd (own code)
+      where
+        own : Some k ≡ None → ⊥
+        own e = cc
+    inside_by (c ∷ cs) e None code = absurd code
+    inside_by (c ∷ cs) e (Some k) code = called_inside k c cs e code
+
+    pub inside_table : IsCodeAt w (calls_in w) level.body → (t : Table) × IsTableAt w level.body t × (level.at < places_in t)
+    inside_table code = inside_by (calls_of (runner_of w).cursor) refl level.body code
+
   module _ (level : Level) (spot : Spot) (here : IsHere w level) (node : level.node ≡ node_at w level.body) (t : Table) (of : IsTableAt w level.body t)
       (tells : TellsSpot t level.at spot) where
     called_in : (k : ℕ) (c : Call) (cs : List Call) → calls_of (runner_of w).cursor ≡ c ∷ cs → level.body ≡ Some k →
         Calls w (length cs) k → IsThereInCall w level spot.part spot.span
     called_in k c cs opened body calls =
-        let last : calls.call ≡ c =
-        ap (λ (o : Option Call). unwrap_or o c)
-        (sym calls.there ∙ ap (λ (l : List Call). slice_get (reverse l) (length cs)) opened ∙ last_of c cs) in
-        let b : Body = calls.runs.body in
-        let within = slice_get_within (bodies_of w) k b calls.runs.there in
-        let m : IsMet entries (program_of w) (tree_of w) b =
-        subst (IsMet entries (program_of w) (tree_of w)) (get_or_from_slice_get (bodies_of w) k b b calls.runs.there)
-        (All-get_or (IsMet entries (program_of w) (tree_of w)) (bodies_of w) k b within walking.met) in
-        let number : b.number ≡ c.procedure = calls.runs.named ∙ ap (λ (x : Call). x.procedure) last in
-        let at_node : b.node ≡ level.node =
-        sym (node ∙ ap (node_at w) body ∙ ap node_in calls.runs.there) in
+        let r = runs_in k c cs opened calls in
+        let m = r.met in
+        let at_node : r.body.node ≡ level.node =
+        sym (node ∙ ap (node_at w) body ∙ ap node_in r.there) in
         let in_effect : IsInEffect entries (program_of w) (tree_of w) c.procedure level.node m.procedure =
-        subst (λ (n : ℕ). IsInEffect entries (program_of w) (tree_of w) n level.node m.procedure) number
-        (subst (λ (o : Option ℕ). IsInEffect entries (program_of w) (tree_of w) b.number o m.procedure) at_node m.in_effect) in
-        let there = in_body c.procedure level.node m.procedure in_effect in
+        subst (λ (n : ℕ). IsInEffect entries (program_of w) (tree_of w) n level.node m.procedure) r.number
+        (subst (λ (o : Option ℕ). IsInEffect entries (program_of w) (tree_of w) r.body.number o m.procedure) at_node m.in_effect) in
         let of_body = subst (λ (o : Option ℕ). IsTableAt w o t) body of in
-        let same : t ≡ b.table = subst (λ (o : Option Body). IsTableIn o t) calls.runs.there of_body in
+        let same : t ≡ r.body.table = subst (λ (o : Option Body). IsTableIn o t) r.there of_body in
         let table : IsTableOf t (text_body m.procedure) = subst (λ (x : Table). IsTableOf x (text_body m.procedure)) (sym same) m.is.table in
-        let book : book_of bodies (program_of w).book (runner_of w).cursor ≡ body_of there.0 =
-        ap (book_in bodies (program_of w).book) opened ∙ ap (book_or (program_of w).book) there.1 in
         record {
           number = c.procedure;
           call = subst (λ (l : List Call). IsInnermostOf l c.procedure) (sym opened) refl;
           procedure = m.procedure;
           in_effect = in_effect;
           place = here.written.place
-              ∙ ap (λ (x : LinkedCode). faced (direction_of (runner_of w).cursor) (row_place x Forward level.at)) book
-              ∙ ap (λ (x : Blk). faced (direction_of (runner_of w).cursor) (place_at Straight x level.at)) there.2;
+              ∙ ap (λ (x : LinkedCode). faced (direction_of (runner_of w).cursor) (row_place x Forward level.at)) r.book
+              ∙ ap (λ (x : Blk). faced (direction_of (runner_of w).cursor) (place_at Straight x level.at)) r.same;
           told = tells (text_body m.procedure) table entries (parameters_of m.procedure);
         }
 
@@ -212,6 +270,18 @@ module _ {L : Type 0} (w : Walk L) (walking : IsWalking w) where
 
     pub called : IsCodeAt w (calls_in w) level.body → is_outside w ≡ false → IsThereInCall w level spot.part spot.span
     called code out = by_calls (calls_of (runner_of w).cursor) refl out level.body refl code
+
+pub none_some : false ≡ true → ⊥
+none_some e = cc
+
+one_table : (o : Option Body) (t u : Table) → IsTableIn o t → IsTableIn o u → t ≡ u
+one_table None t u e f = absurd e
+one_table (Some body) t u e f = e ∙ sym f
+
+-- a code has one table
+pub same_table : {L : Type 0} (w : Walk L) (body : Option ℕ) (t u : Table) → IsTableAt w body t → IsTableAt w body u → t ≡ u
+same_table w None t u e f = e ∙ sym f
+same_table w (Some k) t u e f = one_table (slice_get (bodies_of w) k) t u e f
 
 pub tells : {L : Type 0} (w : Walk L) (level : Level) (spot : Spot) → IsHere w level → IsCodeAt w (calls_in w) level.body →
     level.node ≡ node_at w level.body → (t : Table) → IsTableAt w level.body t → TellsSpot t level.at spot → TellsPlace w (level, spot)

@@ -1,5 +1,5 @@
 -- What is told of where a walk stands.
-use Rattle.std.specs.Prelude.{◌≡◌, ℕ, zero, suc, ◌-◌, List, [], ◌∷◌, reverse, true, false, Option, None, Some, slice_get}
+use Rattle.std.specs.Prelude.{◌≡◌, ℕ, zero, suc, ◌-◌, ◌≤◌, List, [], ◌∷◌, reverse, true, false, Option, None, Some, slice_get}
 use Rattle.janus_meaning.specs.Syntax.{Name}
 use Rattle.janus_names.specs.Numbers.{IsNumbered}
 use Rattle.janus_linear.specs.declared.code.Order.TheVariants.{Straight}
@@ -9,6 +9,8 @@ use Rattle.janus_machine.specs.declared.direction.Direction.{Direction}
 use Rattle.janus_machine.specs.Cursor.{direction_of, calls_of}
 use Rattle.janus_machine.specs.Cursors.{place_in}
 use Rattle.janus_machine.specs.Nested.{caller_way}
+use Rattle.janus_machine.specs.Procedures.{body_at}
+use Rattle.janus_machine.specs.declared.linked_procedure.LinkedProcedure.{LinkedProcedure}
 use Rattle.janus_machine.specs.Whereabouts.{IsWrittenAt, faced, faces_inverse}
 use Rattle.janus_syntax.specs.Tree.{Block}
 use Rattle.janus_syntax.specs.declared.token.Span.{Span}
@@ -51,6 +53,30 @@ abbrev pub IsCodeAt : {L : Type 0} → Walk L → ℕ → Option ℕ → Type 0
 IsCodeAt w zero body = body ≡ None
 IsCodeAt w (suc i) None = ⊥
 IsCodeAt w (suc i) (Some k) = Calls w i k
+
+-- ---- which bodies are met
+
+-- a call of the name of this number runs a body
+abbrev pub HasBody : {L : Type 0} → Walk L → ℕ → Type 0
+HasBody w number = (body : LinkedProcedure) × (body_at (runner_of w).procedures number ≡ Some body)
+
+-- the body of the name of this number was met
+abbrev pub IsMetAt : {L : Type 0} → Walk L → ℕ → Type 0
+IsMetAt w number = (k : ℕ) × IsBodyAt w number k
+
+-- the body in which the i-th level stands was met; the cell's own code needs none
+abbrev pub IsLevelMet : {L : Type 0} → Walk L → ℕ → Type 0
+IsLevelMet w i = (number : ℕ) → IsCalledAt w i (Some number) → IsMetAt w number
+
+-- that of the innermost level was met
+abbrev pub IsMetHere : {L : Type 0} → Walk L → Type 0
+IsMetHere w = IsLevelMet w (calls_in w)
+
+-- those of all levels were met
+abbrev pub AreMet : {L : Type 0} → Walk L → Type 0
+AreMet w = (i : ℕ) → i ≤ calls_in w → IsLevelMet w i
+
+-- ---- the text of a level
 
 -- the node of the cell whose text has that code
 abbrev pub node_in : Option Body → Option ℕ

@@ -1,9 +1,13 @@
 -- At which places of code a statement begins or one of its tests is made.
-use Rattle.std.specs.Prelude.{Bool, true, false, not, ◌&&◌}
+use Rattle.std.specs.Prelude.{◌≡◌, Bool, true, false, not, ◌&&◌}
 use Rattle.janus_places.specs.declared.part.Form.{Form}
 use Rattle.janus_places.specs.declared.part.Form.TheVariants.{Skip, Assign, AssignElement, Push, Pop, Swap, If, Loop, LocalInt, LocalStack, Call, Uncall}
 use Rattle.janus_places.specs.declared.part.Part.{Part}
 use Rattle.janus_places.specs.declared.part.Part.TheVariants.{Begin, End, Before, After, Enters, Leaves}
+use Rattle.steps_walk.specs.declared.level.Level.{Level}
+use Rattle.steps_walk.specs.declared.level.Spot.{Spot}
+use Rattle.steps_walk.specs.declared.walk.Walk.{Walk}
+use Rattle.steps_walk.specs.Standing.{TellsPlace}
 
 -- whether a statement has a test or a local at its end
 abbrev pub has_end : Form → Bool
@@ -29,3 +33,9 @@ is_stop inverse (Before form) = not inverse
 is_stop inverse (After form) = inverse
 is_stop inverse (Leaves form branch) = not inverse && has_end form
 is_stop inverse (Enters form branch) = inverse && has_end form
+
+-- whether the next step of a walk is one of those, by what is told of its place
+pub record TellsStop {L : Type 0} (w : Walk L) (stops : Bool) : Type 0 where
+  pub told : Level × Spot
+  pub tells : TellsPlace w told
+  pub is : stops ≡ is_stop told.0.inverse told.1.part

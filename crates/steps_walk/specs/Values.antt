@@ -1,10 +1,14 @@
 -- The value of an expression over the names in sight.
-use Rattle.std.specs.Prelude.{ℤ, List, [], ◌∷◌, length, slice_get, Option, None, Some, Result, Ok, Err}
+use Rattle.std.specs.Prelude.{◌≡◌, ℤ, Bool, false, List, [], ◌∷◌, length, slice_get, Option, None, Some, Result, Ok, Err}
 use Rattle.std.specs.Borrow.{Bor}
 use Rattle.janus_meaning.specs.Fault.{Res, Fine, Bad, Broken}
 use Rattle.janus_meaning.specs.Syntax.{Name}
 use Rattle.janus_meaning.specs.Store.{Store, Bare, Slot, Val, Lent}
 use Rattle.janus_meaning.specs.World.{listed}
+use Rattle.janus_meaning.specs.Value.{value}
+use Rattle.janus_meaning.specs.Word.{nonzero}
+use Rattle.janus_syntax.specs.View.{exp_of}
+use Rattle.janus_syntax.specs.declared.tree.Exp.{Exp}
 use Rattle.janus_memory.specs.declared.value.ValueView.{ValueView}
 use Rattle.janus_memory.specs.declared.stack_view.StackView.{StackView}
 use Rattle.janus_memory.specs.Stacks.{held}
@@ -12,6 +16,12 @@ use Rattle.janus_memory.specs.Values.{shown}
 use Rattle.janus_evaluation.specs.Results.{fault_of}
 use Rattle.steps_walk.specs.declared.evaluation.NoValue.{NoValue}
 use Rattle.steps_walk.specs.declared.evaluation.NoValue.TheVariants.{Unknown, Kind, Fault}
+use Rattle.steps_walk.specs.declared.level.Level.{Level}
+use Rattle.steps_walk.specs.declared.sight.Sight.{Sight}
+use Rattle.steps_walk.specs.declared.walk.Walk.{Walk}
+use Rattle.steps_walk.specs.Walk.{calls_in, slots_in}
+use Rattle.steps_walk.specs.Standing.{IsHere, IsCodeAt}
+use Rattle.steps_walk.specs.Sights.{AreInSight, IsSightAt}
 
 -- what stands in a slot; nothing to be read where there is none
 abbrev pub value_or_lent : Option (Name × Val) → Val
@@ -47,3 +57,17 @@ found_array (Err e) = fault_told e
 abbrev pub found_stack : Result StackView NoValue → Res (List ℤ)
 found_stack (Ok values) = Fine (held values)
 found_stack (Err e) = fault_told e
+
+-- it is a number, and not 0
+abbrev pub holds_as : Res ℤ → Bool
+holds_as (Fine n) = nonzero n
+holds_as (Bad fault) = false
+
+-- whether an expression holds over the names that are in sight at the innermost level of a walk
+pub record TellsHolding {L : Type 0} (exp : Exp) (w : Walk L) (holds : Bool) : Type 0 where
+  pub level : Level
+  pub here : IsHere w level
+  pub code : IsCodeAt w (calls_in w) level.body
+  pub sight : Sight
+  pub of : IsSightAt w level sight
+  pub is : (g : List Name) → AreInSight sight g → holds ≡ holds_as (value (exp_of exp) (sighted (slots_in w) g))

@@ -1,5 +1,6 @@
 //! The bodies of procedures, as the texts of their cells have them.
 ghost use Rattle.std.specs.Prelude.{◌≡◌, List, map, IfOk, IfSome, IfNone, string_bytes};
+ghost use Rattle.janus_meaning.specs.Fault.{Bad, Broken};
 ghost use Rattle.janus_meaning.specs.Syntax.{names_of, Proc};
 ghost use Rattle.janus_meaning.specs.Store.{find};
 ghost use Rattle.janus_meaning.specs.World.{define};
@@ -7,7 +8,7 @@ ghost use Rattle.janus_syntax.specs.Tree.{parameter_view, parameters_view, proce
 ghost use Rattle.janus_syntax.specs.View.{plain_parameter, plain_procedure};
 ghost use Rattle.kernel_machine.specs.Legal.{IsLegal};
 ghost use Rattle.kernel_history.specs.Fields.{past_of};
-ghost use Rattle.steps_walk.specs.Bodies.{IsBodyOf, IsNewest, IsTextOf};
+ghost use Rattle.steps_walk.specs.Bodies.{IsBodyOf, IsNewest, IsTextOf, procedures_over};
 
 use janus_places::Table;
 use janus_syntax::tree::{Parameter, Procedure};
@@ -100,7 +101,9 @@ pub(crate) fn text_of<'a>(
     name: &str,
 ) -> Option<(Option<usize>, &'a Procedure)>
     requires { IsLegal (past_of tree.now) }
-    ensures { IfSome result (λ found. IsTextOf program.now tree.now name.now found.0 found.1.now) }
+    ensures some { IfSome result (λ found. IsTextOf program.now tree.now name.now found.0 found.1.now) }
+    // No call of the name runs anything.
+    ensures none { IfNone result (find name.now (procedures_over program.now tree.now) ≡ Bad Broken) }
 {
     if let Some(procedure) = newest(&program.cell.procedures, name) {
         return Some((None, procedure));

@@ -7,8 +7,9 @@ ghost use Rattle.janus_meaning.specs.Value.{value as value_of_exp, first, is_non
 ghost use Rattle.janus_meaning.specs.Word.{wrap, bit, nonzero, operate as operate_of};
 ghost use Rattle.janus_syntax.specs.View.{exp_of, operator_of};
 ghost use Rattle.steps_walk.specs.Sights.{AreInSight};
-ghost use Rattle.steps_walk.specs.Walk.{slots_in};
-ghost use Rattle.steps_walk.specs.Values.{sighted, told, found_value, found_array, found_stack};
+ghost use Rattle.steps_walk.specs.Walk.{slots_in, IsWalking};
+ghost use Rattle.steps_walk.specs.Standing.{IsMetHere};
+ghost use Rattle.steps_walk.specs.Values.{sighted, told, found_value, found_array, found_stack, holds_as, TellsHolding};
 
 use crate::sight::Sight;
 use crate::walk::Walk;
@@ -196,4 +197,29 @@ pub fn number_of<L: Ledger>(walk: &Walk<L>, sight: &Sight<'_>, exp: &Exp) -> Res
         Exp::And(left, right) => both(number_of(walk, sight, left), number_of(walk, sight, right)),
         Exp::Or(left, right) => either(number_of(walk, sight, left), number_of(walk, sight, right)),
     }
+}
+
+/// Whether there is a number, and it isn't 0.
+fn is_true(number: Result<i32, NoValue>) -> bool
+    ensures { result ≡ holds_as (told number) }
+{
+    match number {
+        Ok(number) => holds(number),
+        Err(_) => false,
+    }
+}
+
+/// Whether an expression over the names in sight at the innermost level holds: it has a number, and that isn't 0.
+pub fn is_holding<L: Ledger>(walk: &Walk<L>, exp: &Exp) -> bool
+    requires walking { IsWalking walk.now }
+    requires met { IsMetHere walk.now }
+    ensures { TellsHolding exp.now walk.now result }
+{
+    let Some(level) = walk.level(walk.open_calls()) else {
+        unreachable!()
+    };
+    let Some(sight) = walk.sight(&level) else {
+        unreachable!()
+    };
+    is_true(number_of(walk, &sight, exp))
 }

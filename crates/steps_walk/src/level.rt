@@ -1,8 +1,8 @@
 //! Where a walk stands, in the cell and in each open call.
-ghost use Rattle.std.specs.Prelude.{◌≡◌, ◌≤◌, ◌<◌, IfSome, true, false};
+ghost use Rattle.std.specs.Prelude.{◌≡◌, ◌≤◌, ◌<◌, IfSome, IsSome, true, false};
 ghost use Rattle.janus_machine.specs.Whereabouts.{IsWrittenAt, faces_inverse};
 ghost use Rattle.janus_places.specs.declared.table.Table.{Table as TheTable};
-ghost use Rattle.steps_walk.specs.Stops.{is_stop, has_end};
+ghost use Rattle.steps_walk.specs.Stops.{is_stop, has_end, TellsStop};
 
 use crate::walk::Walk;
 use janus_machine::Book;
@@ -31,8 +31,10 @@ pub struct Spot {
 }
 
 impl<L: Ledger> Walk<L> {
-    ghost use Rattle.steps_walk.specs.Walk.{calls_in};
+    ghost use Rattle.janus_places.specs.Table.{places_in};
+    ghost use Rattle.steps_walk.specs.Walk.{calls_in, IsWalking};
     ghost use Rattle.steps_walk.specs.Standing.{IsHere, IsCodeAt, IsCalledAt, IsTableAt, IsPlaceOf, IsNameAt, TellsSpot, TellsPlace, node_at, way_at};
+    ghost use Rattle.steps_walk.specs.Standing.{IsLevelMet, IsMetHere};
 
     /// How many calls are open.
     pub fn open_calls(&self) -> usize
@@ -42,7 +44,7 @@ impl<L: Ledger> Walk<L> {
     }
 
     /// Where the walk stands in the innermost code, for i as many as there are open calls; else where the i-th open call stands, the outermost being 0.
-    /// None where the body was not met.
+    /// None if its body wasn't met.
     #[tactic(auto, using(crate::proofs::Levels::own_code, crate::proofs::Levels::called_code, crate::proofs::Levels::here_at))]
     pub fn level(&self, i: usize) -> Option<Level>
         requires { i ≤ calls_in self.now }
@@ -51,6 +53,7 @@ impl<L: Ledger> Walk<L> {
         ensures faces { IfSome result (λ level. level.inverse ≡ faces_inverse (way_at self.now i)) }
         ensures code { IfSome result (λ level. IsCodeAt self.now i level.body) }
         ensures node { IfSome result (λ level. level.node ≡ node_at self.now level.body) }
+        ensures met { IsLevelMet self.now i → IsSome result }
     {
         let body = match self.called(i) {
             None => None,
@@ -67,11 +70,12 @@ impl<L: Ledger> Walk<L> {
         })
     }
 
-    /// Where the walk stands, and what stands there in the text.
+    /// Where the walk stands, and what stands there in the text. None if the body there wasn't met.
     pub fn stand(&self) -> Option<(Level, Spot)>
         ensures tells { IfSome result (TellsPlace self.now) }
         ensures here { IfSome result (λ told. IsHere self.now told.0) }
         ensures code { IfSome result (λ told. IsCodeAt self.now (calls_in self.now) told.0.body) }
+        ensures met { IsWalking self.now → IsMetHere self.now → IsSome result }
     {
         let level = self.level(self.open_calls())?;
         let spot = self.spot(&level)?;
@@ -151,7 +155,8 @@ impl<L: Ledger> Walk<L> {
 
     /// The table of the code in which a level stands.
     pub(crate) fn table(&self, level: &Level) -> Option<&Table>
-        ensures { IfSome result (λ table. IsTableAt self.now level.now.body table.now) }
+        ensures some { IfSome result (λ table. IsTableAt self.now level.now.body table.now) }
+        ensures met { (t : TheTable) → IsTableAt self.now level.now.body t → IsSome result }
     {
         match level.body {
             None => Some(&self.block),
@@ -162,9 +167,22 @@ impl<L: Ledger> Walk<L> {
         }
     }
 
+    /// Whether the next step begins a statement, or makes one of its tests, or is the first or the last of its code.
+    pub fn is_at_stop(&self) -> bool
+        requires walking { IsWalking self.now }
+        requires met { IsMetHere self.now }
+        ensures { TellsStop self.now result }
+    {
+        match self.stand() {
+            Some((level, spot)) => spot.is_stop(level.inverse),
+            None => unreachable!(),
+        }
+    }
+
     /// What stands there in the text.
     pub fn spot(&self, level: &Level) -> Option<Spot>
-        ensures { IfSome result (λ spot. (t : TheTable) × IsTableAt self.now level.now.body t × TellsSpot t level.now.at spot) }
+        ensures some { IfSome result (λ spot. (t : TheTable) × IsTableAt self.now level.now.body t × TellsSpot t level.now.at spot) }
+        ensures met { (t : TheTable) → IsTableAt self.now level.now.body t → level.now.at < places_in t → IsSome result }
     {
         let table = self.table(level)?;
         if level.at >= table.len() {

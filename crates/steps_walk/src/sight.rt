@@ -1,5 +1,5 @@
 //! The names in sight with their values.
-ghost use Rattle.std.specs.Prelude.{◌≡◌, ◌≤◌, ◌<◌, List, length, reverse, slice_get, Some, IfSome, IfNone, IfOk, OnOk, ◌++◌, map, string_bytes};
+ghost use Rattle.std.specs.Prelude.{◌≡◌, ◌≤◌, ◌<◌, List, length, reverse, slice_get, Some, IfSome, IfNone, IsSome, IfOk, OnOk, ◌++◌, map, string_bytes};
 ghost use Rattle.janus_meaning.specs.Syntax.{Name};
 ghost use Rattle.janus_meaning.specs.World.{size_of, listed};
 ghost use Rattle.janus_slots.specs.Slots.{slot as slot_name, slot_in};
@@ -142,15 +142,17 @@ fn add_parameters<'a>(all: &mut Vec<&'a str>, names: &'a [String]) -> Result<(),
 }
 
 impl<L: Ledger> Walk<L> {
-    ghost use Rattle.steps_walk.specs.Walk.{slots_in, calls_in};
-    ghost use Rattle.steps_walk.specs.Standing.{IsHere, IsCodeAt};
+    ghost use Rattle.steps_walk.specs.Walk.{slots_in, calls_in, IsWalking};
+    ghost use Rattle.steps_walk.specs.Standing.{IsHere, IsCodeAt, IsTableAt};
+    ghost use Rattle.janus_places.specs.declared.table.Table.{Table as TheTable};
     ghost use Rattle.steps_walk.specs.Sights.{IsSightAt, base_of, base_at};
 
     /// The names in sight at the innermost level, whose values the walk lends.
     pub fn sight(&self, level: &Level) -> Option<Sight<'_>>
         requires here { IsHere self.now level.now }
         requires code { IsCodeAt self.now (calls_in self.now) level.now.body }
-        ensures { IfSome result (IsSightAt self.now level.now) }
+        ensures is { IfSome result (IsSightAt self.now level.now) }
+        ensures met { IsWalking self.now → IsSome result }
     {
         let table = self.table(level)?;
         if level.at >= table.len() {
@@ -166,7 +168,8 @@ impl<L: Ledger> Walk<L> {
 
     /// The names that are in sight in a whole code.
     fn base(&self, body: Option<usize>) -> Option<Base<'_>>
-        ensures { IfSome result (λ base. base_of base ≡ base_at self.now body) }
+        ensures some { IfSome result (λ base. base_of base ≡ base_at self.now body) }
+        ensures met { (t : TheTable) → IsTableAt self.now body t → IsSome result }
     {
         match body {
             None => Some(Base::Declared(self.open.runner.counted.store.texts())),

@@ -23,11 +23,11 @@ pub struct Walk<L: Ledger> {
 }
 
 impl<L: Ledger> Walk<L> {
-    ghost use Rattle.std.specs.Prelude.{IfSome};
+    ghost use Rattle.std.specs.Prelude.{IfSome, IsSome, OnOk, ℕ};
     ghost use Rattle.steps_walk.specs.Walking.{StepsBack};
     ghost use Rattle.steps_walk.specs.Walk.{runner_of, program_of, tree_of, IsEntered, IsWalking, Moves, KeepsMet};
     ghost use Rattle.steps_walk.specs.Bodies.{IsMet};
-    ghost use Rattle.steps_walk.specs.Standing.{IsBodyAt};
+    ghost use Rattle.steps_walk.specs.Standing.{IsBodyAt, IsMetAt, IsMetHere, AreMet, HasBody};
 
     /// A walk from where the open cell stands; the only error is want of memory.
     pub fn of(alloc: Global, entered: OpenCell<L>) -> Result<Walk<L>, AllocError>
@@ -81,7 +81,8 @@ impl<L: Ledger> Walk<L> {
 
     /// The index of the body that was met of the name of a number.
     pub(crate) fn body_of(&self, number: usize) -> Option<usize>
-        ensures { IfSome result (IsBodyAt self.now number) }
+        ensures some { IfSome result (IsBodyAt self.now number) }
+        ensures met { IsMetAt self.now number → IsSome result }
     {
         for k in 0..self.met.len() {
             if self.met[k].number == number {
@@ -95,7 +96,8 @@ impl<L: Ledger> Walk<L> {
     #[tactic(auto, using(crate::proofs::Moving::met_none))]
     pub fn meet_calls(&mut self, alloc: Global) -> Result<(), AllocError>
         requires { IsWalking self.old }
-        ensures { KeepsMet self.old self.new }
+        ensures kept { KeepsMet self.old self.new }
+        ensures met { OnOk result (AreMet self.new) }
     {
         for i in 0..self.open.runner.cursor.open_calls() {
             let number = self.open.runner.cursor.open_call(i).procedure;
@@ -108,7 +110,8 @@ impl<L: Ledger> Walk<L> {
     #[tactic(auto, using(crate::proofs::Moving::met_none))]
     pub fn meet_here(&mut self, alloc: Global) -> Result<(), AllocError>
         requires { IsWalking self.old }
-        ensures { KeepsMet self.old self.new }
+        ensures kept { KeepsMet self.old self.new }
+        ensures met { OnOk result (IsMetHere self.new) }
     {
         let open = self.open.runner.cursor.open_calls();
         if open == 0 {
@@ -122,7 +125,10 @@ impl<L: Ledger> Walk<L> {
     #[tactic(auto, using(crate::proofs::Moving::met_none))]
     fn meet(&mut self, alloc: Global, number: usize) -> Result<(), AllocError>
         requires { IsWalking self.old }
-        ensures { KeepsMet self.old self.new }
+        ensures kept { KeepsMet self.old self.new }
+        ensures met { OnOk result (HasBody self.old number → IsMetAt self.new number) }
+        // Those that were met before are met still.
+        ensures more { (other : ℕ) → IsMetAt self.old other → IsMetAt self.new other }
     {
         if self.body_of(number).is_some() {
             return Ok(());
@@ -136,7 +142,9 @@ impl<L: Ledger> Walk<L> {
     /// What is to be kept of the body in effect of the name of a number; the only error is want of memory.
     fn made_body(&self, alloc: Global, number: usize) -> Result<Option<Body>, AllocError>
         requires { IsWalking self.now }
-        ensures { IfOk result (λ made. IfSome made (IsMet (runner_of self.now).entries (program_of self.now) (tree_of self.now))) }
+        ensures met { IfOk result (λ made. IfSome made (IsMet (runner_of self.now).entries (program_of self.now) (tree_of self.now))) }
+        ensures number { IfOk result (λ made. IfSome made (λ body. body.number ≡ number)) }
+        ensures some { IfOk result (λ made. HasBody self.now number → IsSome made) }
     {
         if number >= self.open.runner.entries.len() {
             return Ok(None);

@@ -3,8 +3,8 @@ use Rattle.kernel_history.proofs.Nodes.{parent_there, count_of_nodes}
 use Rattle.steps_walk.proofs.Bodies.{found_here, none_here, found_there, none_there}
 use Rattle.steps_walk.proofs.body.text_of.Goals as goal
 
-pub returns-in-Some : goal.returns-in-Some
-returns-in-Some c =
+pub returns-in-Some-clause-some : goal.returns-in-Some-clause-some
+returns-in-Some-clause-some c =
     found_here c.args.program.now c.args.tree.now c.args.name.now c.in-Some.procedure.now (rw c.deref.ensures.value at c.in-Some.ensures.some)
 
 pub loop-at-init : goal.loop-at-init
@@ -13,8 +13,8 @@ loop-at-init c =
     let known = c.requires.position in
     (omega (arith, size, known), none_here c.args.program.now c.args.tree.now c.args.name.now (rw c.deref.ensures.value at c.in_default.ensures.none))
 
-pub returns-in-Some-newest : goal.returns-in-Some-newest
-returns-in-Some-newest c =
+pub returns-in-Some-newest-clause-some : goal.returns-in-Some-newest-clause-some
+returns-in-Some-newest-clause-some c =
     let tree = c.args.tree.now in
     let n = c.loop-at.at in
     let test = c.loop-at-test.true in

@@ -2,8 +2,8 @@ use Rattle.std.proofs.Common.{◌<◌, length, arith}
 use Rattle.steps_walk.proofs.Levels.{body_there}
 use Rattle.steps_walk.proofs.walk.Walk.body_of.Goals as goal
 
-pub returns-then-index-number : goal.returns-then-index-number
-returns-then-index-number g c =
+pub returns-then-index-number-clause-some : goal.returns-then-index-number-clause-some
+returns-then-index-number-clause-some g c =
     let test = c.loop-k-test.true in
     let all = c.len-k-end.ensures in
     let within : c.loop-k.k < length c.args.self.now.met.items = omega (arith, test, all) in

@@ -1,5 +1,0 @@
-use Rattle.steps_walk.proofs.Moving.{stays}
-use Rattle.steps_program.proofs.talk.watch.Goals as goal
-
-pub returns-in-Err-clause-moves : goal.returns-in-Err-clause-moves
-returns-in-Err-clause-moves g c = stays c.args.walk.now
