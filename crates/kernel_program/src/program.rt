@@ -12,7 +12,7 @@ use clap::error::ErrorKind as ClapErrorKind;
 use jupyter_msg::Key;
 use kernel_bell::{Bell, RINGERS};
 use kernel_places::{
-    ALL_PLACES, Comms, Entry, Hall, HistoryName, Kernel, Listeners, NewHistory, Note,
+    ALL_PLACES, Entry, Hall, HistoryName, Kernel, Listeners, NewHistory, Note,
     PARTS_OF_POSTS, PLACES, Seats, Service, Times, serve_all,
 };
 use program_words::{send_unread_words, unread_words_status, words_status};
@@ -71,7 +71,6 @@ fn new_hall<W: Ledger, L: HistoryName>(
         history,
         notes,
         kernel,
-        Comms::new(alloc),
         bell,
     );
     Ok((hall, Seats { runner, ringers }))

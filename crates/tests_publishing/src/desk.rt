@@ -6,7 +6,7 @@ ghost use Rattle.std.specs.Prelude.{◌≡◌, ◌<◌, IfOk};
 use kernel_bell::{Bell, RingerSeat};
 use kernel_board::Broadcast;
 use kernel_desk::{
-    Comms, Desk, Done, Entry, Hall, HallDesk, HistoryName, Job, Kernel, NewHistory, Note, PostFault,
+    Desk, Done, Entry, Hall, HallDesk, HistoryName, Job, Kernel, NewHistory, Note, PostFault,
 };
 use kernel_iopub::Bulletin;
 use std::alloc::{AllocError, Global};
@@ -71,7 +71,6 @@ fn new_hall<W: Ledger, L: HistoryName>(
         history,
         notes,
         kernel,
-        Comms::new(alloc),
         bell,
     );
     Ok((hall, seat))

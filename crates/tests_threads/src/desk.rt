@@ -5,7 +5,7 @@ ghost use Rattle.std.specs.Prelude.{◌≡◌, ◌<◌};
 use crate::lines::note;
 use kernel_bell::{Bell, RingerSeat, RunnerSeat};
 use kernel_hall::{
-    Begun, Comms, Entry, Gate, Hall, HistoryName, Kernel, NewHistory, Note, Outcome,
+    Begun, Entry, Gate, Hall, HistoryName, Kernel, NewHistory, Note, Outcome,
     STEPS_OF_A_SLICE, Sliced, Turn, work,
 };
 use std::alloc::{AllocError, Global};
@@ -53,7 +53,6 @@ impl<W: Ledger, L: HistoryName> Desk<W, L> {
             history,
             notes,
             kernel,
-            Comms::new(alloc),
             bell,
         );
         Ok(Desk { hall, seat, ringer })

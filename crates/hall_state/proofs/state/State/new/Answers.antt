@@ -14,6 +14,7 @@ invariant_of-result g c =
       counted = search rules;
       told = search rules;
       closes = search rules;
+      open_comms = search rules;
       beside = subst (λ (w : List (List WishOf)). ∥ AreBeside 0 minutes w c.new-2.result.items ∥₁) (sym none)
           ∣ beside_new minutes c.new-2.result.items c.requires.fresh c.new-2.ensures.items ∣₁;
       results = subst (λ (w : List (List WishOf)). ∥ AreSettled 0 c.args.kernel.machine w None ∥₁) (sym none)

@@ -37,6 +37,7 @@ invariant_of-self-2 g c =
       counted = omega arith;
       told = c.follow.ensures;
       closes = c.note_wishes-wishes.ensures.shut ∙ old.closes ∙ sym (ap (λ (m : Machine). m.closing) is);
+      open_comms = c.note_wishes-wishes.ensures.comms ∙ old.open_comms;
       beside = ∥∥₁_map old.beside (λ a.
           subst (λ (l : List Entry). AreBeside old.settled l (wished_in c.note_wishes-wishes.new.notes) c.push_reserved.new.self.items)
           (sym (ap (λ (m : Machine). m.minutes) is))

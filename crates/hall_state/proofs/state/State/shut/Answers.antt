@@ -21,6 +21,7 @@ invariant_of-self g c =
       counted = search rules;
       told = search rules;
       closes = search rules;
+      open_comms = search rules;
       beside = subst (λ (w : List (List WishOf)). ∥ AreBeside old.settled next.minutes w old.pending_results.items ∥₁) (sym noted)
           (subst (λ (l : List Entry). ∥ AreBeside old.settled l (wished_in old.notes) old.pending_results.items ∥₁) (sym minutes) old.beside);
       results = subst (λ (w : List (List WishOf)). ∥ AreSettled old.settled next w old.under_way ∥₁) (sym noted)

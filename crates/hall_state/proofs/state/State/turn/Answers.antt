@@ -46,6 +46,7 @@ invariant_of-self g c =
       counted = f.counted ∙ sym c.turn_on-turn.ensures.posts;
       told = c.follow.ensures;
       closes = f.closes ∙ sym c.turn_on-turn.ensures.closing;
+      open_comms = f.open_comms;
       beside = subst (λ (l : List PendingResult). ∥ AreBeside f.settled m.minutes wished l ∥₁)
           (sym (with_items_is f.pending_results next (search (rules, places))))
           (subst (λ (k : ℕ). ∥ AreBeside k m.minutes wished next ∥₁) all (∥∥₁_map b (λ a. beside_opened before wished es next m r ended a s)));

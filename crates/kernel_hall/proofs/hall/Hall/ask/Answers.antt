@@ -1,4 +1,4 @@
-use Rattle.std.proofs.Common.{◌≡◌, ℕ, List, [], Result, Ok, Err, IfOk, rules, sym, subst}
+use Rattle.std.proofs.Common.{◌≡◌, ℕ, List, Result, Ok, Err, IfOk, rules, sym, subst}
 use Rattle.hall_state.specs.Minutes.{Entry}
 use Rattle.hall_state.specs.Runs.{Machine}
 use Rattle.hall_state.specs.LegalMinutes.{IsLegalMachine}
@@ -8,23 +8,24 @@ use Rattle.hall_state.specs.answer.Answer.{Answer}
 use Rattle.hall_state.specs.answer.HallFault.{HallFault}
 use Rattle.kernel_hall.proofs.hall.Hall.ask.Goals as goal
 
--- an answer of the kernel whose minutes were seen
-answered : (r : Result Answer HallFault) (k : Machine) (comms : List (List ℕ)) (front : List Entry) (a : Ask) → IfOk r (IsAnswer k comms a)
-    → IsLegalMachine k → k.minutes ≡ front
-    → IfOk r (λ answer. (x : Machine) × (y : List (List ℕ)) × IsLegalMachine x × (x.minutes ≡ front) × IsAnswer x y a answer)
-answered (Ok answer) k comms front a is legal seen = (k, comms, legal, seen, is)
-answered (Err fault) k comms front a is legal seen = tt
+-- an answer of the kernel whose minutes were seen, and of the comms that were open then
+answered : (r : Result Answer HallFault) (k : Machine) (open comms : List (List ℕ)) (front : List Entry) (a : Ask) → IfOk r (IsAnswer k open a)
+    → comms ≡ open → IsLegalMachine k → k.minutes ≡ front
+    → IfOk r (λ answer. (x : Machine) × IsLegalMachine x × (x.minutes ≡ front) × IsAnswer x comms a answer)
+answered (Ok answer) k open comms front a is same legal seen = (k, legal, seen, subst (λ (c : List (List ℕ)). IsAnswer k c a answer) (sym same) is)
+answered (Err fault) k open comms front a is same legal seen = tt
 
 -- what the text alone tells is the answer of that kernel too
 pub returns-in-IsComplete-clause-answer : goal.returns-in-IsComplete-clause-answer
 returns-in-IsComplete-clause-answer g c =
-    let k = c.deref-in-IsComplete.result.now.kernel.machine in (
+    let k = c.deref-in-IsComplete.result.now.kernel.machine in
+    let comms = c.see.new.self.comms in (
       k,
-      [],
       c.seen-seen.ensures.legal,
       search rules,
-      subst (λ (a : Ask). IsAnswer k [] a c.judge.result) (sym c.in-IsComplete.is) (c.judge.ensures k [] c.seen-seen.ensures.seen),
+      subst (λ (a : Ask). IsAnswer k _ a c.judge.result) (sym c.in-IsComplete.is) (c.judge.ensures k _ c.seen-seen.ensures.seen),
     )
 
 pub returns-in_default-clause-answer : goal.returns-in_default-clause-answer
-returns-in_default-clause-answer g c = answered c.ask.result _ _ c.see.new.pass.front c.args.ask c.ask.ensures.answer c.ask.ensures.legal (search rules)
+returns-in_default-clause-answer g c =
+    answered c.ask.result _ _ _ c.see.new.pass.front c.args.ask c.ask.ensures.answer (search rules) c.ask.ensures.legal (search rules)
