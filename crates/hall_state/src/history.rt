@@ -37,10 +37,7 @@ pub(crate) fn note_wishes<L: HistoryName>(
 }
 
 /// Notes which comms are open behind a change, and gives them back.
-pub(crate) fn note_comms<L: HistoryName>(
-    notes: &mut Keeper<Note, Beside<L>>,
-    comms: Comms,
-) -> Comms
+pub(crate) fn note_comms<L: HistoryName>(notes: &mut Keeper<Note, Beside<L>>, comms: Comms) -> Comms
     ensures same { result ≡ comms }
     ensures noted { notes.new ≡ notes.old ++ Changed comms ∷ [] }
     ensures wishes { wished_in notes.new ≡ wished_in notes.old }

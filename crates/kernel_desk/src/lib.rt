@@ -11,7 +11,8 @@
 //!
 //! It gives again what a place of connections needs beside a desk: the hall with its worker, and the session that is served.
 //!
-//! A question is refused for want of memory alone. A date that is set is that of some instant. [`QuietDesk`] refuses each job, question and change, keeps no broadcast, and leaves the date.
+//! A question is refused for want of memory alone. A date that is set is that of some instant. [`QuietDesk`] refuses each job, question and change, keeps no
+//! broadcast, and leaves the date.
 #![tactic(auto)]
 
 mod hall_desk;
@@ -19,8 +20,8 @@ mod quiet;
 
 pub use hall_desk::HallDesk;
 pub use kernel_hall::{
-    Ask, Comms, Content, Done, Entry, Gate, Hall, HistoryName, Job, Kernel, Moment, NewHistory,
-    Note, PARTS_OF_POSTS, Pass, PostFault, work,
+    Answer, Ask, CommChange, Comms, Content, Done, Entry, Gate, Hall, HallFault, HistoryName, Job,
+    Kernel, Moment, NewHistory, Note, PARTS_OF_POSTS, Pass, PostFault, work,
 };
 pub use kernel_session::{Desk, Socket, serve};
 pub use quiet::QuietDesk;

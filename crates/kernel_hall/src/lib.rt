@@ -25,7 +25,7 @@ pub use hall::Hall;
 pub use hall_state::{
     Answer, Ask, AuditFault, Begun, Beside, CellText, CommChange, Comms, Content, Done, Entry,
     Front, HallFault, HistoryName, Job, Kernel, Minutes, NewHistory, Note, Outcome, PARTS_OF_POSTS,
-    PASSES, Pass, Passes, PendingResult, PostFault, Refusal, STEPS_OF_A_SLICE, Sliced, State, Ticket, Turn, Wish,
-    ask_on, audit, comm_on, turn_on,
+    PASSES, Pass, Passes, PendingResult, PostFault, Refusal, STEPS_OF_A_SLICE, Sliced, State,
+    Ticket, Turn, Wish, ask_on, audit, comm_on, turn_on,
 };
 pub use worker::{Gate, Moment, work};

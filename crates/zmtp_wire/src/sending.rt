@@ -157,11 +157,7 @@ fn send_parts<W: Write>(
 }
 
 /// Writes a message that is joined whole, which no limit stops.
-fn send_whole<W: Write>(
-    alloc: Global,
-    writer: &mut W,
-    bodies: &[Vec<u8>],
-) -> Result<(), SendFault>
+fn send_whole<W: Write>(alloc: Global, writer: &mut W, bodies: &[Vec<u8>]) -> Result<(), SendFault>
     requires { IsWithinLimits (bodies_of bodies.now) }
     ensures ok { OnOk result (Appends (W.contents writer.old) (W.contents writer.new) (message_octets (bodies_of bodies.now))) }
     ensures err { OnErr result (SentSome (W.contents writer.old) (W.contents writer.new) (message_octets (bodies_of bodies.now))) }
@@ -175,11 +171,7 @@ fn send_whole<W: Write>(
 }
 
 /// Writes a long message, whose frames are joined as far as they are short.
-fn send_long<W: Write>(
-    alloc: Global,
-    writer: &mut W,
-    bodies: &[Vec<u8>],
-) -> Result<(), SendFault>
+fn send_long<W: Write>(alloc: Global, writer: &mut W, bodies: &[Vec<u8>]) -> Result<(), SendFault>
     ensures ok { OnOk result (Appends (W.contents writer.old) (W.contents writer.new) (message_octets (bodies_of bodies.now))) }
     ensures err { OnErr result (SentSome (W.contents writer.old) (W.contents writer.new) (message_octets (bodies_of bodies.now))) }
     ensures within { IfErr result (λ fault. fault ≢ SendFault.TooLong) }
