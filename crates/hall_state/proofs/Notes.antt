@@ -18,8 +18,8 @@ shut_as_before (Shut ∷ xs) note none = refl
 shut_as_before (Changed comms ∷ xs) note none = shut_as_before xs note none
 
 -- the comms behind one more note are those that it leaves open
-pub comms_behind : (open : List (List ℕ)) (xs : List Note) (note : Note) → comms_after open (xs ++ note ∷ []) ≡ comms_after (comms_after open xs) (note ∷ [])
-comms_behind open [] note = refl
-comms_behind open (Posted wishes ∷ xs) note = comms_behind open xs note
-comms_behind open (Shut ∷ xs) note = comms_behind open xs note
-comms_behind open (Changed comms ∷ xs) note = comms_behind comms xs note
+pub comms_behind : (ids : List (List ℕ)) (xs : List Note) (note : Note) → comms_after ids (xs ++ note ∷ []) ≡ comms_after (comms_after ids xs) (note ∷ [])
+comms_behind ids [] note = refl
+comms_behind ids (Posted wishes ∷ xs) note = comms_behind ids xs note
+comms_behind ids (Shut ∷ xs) note = comms_behind ids xs note
+comms_behind ids (Changed comms ∷ xs) note = comms_behind comms xs note

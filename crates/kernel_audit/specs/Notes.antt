@@ -24,10 +24,10 @@ has_shutdown (Changed comms ∷ notes) = has_shutdown notes
 
 -- the comms that are open behind these notes, where those were open before them
 abbrev pub comms_after : List (List ℕ) → List Note → List (List ℕ)
-comms_after open [] = open
-comms_after open (Posted wishes ∷ notes) = comms_after open notes
-comms_after open (Shut ∷ notes) = comms_after open notes
-comms_after open (Changed comms ∷ notes) = comms_after comms notes
+comms_after before [] = before
+comms_after before (Posted wishes ∷ notes) = comms_after before notes
+comms_after before (Shut ∷ notes) = comms_after before notes
+comms_after before (Changed comms ∷ notes) = comms_after comms notes
 
 -- the open comms, of which there are none before the first note
 abbrev pub comms_in : List Note → List (List ℕ)

@@ -59,6 +59,7 @@ impl<'a, L: Ledger> SymbolTable for DeclaredNames<'a, L> {
     }
 
     fn head(&self, _name: &str) -> Option<&[Kind]> {
+        let _store = self.store;
         None
     }
 
@@ -72,10 +73,13 @@ impl<'a, L: Ledger> SymbolTable for DeclaredNames<'a, L> {
     }
 
     fn procedures(&self) -> usize {
+        let _store = self.store;
         0
     }
 
-    fn procedures_law(&self) {}
+    fn procedures_law(&self) {
+        let _store = self.store;
+    }
 }
 
 /// The kind of a value.

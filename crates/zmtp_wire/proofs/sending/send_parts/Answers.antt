@@ -16,7 +16,7 @@ loop-body-preserved g c = (
       c.loop-body.body-index c.loop-body.joined.items c.loop-body.invariant.0
       c.body-item.result c.deref.result.now c.loop-body-test.true c.body-item.is c.deref.ensures.value c.send_part.new.joined.items c.in_ok-send_part.ensures.ok,
   c.in_ok-send_part.ensures.few,
-  omega (arith, c.loop-body.invariant.1.1, c.in_ok-send_part.ensures.capacity),
+  omega (arith, c.loop-body.invariant.2, c.in_ok-send_part.ensures.capacity),
 )
 
 pub returns-clause-ok : goal.returns-clause-ok

@@ -9,11 +9,11 @@ use Rattle.hall_state.specs.answer.HallFault.{HallFault}
 use Rattle.kernel_hall.proofs.hall.Hall.ask.Goals as goal
 
 -- an answer of the kernel whose minutes were seen, and of the comms that were open then
-answered : (r : Result Answer HallFault) (k : Machine) (open comms : List (List ℕ)) (front : List Entry) (a : Ask) → IfOk r (IsAnswer k open a)
-    → comms ≡ open → IsLegalMachine k → k.minutes ≡ front
+answered : (r : Result Answer HallFault) (k : Machine) (ids comms : List (List ℕ)) (front : List Entry) (a : Ask) → IfOk r (IsAnswer k ids a)
+    → comms ≡ ids → IsLegalMachine k → k.minutes ≡ front
     → IfOk r (λ answer. (x : Machine) × IsLegalMachine x × (x.minutes ≡ front) × IsAnswer x comms a answer)
-answered (Ok answer) k open comms front a is same legal seen = (k, legal, seen, subst (λ (c : List (List ℕ)). IsAnswer k c a answer) (sym same) is)
-answered (Err fault) k open comms front a is same legal seen = tt
+answered (Ok answer) k ids comms front a is same legal seen = (k, legal, seen, subst (λ (c : List (List ℕ)). IsAnswer k c a answer) (sym same) is)
+answered (Err fault) k ids comms front a is same legal seen = tt
 
 -- what the text alone tells is the answer of that kernel too
 pub returns-in-IsComplete-clause-answer : goal.returns-in-IsComplete-clause-answer

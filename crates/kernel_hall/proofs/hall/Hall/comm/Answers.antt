@@ -10,9 +10,9 @@ use Rattle.hall_state.proofs.Fronts.{seen_on}
 use Rattle.kernel_hall.proofs.hall.Hall.comm.Goals as goal
 
 -- the change is noted behind what was seen before it
-noted : (old before under new : List Note) (comms open : List (List ℕ)) (change : CommChange) (told : Result Bool HallFault) → IsPrefix old before
-    → before ≡ under → comms_in under ≡ open → new ≡ under ++ Changed comms ∷ [] → IsChange open change told comms → IsNotedChange old change told new
-noted old before under new comms open change told onward same is written changed = record {
+noted : (old before under new : List Note) (comms ids : List (List ℕ)) (change : CommChange) (told : Result Bool HallFault) → IsPrefix old before
+    → before ≡ under → comms_in under ≡ ids → new ≡ under ++ Changed comms ∷ [] → IsChange ids change told comms → IsNotedChange old change told new
+noted old before under new comms ids change told onward same is written changed = record {
   before = before;
   onward = onward;
   comms = comms;
