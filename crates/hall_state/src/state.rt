@@ -1,11 +1,11 @@
 //! What lies under the hall's lock.
-ghost use Rattle.std.specs.Prelude.{◌≡◌, ◌+◌, ◌-◌, ◌^◌, ◌<◌, ◌≤◌, ◌↔◌, IsTrue, [], ◌∷◌, ◌++◌, IfOk, IfErr, OnErr, IfSome, IfNone, All, suc, length, map};
+ghost use Rattle.std.specs.Prelude.{◌≡◌, ◌+◌, ◌-◌, ◌^◌, ◌<◌, ◌≤◌, ◌↔◌, IsTrue, [], ◌∷◌, ◌++◌, IfOk, IfErr, OnOk, OnErr, IfSome, IfNone, All, suc, length, map};
 ghost use Rattle.std.specs.Prelude.{None, is_some, true, false, get_or, option_map, string_bytes, vec_len, vec_capacity};
 ghost use mathlib.Core.List.{IsPrefix};
 ghost use Rattle.kernel_audit.specs.Request.{request_of};
 ghost use Rattle.kernel_audit.specs.Minutes.{posted_in};
 ghost use Rattle.kernel_audit.specs.LegalMinutes.{IsLegalMachine};
-ghost use Rattle.kernel_audit.specs.Runs.{IsReady, IsRefusal, posted, shut, phase_of};
+ghost use Rattle.kernel_audit.specs.Runs.{IsRefusal, posted, shut, phase_of};
 ghost use Rattle.kernel_audit.specs.outcome.Phase.TheVariants.{Idle};
 ghost use Rattle.kernel_audit.specs.Answer.{IsAnswer};
 ghost use Rattle.kernel_audit.specs.CommChanges.{IsChange};
@@ -127,9 +127,6 @@ impl<W: Ledger, L: HistoryName> State<W, L> {
     {
         show_legal(&self.kernel);
         self.see(pass);
-        if let Some(fault) = self.kernel.post_fault() {
-            return Err(fault);
-        }
         match self.queue(pass, job, wishes, room) {
             Ok(number) => {
                 self.see(pass);
@@ -149,7 +146,7 @@ impl<W: Ledger, L: HistoryName> State<W, L> {
         ensures legal { IsLegalMachine self.old.kernel.machine }
     {
         self.see(pass);
-        self.kernel.post_fault().unwrap_or(PostFault::Memory)
+        refusal_of(&self.kernel)
     }
 
     /// Shows the minutes to a pass, and the notes beside them. What it had seen is a beginning of them, and all its posts are among them.
@@ -176,7 +173,7 @@ impl<W: Ledger, L: HistoryName> State<W, L> {
         pass.see(book, history, notes);
     }
 
-    /// Queues a job, which only want of memory refuses.
+    /// Queues a job. Whether it is refused is tested once: by the kernel, or where there is no memory beside it.
     fn queue(
         &mut self,
         pass: &mut Pass<L>,
@@ -184,10 +181,9 @@ impl<W: Ledger, L: HistoryName> State<W, L> {
         wishes: Vec<Wish>,
         room: Vec<NamedValue>,
     ) -> Result<u64, PostFault>
-        requires ready { IsReady self.old.kernel.machine }
         requires empty { room.items ≡ [] }
         requires room { vec_len wishes ≤ vec_capacity room }
-        ensures serves { self.old.kernel.machine.closing ≡ false }
+        ensures serves { OnOk result (self.old.kernel.machine.closing ≡ false) }
         ensures number { IfOk result (λ n. n ≡ suc (posted_in self.old.kernel.machine.minutes)) }
         ensures posted { IfOk result (λ n. self.new.kernel.machine ≡ posted self.old.kernel.machine pass.old.lane (request_of job)) }
         ensures counted { IfOk result (λ n. pass.new ≡ pass_of pass.old.lane (pass.old.posts + 1) pass.old.front pass.old.notes) }
@@ -211,7 +207,7 @@ impl<W: Ledger, L: HistoryName> State<W, L> {
         } = self;
         show_legal(kernel);
         if pending_results.reserve(1).is_err() {
-            return Err(PostFault::Memory);
+            return Err(refusal_of(kernel));
         }
         let place = kernel.minutes().len();
         let number = kernel.post(pass.lane(), job)?;
@@ -488,6 +484,13 @@ impl<W: Ledger, L: HistoryName> State<W, L> {
         let State { kernel, .. } = self;
         kernel.discard();
     }
+}
+
+/// Why a post is refused for which there is no memory.
+fn refusal_of<W: Ledger>(kernel: &Kernel<W>) -> PostFault
+    ensures { IsRefusal kernel.now.machine result }
+{
+    kernel.post_fault().unwrap_or(PostFault::Memory)
 }
 
 /// Does nothing: its contract says that a kernel's state and minutes are legal.
