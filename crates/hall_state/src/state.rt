@@ -39,9 +39,9 @@ use std::alloc::Global;
 use std::mem;
 use std::sync::ledger::{Book, Ledger, Share};
 
-/// The lock's value. Its type keeps that the book is the number of posts in the minutes, that the minutes are the history, that a shutdown is noted
-/// where the kernel closes, that the open comms are those that are noted, and that one pending result stands beside each post, of the wishes that are noted of it: those of the jobs that have ended
-/// are settled, but for the last one's while what is made for it is under way, and the others wait.
+/// The lock's value. Its type keeps that the book is the number of posts in the minutes, that the minutes are the history, that a shutdown is noted where the
+/// kernel closes, that the open comms are those that are noted, and that one pending result stands beside each post, of the wishes that are noted of it: those
+/// of the jobs that have ended are settled, but for the last one's while what is made for it is under way, and the others wait.
 #[derive(Drop)]
 pub struct State<W: Ledger, L: HistoryName> {
     kernel: Kernel<W>,
@@ -65,7 +65,8 @@ pub struct State<W: Ledger, L: HistoryName> {
 }
 
 impl<W: Ledger, L: HistoryName> State<W, L> {
-    /// Around an open kernel with no minutes, where no comm is open, with the book of its posts and all shares in it, the history that its minutes become, and that of the notes.
+    /// Around an open kernel with no minutes, where no comm is open, with the book of its posts and all shares in it, the history that its minutes become, and
+    /// that of the notes.
     pub fn new(
         alloc: Global,
         kernel: Kernel<W>,

@@ -54,8 +54,8 @@ impl<W: Ledger, L: HistoryName> Model for Hall<W, L> {
 }
 
 impl<W: Ledger, L: HistoryName> Hall<W, L> {
-    /// A hall round an open kernel with no minutes, where no comm is open. It takes no memory. The posts are counted in the ledger that is opened by this blank, its minutes
-    /// become this history, and what is noted beside them the other one.
+    /// A hall round an open kernel with no minutes, where no comm is open. It takes no memory. The posts are counted in the ledger that is opened by this
+    /// blank, its minutes become this history, and what is noted beside them the other one.
     pub fn new(
         alloc: Global,
         blank: Blank,
@@ -293,7 +293,8 @@ impl<W: Ledger, L: HistoryName> Hall<W, L> {
     }
 
     /// Answers a question: `ask_on` under the lock, of the kernel whose minutes the pass has seen now, and of the comms that were open then: what it had seen
-    /// is a beginning of them, and all its posts are among them. Whether code can be executed as it stands is told with the lock free. The only refusal is `Memory`.
+    /// is a beginning of them, and all its posts are among them. Whether code can be executed as it stands is told with the lock free. The only refusal is
+    /// `Memory`.
     pub fn ask<R: Wait>(
         &self,
         rt: &R,

@@ -8,8 +8,8 @@
 //! - `DeclaredNames` are the names that a store declares, lent to the check of an expression.
 //!
 //! The code, in reading order: `sight` (the names that a store declares), `tables` (what a cell is checked over: these and the runner's own tables, of which
-//! nothing is copied), `checking` (a text's cell, and its check), `listing` (the names of its procedures), `keeping` (their bodies), `loader` (all of these for one
-//! text).
+//! nothing is copied), `checking` (a text's cell, and its check), `listing` (the names of its procedures), `keeping` (their bodies), `loader` (all of these for
+//! one text).
 //!
 //! The definitions are in specs/: `Kinds`, `Defined`, `InEffect`, `Tables`, `Known` (what a cell is checked over), `Keeping` (the bodies that are kept) and
 //! `Loading` (what stays while a cell is loaded, what is ready, and which names of procedures are new).

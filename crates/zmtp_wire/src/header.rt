@@ -1,5 +1,6 @@
 //! What stands before a frame's body: the flags and the size (RFC 23, "Formal Grammar": command and message).
-ghost use Rattle.std.specs.Prelude.{◌≡◌, ◌&&◌, ◌+◌, ◌++◌, ◌<◌, ◌≤◌, false, length, nat_lt, take, vec_len, vec_capacity, IfErr, IfNone, IfOk, IfSome, OnOk, OnErr};
+ghost use Rattle.std.specs.Prelude.{◌≡◌, ◌&&◌, ◌+◌, ◌++◌, ◌<◌, ◌≤◌, false, length, nat_lt, take, vec_len, vec_capacity};
+ghost use Rattle.std.specs.Prelude.{IfErr, IfNone, IfOk, IfSome, OnOk, OnErr};
 ghost use Rattle.zmtp_wire.specs.declared.message.TheConstants.{HEADER_LENGTH};
 ghost use Rattle.zmtp_wire.specs.Header.{flags, size_octets, size_bound, header_octets};
 ghost use Rattle.zmtp_wire.specs.Fronts.{HasHeader, IsHeaderBegun, HasBadFlags, IsBadFlags};

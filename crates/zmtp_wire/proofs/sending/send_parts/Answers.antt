@@ -14,7 +14,8 @@ pub loop-body-preserved : goal.loop-body-preserved
 loop-body-preserved g c = (
   under_way_next _ _ _ c.args.bodies.now c.in-Some.others.now c.in-Some.last.now c.in-Some.ensures.cases.0
       c.loop-body.body-index c.loop-body.joined.items c.loop-body.invariant.0
-      c.body-item.result c.deref.result.now c.loop-body-test.true c.body-item.is c.deref.ensures.value c.send_part.new.joined.items c.in_ok-send_part.ensures.ok,
+      c.body-item.result c.deref.result.now c.loop-body-test.true c.body-item.is c.deref.ensures.value c.send_part.new.joined.items
+      c.in_ok-send_part.ensures.ok,
   c.in_ok-send_part.ensures.few,
   omega (arith, c.loop-body.invariant.2, c.in_ok-send_part.ensures.capacity),
 )
