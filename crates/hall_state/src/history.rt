@@ -32,7 +32,8 @@ pub(crate) fn note_wishes<L: HistoryName>(
     notes.extend(&note);
     match note {
         Note::Posted(wishes) => wishes,
-        Note::Shut | Note::Changed(_) => unreachable!(),
+        Note::Shut => unreachable!(),
+        Note::Changed(_comms) => unreachable!(),
     }
 }
 
@@ -48,7 +49,8 @@ pub(crate) fn note_comms<L: HistoryName>(notes: &mut Keeper<Note, Beside<L>>, co
     notes.extend(&note);
     match note {
         Note::Changed(comms) => comms,
-        Note::Posted(_) | Note::Shut => unreachable!(),
+        Note::Posted(_wishes) => unreachable!(),
+        Note::Shut => unreachable!(),
     }
 }
 

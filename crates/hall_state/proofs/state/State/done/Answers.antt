@@ -3,7 +3,7 @@ use Rattle.std.proofs.lemmas.List.{with_items_is, places}
 use Rattle.kernel_audit.specs.Notes.{wished_in}
 use Rattle.hall_state.specs.PendingResults.{AreBeside, WasTold}
 use Rattle.hall_state.specs.declared.pending_result.PendingResult.{PendingResult}
-use Rattle.hall_state.proofs.Beside.{beside_on, first_made, first_told, nowhere, nowhere_settled}
+use Rattle.hall_state.proofs.BesidePosts.{beside_on, first_made, first_told, nowhere, nowhere_settled}
 use Rattle.hall_state.proofs.state.State.done.Goals as goal
 
 pub invariant_of-self : goal.invariant_of-self

@@ -5,7 +5,7 @@ use Rattle.hall_state.specs.OpenResults.{IsOpen}
 use Rattle.hall_state.specs.PendingResults.{AreBeside, AreKept, AreUntold}
 use Rattle.hall_state.specs.declared.open_result.OpenResult.{OpenResult}
 use Rattle.hall_state.specs.declared.pending_result.PendingResult.{PendingResult}
-use Rattle.hall_state.proofs.Beside.{open_is, goes_on, stands_there, beside_then, results_then, kept_then_too, untold_then}
+use Rattle.hall_state.proofs.BesidePosts.{open_is, goes_on, stands_there, beside_then, results_then, kept_then_too, untold_then}
 use Rattle.hall_state.proofs.state.State.finish.Goals as goal
 
 pub settle_last-spent-requires-clause-there : goal.settle_last-spent-requires-clause-there

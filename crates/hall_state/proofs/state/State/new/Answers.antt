@@ -3,7 +3,7 @@ use Rattle.kernel_audit.specs.Notes.{wished_in}
 use Rattle.kernel_audit.specs.Wishes.{WishOf}
 use Rattle.hall_state.specs.OpenResults.{AreSettled}
 use Rattle.hall_state.specs.PendingResults.{AreBeside}
-use Rattle.hall_state.proofs.Beside.{beside_new, settled_new}
+use Rattle.hall_state.proofs.BesidePosts.{beside_new, settled_new}
 use Rattle.hall_state.proofs.state.State.new.Goals as goal
 
 pub invariant_of-result : goal.invariant_of-result

@@ -12,7 +12,7 @@ use Rattle.hall_state.specs.OpenResults.{AreSettled}
 use Rattle.hall_state.specs.PendingResults.{IsNewPending, IsWaiting, AreBeside}
 use Rattle.hall_state.specs.declared.pending_result.PendingResult.{PendingResult}
 use Rattle.hall_state.proofs.Posts.{one_more}
-use Rattle.hall_state.proofs.Beside.{beside_posted, results_posted, many_wishes}
+use Rattle.hall_state.proofs.BesidePosts.{beside_posted, results_posted, many_wishes}
 use Rattle.hall_state.proofs.state.State.queue.Goals as goal
 
 pub invariant_of-self-2 : goal.invariant_of-self-2

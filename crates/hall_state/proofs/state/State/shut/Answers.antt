@@ -6,7 +6,7 @@ use Rattle.kernel_audit.specs.Runs.{Machine}
 use Rattle.kernel_audit.specs.Wishes.{WishOf}
 use Rattle.hall_state.specs.OpenResults.{AreSettled}
 use Rattle.hall_state.specs.PendingResults.{AreBeside}
-use Rattle.hall_state.proofs.Beside.{results_shut}
+use Rattle.hall_state.proofs.BesidePosts.{results_shut}
 use Rattle.hall_state.proofs.state.State.shut.Goals as goal
 
 pub invariant_of-self : goal.invariant_of-self

@@ -7,7 +7,7 @@ use Rattle.hall_state.specs.OpenResults.{AreSettled}
 use Rattle.hall_state.specs.PendingResults.{AreBeside, AreKept}
 use Rattle.hall_state.specs.declared.pending_result.PendingResult.{PendingResult}
 use Rattle.hall_state.proofs.Turns.{just_ended}
-use Rattle.hall_state.proofs.Beside.{one_is_open, all_settled, last_index, beside_opened, results_opened, order_from, kept_then, opens_kept, untold_through}
+use Rattle.hall_state.proofs.BesidePosts.{one_is_open, all_settled, last_index, beside_opened, results_opened, order_from, kept_then, opens_kept, untold_through}
 use Rattle.hall_state.proofs.state.State.turn.Goals as goal
 
 pub open_last-opened-requires : goal.open_last-opened-requires
