@@ -2,6 +2,7 @@ use Rattle.std.proofs.Common.{◌≡◌, ℕ, List, Result, Ok, Err, IfOk, rules
 use Rattle.hall_state.specs.Minutes.{Entry}
 use Rattle.hall_state.specs.Runs.{Machine}
 use Rattle.hall_state.specs.LegalMinutes.{IsLegalMachine}
+use Rattle.hall_state.specs.Notes.{comms_in}
 use Rattle.hall_state.specs.Answer.{IsAnswer}
 use Rattle.hall_state.specs.answer.Ask.{Ask}
 use Rattle.hall_state.specs.answer.Answer.{Answer}
@@ -19,11 +20,11 @@ answered (Err fault) k ids comms front a is same legal seen = tt
 pub returns-in-IsComplete-clause-answer : goal.returns-in-IsComplete-clause-answer
 returns-in-IsComplete-clause-answer g c =
     let k = c.deref-in-IsComplete.result.now.kernel.machine in
-    let comms = c.see.new.self.comms in (
+    let comms = comms_in c.see.new.pass.notes in (
       k,
       c.seen-seen.ensures.legal,
       search rules,
-      subst (λ (a : Ask). IsAnswer k _ a c.judge.result) (sym c.in-IsComplete.is) (c.judge.ensures k _ c.seen-seen.ensures.seen),
+      subst (λ (a : Ask). IsAnswer k comms a c.judge.result) (sym c.in-IsComplete.is) (c.judge.ensures k comms c.seen-seen.ensures.seen),
     )
 
 pub returns-in_default-clause-answer : goal.returns-in_default-clause-answer
