@@ -200,14 +200,16 @@ fn tell_change(change: Result<bool, HallFault>, sheet: &mut Sheet) {
 /// Writes the open comms. The only refusal is want of memory.
 fn tell_comms(answer: Result<Answer, HallFault>, sheet: &mut Sheet) {
     match answer {
-        Ok(
-            Answer {
-                content: Content::Comms(ids),
-                ..
-            },
-        ) => sheet.show(&ids),
-        Ok(_) => sheet.write("another answer"),
+        Ok(Answer { content, .. }) => tell_ids(&content, sheet),
         Err(_) => sheet.refuse(),
+    }
+}
+
+/// Writes the ids of the open comms.
+fn tell_ids(content: &Content, sheet: &mut Sheet) {
+    match content {
+        Content::Comms(ids) => sheet.show(ids),
+        _ => sheet.write("another answer"),
     }
 }
 
