@@ -158,7 +158,7 @@ impl<W: Ledger, L: HistoryName> State<W, L> {
         ensures same_notes { self.new.notes ≡ self.old.notes }
         ensures closing { has_shutdown pass.new.notes ≡ self.old.kernel.machine.closing }
         ensures own { pass.new.posts ≤ posted_in self.old.kernel.machine.minutes }
-        ensures open { comms_in pass.new.notes ≡ self.new.comms }
+        ensures open_comms { comms_in pass.new.notes ≡ self.new.comms }
         ensures legal { IsLegalMachine self.old.kernel.machine }
         ensures kernel { self.new.kernel ≡ self.old.kernel }
         ensures comms { self.new.comms ≡ self.old.comms }

@@ -63,3 +63,6 @@ returns-clause-pending_result g c =
           (subst (λ (w : List WishOf). IsNewPending (length c.minutes-place.result.now) w e) given c.new.ensures),
       c.push_reserved.ensures.items ∙ ap (λ es. es ++ e ∷ []) c.reserve.ensures.items,
     )
+
+pub returns-clause-serves : goal.returns-clause-serves
+returns-clause-serves g c = c.in_ok-number.ensures.post.0.serves
