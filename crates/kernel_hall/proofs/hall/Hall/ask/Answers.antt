@@ -11,10 +11,10 @@ use Rattle.kernel_hall.proofs.hall.Hall.ask.Goals as goal
 
 -- an answer of the kernel whose minutes were seen, and of the comms that were open then
 answered : (r : Result Answer HallFault) (k : Machine) (ids comms : List (List ℕ)) (front : List Entry) (a : Ask) → IfOk r (IsAnswer k ids a)
-    → comms ≡ ids → IsLegalMachine k → k.minutes ≡ front
+    → IsLegalMachine k → comms ≡ ids → k.minutes ≡ front
     → IfOk r (λ answer. (x : Machine) × IsLegalMachine x × (x.minutes ≡ front) × IsAnswer x comms a answer)
-answered (Ok answer) k ids comms front a is same legal seen = (k, legal, seen, subst (λ (c : List (List ℕ)). IsAnswer k c a answer) (sym same) is)
-answered (Err fault) k ids comms front a is same legal seen = tt
+answered (Ok answer) k ids comms front a is legal same seen = (k, legal, seen, subst (λ (c : List (List ℕ)). IsAnswer k c a answer) (sym same) is)
+answered (Err fault) k ids comms front a is legal same seen = tt
 
 -- what the text alone tells is the answer of that kernel too
 pub returns-in-IsComplete-clause-answer : goal.returns-in-IsComplete-clause-answer
@@ -29,4 +29,5 @@ returns-in-IsComplete-clause-answer g c =
 
 pub returns-in_default-clause-answer : goal.returns-in_default-clause-answer
 returns-in_default-clause-answer g c =
-    answered c.ask.result _ _ _ c.see.new.pass.front c.args.ask c.ask.ensures.answer (search rules) c.ask.ensures.legal (search rules)
+    answered c.ask.result _ _ (comms_in c.see.new.pass.notes) c.see.new.pass.front c.args.ask c.ask.ensures.answer c.ask.ensures.legal (search rules)
+    (search rules)

@@ -11,8 +11,8 @@ use Rattle.kernel_hall.proofs.hall.Hall.comm.Goals as goal
 
 -- the change is noted behind what was seen before it
 noted : (old before under new : List Note) (comms ids : List (List ℕ)) (change : CommChange) (told : Result Bool HallFault) → IsPrefix old before
-    → before ≡ under → comms_in under ≡ ids → new ≡ under ++ Changed comms ∷ [] → IsChange ids change told comms → IsNotedChange old change told new
-noted old before under new comms ids change told onward same is written changed = record {
+    → comms_in under ≡ ids → IsChange ids change told comms → before ≡ under → new ≡ under ++ Changed comms ∷ [] → IsNotedChange old change told new
+noted old before under new comms ids change told onward is changed same written = record {
   before = before;
   onward = onward;
   comms = comms;
@@ -22,8 +22,8 @@ noted old before under new comms ids change told onward same is written changed 
 
 pub returns-clause-change : goal.returns-clause-change
 returns-clause-change g c =
-    noted c.args.pass.now.notes c.see.new.pass.notes _ c.see-2.new.pass.notes _ _ c.args.change c.comm-told.result c.see.ensures.seen.noted (search rules)
-    c.comm-told.ensures.before (search rules) c.comm-told.ensures.change
+    noted c.args.pass.now.notes c.see.new.pass.notes _ c.see-2.new.pass.notes _ _ c.args.change c.comm-told.result c.see.ensures.seen.noted
+    c.comm-told.ensures.before c.comm-told.ensures.change (search rules) (search rules)
 
 pub returns-clause-seen : goal.returns-clause-seen
 returns-clause-seen g c = seen_on c.args.pass.now c.see.new.pass c.see-2.new.pass c.see.ensures.seen c.see-2.ensures.seen
