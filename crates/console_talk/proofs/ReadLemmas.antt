@@ -3,9 +3,11 @@ use Rattle.std.proofs.Common.{◌≡◌, ◌<◌, ◌^◌, ℕ, List, Bool, true
 use Rattle.std.proofs.lemmas.Bool.{lt-ltb}
 use Rattle.std.specs.Prelude.{nat_lt, Option, Some, None, if◌then◌else◌}
 use Rattle.jupyter_msg.specs.Fields.{value_at}
+use Rattle.jupyter_msg.specs.RequestType.{type_named}
 use Rattle.jupyter_msg.specs.Requests.{in_32_bits, asks_number}
+use Rattle.jupyter_msg.specs.declared.request_type.RequestType.TheVariants as type
 use Rattle.jupyter_msg.specs.declared.comm.CommAsk.TheVariants as ask
-use Rattle.console_talk.specs.Laws.{RunsAreRead, CompletionsAreRead, OpensAreRead, MovesAreRead}
+use Rattle.console_talk.specs.Laws.{RunsAreRead, CompletionsAreRead, OpensAreRead, MovesAreRead, NothingIsRefused}
 
 pub runs_are_read : RunsAreRead
 unfolding value_at
@@ -30,4 +32,16 @@ moves_are_read id n h = record {
   redo = record { comm_id = refl; ask = ap (λ o. Some (asks_number ask.Redo o)) (fits n h) };
   goto = record { comm_id = refl; ask = ap (λ o. Some (asks_number ask.Goto o)) (fits n h) };
   state = record { comm_id = refl; ask = refl };
+}
+
+pub nothing_is_refused : NothingIsRefused
+unfolding value_at type_named
+nothing_is_refused = record {
+  info = record { type = type.KernelInfo; named = refl; content = refl; header = λ session n. refl };
+  runs = λ code. record { type = type.Execute; named = refl; content = refl; header = λ session n. refl };
+  completions = λ code. record { type = type.Complete; named = refl; content = refl; header = λ session n. refl };
+  opens = λ id. record { type = type.CommOpen; named = refl; content = refl; header = λ session n. refl };
+  closes = λ id. record { type = type.CommClose; named = refl; content = refl; header = λ session n. refl };
+  moves = λ id op n. record { type = type.CommMessage; named = refl; content = refl; header = λ session n. refl };
+  states = λ id. record { type = type.CommMessage; named = refl; content = refl; header = λ session n. refl };
 }

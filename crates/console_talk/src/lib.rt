@@ -7,9 +7,9 @@
 //! what goes wrong beside the kernel.
 //!
 //! To the layer above it promises that all of these are the functions of specs/ (`Requests`, `Headers`, `Lines`, `Faults`), exactly, want of memory
-//! aside; and, in `laws`, that the kernel's own reading of each request gives what was asked.
+//! aside; and, in `laws`, that the kernel's own reading of each request gives what was asked, and refuses none of its fields.
 //!
-//! That the octets of a request are read as its JSON, and that no field is refused, is no law's: it is tested.
+//! That the octets of a request are read as its JSON is no law's: it is tested.
 #![tactic(auto)]
 
 mod broadcast;

@@ -3,7 +3,7 @@ pub mod Places
 pub mod Notes
 pub mod Turns
 pub mod JustEnded
-pub mod Beside
+pub mod BesidePosts
 pub mod PendingResults
 pub mod Crosses
 -- Of kernel_audit, given again.

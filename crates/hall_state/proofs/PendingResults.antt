@@ -25,7 +25,7 @@ use Rattle.hall_state.specs.declared.open_result.OpenResult.{OpenResult}
 use Rattle.hall_state.specs.PendingResults.{IsTold, IsTakenOut, IsBehind, IsToldOrEndless, HasNoEnd, OpensLast, SettlesLast}
 use Rattle.hall_state.specs.LastEnds.{IsLastEnd, EndsNoNumber, StandsAt, IsEndAt, last_of}
 use Rattle.hall_state.proofs.Places.{last_added, below_or}
-use Rattle.hall_state.proofs.Beside.{last_index, last_outcome}
+use Rattle.hall_state.proofs.BesidePosts.{last_index, last_outcome}
 
 -- ---- what is told
 

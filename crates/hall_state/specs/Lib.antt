@@ -9,11 +9,14 @@ pub use Rattle.kernel_audit.specs.HistoryNames
 pub use Rattle.kernel_audit.specs.Ends
 pub use Rattle.kernel_audit.specs.Passes
 pub use Rattle.kernel_audit.specs.Notes
+pub use Rattle.kernel_audit.specs.declared.note
+pub use Rattle.kernel_audit.specs.CommChanges
 pub use Rattle.kernel_audit.specs.Audit
 -- Of kernel_ask, given again.
 pub use Rattle.kernel_audit.specs.Answer
 pub use Rattle.kernel_audit.specs.answer
 pub use Rattle.kernel_audit.specs.done
+pub use Rattle.kernel_audit.specs.comm_change
 pub use Rattle.kernel_audit.specs.Wishes
 pub use Rattle.kernel_audit.specs.Shown
 pub use Rattle.kernel_audit.specs.Evaluation

@@ -2,10 +2,11 @@
 ghost use Rattle.std.specs.Prelude.{◌≡◌, ◌++◌, ◌∷◌, [], All, map, true};
 ghost use mathlib.Core.List.{IsPrefix};
 ghost use Rattle.kernel_audit.specs.Minutes as minutes;
-ghost use Rattle.kernel_audit.specs.Notes.{wished_in, has_shutdown};
+ghost use Rattle.kernel_audit.specs.Notes.{wished_in, has_shutdown, comms_in};
+ghost use Rattle.kernel_audit.specs.declared.note.Note.TheVariants.{Changed};
 ghost use Rattle.kernel_audit.specs.Written.{entry_of};
 
-use kernel_audit::{Beside, Entry, HistoryName, Keeper, Kernel, Note, Pass, Wish};
+use kernel_audit::{Beside, Comms, Entry, HistoryName, Keeper, Kernel, Note, Pass, Wish};
 use std::sync::ledger::{Book, Ledger};
 
 /// Adds the entry to the history that the kernel wrote last.
@@ -25,11 +26,30 @@ pub(crate) fn note_wishes<L: HistoryName>(
     ensures wishes { result ≡ wishes }
     ensures noted { wished_in notes.new ≡ wished_in notes.old ++ wishes.items ∷ [] }
     ensures shut { has_shutdown notes.new ≡ has_shutdown notes.old }
+    ensures comms { comms_in notes.new ≡ comms_in notes.old }
 {
     let note = Note::Posted(wishes);
     notes.extend(&note);
     match note {
         Note::Posted(wishes) => wishes,
+        Note::Shut => unreachable!(),
+        Note::Changed(_comms) => unreachable!(),
+    }
+}
+
+/// Notes which comms are open behind a change, and gives them back.
+pub(crate) fn note_comms<L: HistoryName>(notes: &mut Keeper<Note, Beside<L>>, comms: Comms) -> Comms
+    ensures same { result ≡ comms }
+    ensures noted { notes.new ≡ notes.old ++ Changed comms ∷ [] }
+    ensures wishes { wished_in notes.new ≡ wished_in notes.old }
+    ensures shut { has_shutdown notes.new ≡ has_shutdown notes.old }
+    ensures comms { comms_in notes.new ≡ comms }
+{
+    let note = Note::Changed(comms);
+    notes.extend(&note);
+    match note {
+        Note::Changed(comms) => comms,
+        Note::Posted(_wishes) => unreachable!(),
         Note::Shut => unreachable!(),
     }
 }
@@ -38,6 +58,7 @@ pub(crate) fn note_wishes<L: HistoryName>(
 pub(crate) fn note_shutdown<L: HistoryName>(notes: &mut Keeper<Note, Beside<L>>)
     ensures noted { wished_in notes.new ≡ wished_in notes.old }
     ensures shut { has_shutdown notes.new ≡ true }
+    ensures comms { comms_in notes.new ≡ comms_in notes.old }
 {
     notes.extend(&Note::Shut);
 }

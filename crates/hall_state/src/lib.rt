@@ -5,7 +5,7 @@
 //! are those of the kernel that is here. Each post is counted by its pass and in a ledger, whose book is the number of posts in the minutes;
 //! what is made as a job ends is that of the kernel as it is then, for the wishes that were posted with it, in pieces between which the lock may be
 //! free, and is told once; and at the end the minutes are compared with what the frontends came away with. The minutes are one history, and so are the
-//! notes beside them, of the wishes and of a shutdown: what a pass sees begins with all that it had seen.
+//! notes beside them, of the wishes, of a shutdown and of the open comms: what a pass sees begins with all that it had seen.
 //!
 //! `state` has all of it. `turn` is what the runner does with the kernel and the bell, `pending_result` what stands beside a post, `open_result` what is
 //! being made for a job that has ended, `passes` who may post, `history` how the history follows the minutes, `minutes` what is left at the end.
@@ -26,9 +26,10 @@ mod state;
 mod turn;
 
 pub use kernel_audit::{
-    Answer, Ask, AuditFault, Begun, CellText, CommChange, Comms, Content, Done, Entry, HallFault,
-    HistoryName, Job, Kernel, NewHistory, Note, Outcome, Pass, PostFault, Refusal,
-    STEPS_OF_A_SLICE, Sliced, Ticket, Wish, ask_on, audit, comm_on, judge,
+    Answer, Ask, AuditFault, Begun, Beside, CellText, CommChange, Comms, Content, Done, Entry,
+    Front, HallFault, HistoryName, Job, Kernel, NamedValue, NewHistory, Note, Outcome, Pass,
+    PostFault, Refusal, STEPS_OF_A_SLICE, Sliced, Ticket, Wish, ask_on, audit, comm_on, judge,
+    room_for,
 };
 pub use limit::{PARTS_OF_POSTS, PASSES};
 pub use minutes::Minutes;

@@ -1,16 +1,17 @@
 //! What lies under the hall's lock.
-ghost use Rattle.std.specs.Prelude.{◌≡◌, ◌+◌, ◌-◌, ◌^◌, ◌<◌, ◌≤◌, ◌↔◌, IsTrue, [], ◌∷◌, ◌++◌, IfOk, IfErr, OnErr, IfSome, IfNone, All, suc, length, map};
-ghost use Rattle.std.specs.Prelude.{None, is_some, true, false, get_or, option_map, string_bytes};
+ghost use Rattle.std.specs.Prelude.{◌≡◌, ◌+◌, ◌-◌, ◌^◌, ◌<◌, ◌≤◌, ◌↔◌, IsTrue, [], ◌∷◌, ◌++◌, IfOk, IfErr, OnOk, OnErr, IfSome, IfNone, All, suc, length, map};
+ghost use Rattle.std.specs.Prelude.{None, is_some, true, false, get_or, option_map, string_bytes, vec_len, vec_capacity};
 ghost use mathlib.Core.List.{IsPrefix};
 ghost use Rattle.kernel_audit.specs.Request.{request_of};
 ghost use Rattle.kernel_audit.specs.Minutes.{posted_in};
 ghost use Rattle.kernel_audit.specs.LegalMinutes.{IsLegalMachine};
-ghost use Rattle.kernel_audit.specs.Runs.{IsReady, IsRefusal, posted, shut, phase_of};
+ghost use Rattle.kernel_audit.specs.Runs.{IsRefusal, posted, shut, phase_of};
 ghost use Rattle.kernel_audit.specs.outcome.Phase.TheVariants.{Idle};
 ghost use Rattle.kernel_audit.specs.Answer.{IsAnswer};
 ghost use Rattle.kernel_audit.specs.CommChanges.{IsChange};
 ghost use Rattle.kernel_audit.specs.Written.{entry_of};
-ghost use Rattle.kernel_audit.specs.Notes.{wished_in, has_shutdown};
+ghost use Rattle.kernel_audit.specs.Notes.{wished_in, has_shutdown, comms_in};
+ghost use Rattle.kernel_audit.specs.declared.note.Note.TheVariants.{Changed};
 ghost use Rattle.kernel_audit.specs.Passes.{pass_of, HasSeen, HasPosted};
 ghost use Rattle.hall_state.specs.Turns.{IsTurn};
 ghost use Rattle.hall_state.specs.OpenResults.{AreSettled, left_in};
@@ -21,7 +22,7 @@ ghost use Rattle.hall_state.specs.declared.pending_result.PendingResult.{Pending
 ghost use Rattle.kernel_audit.specs.Ends.{HasEnd};
 ghost use Rattle.kernel_audit.specs.Audit.{Audited, IsAuditFault};
 
-use crate::history::{follow, note_shutdown, note_wishes, show_all};
+use crate::history::{follow, note_comms, note_shutdown, note_wishes, show_all};
 use crate::limit::WISHES_OF_A_PIECE;
 use crate::minutes::Minutes;
 use crate::open_result::OpenResult;
@@ -29,17 +30,18 @@ use crate::passes::Passes;
 use crate::pending_result::{PendingResult, fetch, fetch_first, open_last, settle_last};
 use crate::turn::{Turn, turn_on};
 use kernel_audit::{
-    Answer, Ask, AuditFault, Beside, CommChange, Comms, Done, Entry, HallFault, HistoryName, Job,
-    Keeper, Kernel, NewHistory, Note, Pass, Phase, PostFault, SpentWishes, Ticket, Wish, ask_on,
-    audit, comm_on,
+    Answer, Ask, AuditFault, Beside, CommChange, Comms, Done, Entry, Front, HallFault, HistoryName,
+    Job, Keeper, Kernel, NamedValue, NewHistory, Note, Pass, Phase, PostFault, SpentWishes, Ticket,
+    Wish, ask_on, audit, comm_on,
 };
 use kernel_bell::{Bell, RunnerSeat};
 use std::alloc::Global;
+use std::mem;
 use std::sync::ledger::{Book, Ledger, Share};
 
-/// The lock's value. Its type keeps that the book is the number of posts in the minutes, that the minutes are the history, that a shutdown is noted
-/// where the kernel closes, and that one pending result stands beside each post, of the wishes that are noted of it: those of the jobs that have ended
-/// are settled, but for the last one's while what is made for it is under way, and the others wait.
+/// The lock's value. Its type keeps that the book is the number of posts in the minutes, that the minutes are the history, that a shutdown is noted where the
+/// kernel closes, that the open comms are those that are noted, and that one pending result stands beside each post, of the wishes that are noted of it: those
+/// of the jobs that have ended are settled, but for the last one's while what is made for it is under way, and the others wait.
 #[derive(Drop)]
 pub struct State<W: Ledger, L: HistoryName> {
     kernel: Kernel<W>,
@@ -57,16 +59,17 @@ pub struct State<W: Ledger, L: HistoryName> {
     pub ghost counted: { book.total ≡ posted_in kernel.machine.minutes },
     pub ghost told: { map entry_of history ≡ kernel.machine.minutes },
     pub ghost closes: { has_shutdown notes ≡ kernel.machine.closing },
+    pub ghost open_comms: { comms_in notes ≡ comms },
     pub ghost beside: { ∥ AreBeside settled kernel.machine.minutes (wished_in notes) pending_results.items ∥₁ },
     pub ghost results: { ∥ AreSettled settled kernel.machine (wished_in notes) under_way ∥₁ },
 }
 
 impl<W: Ledger, L: HistoryName> State<W, L> {
-    /// Around an open kernel with no minutes, with the book of its posts and all shares in it, the history that its minutes become, and that of the notes.
+    /// Around an open kernel with no minutes, where no comm is open, with the book of its posts and all shares in it, the history that its minutes become, and
+    /// that of the notes.
     pub fn new(
         alloc: Global,
         kernel: Kernel<W>,
-        comms: Comms,
         book: Book<L>,
         rest: Share<L>,
         history: NewHistory<Entry>,
@@ -80,11 +83,11 @@ impl<W: Ledger, L: HistoryName> State<W, L> {
         requires history { history ≡ L.history }
         requires notes { notes ≡ L.beside }
         ensures kernel { result.kernel ≡ kernel }
-        ensures comms { result.comms ≡ comms }
+        ensures comms { result.comms ≡ [] }
     {
         State {
             kernel,
-            comms,
+            comms: Comms::new(alloc),
             passes: Passes::new(rest),
             pending_results: Vec::new(alloc),
             settled: 0,
@@ -97,13 +100,17 @@ impl<W: Ledger, L: HistoryName> State<W, L> {
     }
 
     /// Posts a job for a pass, which counts it, and answers its number. The wishes stand beside it until it ends. A refused post drops the job
-    /// and the wishes. The pass has seen the minutes behind the post, or those for which it is refused.
+    /// and the wishes. The pass has seen the minutes behind the post, or those for which it is refused. The room for their values was taken before the lock
+    /// was.
     pub fn post(
         &mut self,
         pass: &mut Pass<L>,
         job: Job,
         wishes: Vec<Wish>,
+        room: Vec<NamedValue>,
     ) -> Result<u64, PostFault>
+        requires empty { room.items ≡ [] }
+        requires room { vec_len wishes ≤ vec_capacity room }
         ensures number { IfOk result (λ n. n ≡ suc (posted_in self.old.kernel.machine.minutes)) }
         ensures posted { IfOk result (λ n. self.new.kernel.machine ≡ posted self.old.kernel.machine pass.old.lane (request_of job)) }
         ensures stands { IfOk result (λ n. HasPosted pass.old (request_of job) wishes.items n pass.new) }
@@ -121,10 +128,7 @@ impl<W: Ledger, L: HistoryName> State<W, L> {
     {
         show_legal(&self.kernel);
         self.see(pass);
-        if let Some(fault) = self.kernel.post_fault() {
-            return Err(fault);
-        }
-        match self.queue(pass, job, wishes) {
+        match self.queue(pass, job, wishes, room) {
             Ok(number) => {
                 self.see(pass);
                 Ok(number)
@@ -143,7 +147,7 @@ impl<W: Ledger, L: HistoryName> State<W, L> {
         ensures legal { IsLegalMachine self.old.kernel.machine }
     {
         self.see(pass);
-        self.kernel.post_fault().unwrap_or(PostFault::Memory)
+        refusal_of(&self.kernel)
     }
 
     /// Shows the minutes to a pass, and the notes beside them. What it had seen is a beginning of them, and all its posts are among them.
@@ -154,6 +158,7 @@ impl<W: Ledger, L: HistoryName> State<W, L> {
         ensures same_notes { self.new.notes ≡ self.old.notes }
         ensures closing { has_shutdown pass.new.notes ≡ self.old.kernel.machine.closing }
         ensures own { pass.new.posts ≤ posted_in self.old.kernel.machine.minutes }
+        ensures open_comms { comms_in pass.new.notes ≡ self.new.comms }
         ensures legal { IsLegalMachine self.old.kernel.machine }
         ensures kernel { self.new.kernel ≡ self.old.kernel }
         ensures comms { self.new.comms ≡ self.old.comms }
@@ -169,10 +174,17 @@ impl<W: Ledger, L: HistoryName> State<W, L> {
         pass.see(book, history, notes);
     }
 
-    /// Queues a job, which only want of memory refuses.
-    fn queue(&mut self, pass: &mut Pass<L>, job: Job, wishes: Vec<Wish>) -> Result<u64, PostFault>
-        requires ready { IsReady self.old.kernel.machine }
-        ensures serves { self.old.kernel.machine.closing ≡ false }
+    /// Queues a job. Whether it is refused is tested once: by the kernel, or where there is no memory beside it.
+    fn queue(
+        &mut self,
+        pass: &mut Pass<L>,
+        job: Job,
+        wishes: Vec<Wish>,
+        room: Vec<NamedValue>,
+    ) -> Result<u64, PostFault>
+        requires empty { room.items ≡ [] }
+        requires room { vec_len wishes ≤ vec_capacity room }
+        ensures serves { OnOk result (self.old.kernel.machine.closing ≡ false) }
         ensures number { IfOk result (λ n. n ≡ suc (posted_in self.old.kernel.machine.minutes)) }
         ensures posted { IfOk result (λ n. self.new.kernel.machine ≡ posted self.old.kernel.machine pass.old.lane (request_of job)) }
         ensures counted { IfOk result (λ n. pass.new ≡ pass_of pass.old.lane (pass.old.posts + 1) pass.old.front pass.old.notes) }
@@ -189,18 +201,14 @@ impl<W: Ledger, L: HistoryName> State<W, L> {
         let State {
             kernel,
             pending_results,
-            alloc,
             book,
             history,
             notes,
             ..
         } = self;
         show_legal(kernel);
-        let Ok(room) = Vec::with_capacity(*alloc, wishes.len()) else {
-            return Err(PostFault::Memory);
-        };
         if pending_results.reserve(1).is_err() {
-            return Err(PostFault::Memory);
+            return Err(refusal_of(kernel));
         }
         let place = kernel.minutes().len();
         let number = kernel.post(pass.lane(), job)?;
@@ -403,18 +411,29 @@ impl<W: Ledger, L: HistoryName> State<W, L> {
         ask_on(self.alloc, &self.kernel, &self.comms, ask)
     }
 
-    /// Opens or closes a comm, and tells whether it did: `comm_on` over the comms.
+    /// Opens or closes a comm, and tells whether it did: `comm_on` over the comms. Those that are open then are noted.
     pub fn comm(&mut self, change: CommChange<'_>) -> Result<bool, HallFault>
         ensures change { IsChange self.old.comms change.entry result self.new.comms }
+        ensures before { comms_in self.old.notes ≡ self.old.comms }
+        ensures noted { self.new.notes ≡ self.old.notes ++ Changed self.new.comms ∷ [] }
         ensures kernel { self.new.kernel ≡ self.old.kernel }
         ensures pending_results { self.new.pending_results ≡ self.old.pending_results }
     {
-        let State { comms, .. } = self;
-        comm_on(comms, change)
+        let State {
+            comms,
+            notes,
+            alloc,
+            ..
+        } = self;
+        let mut open = mem::replace(comms, Comms::new(*alloc));
+        let told = comm_on(&mut open, change);
+        *comms = note_comms(notes, open);
+        told
     }
 
-    /// Refuses later posts, which is noted.
-    pub fn shut(&mut self)
+    /// Refuses later posts, which is noted. What is handed out has seen it.
+    pub fn shut(&mut self) -> Front<Note, Beside<L>>
+        ensures seen { has_shutdown result ≡ true }
         ensures shut { self.new.kernel.machine ≡ shut self.old.kernel.machine }
         ensures noted { has_shutdown self.new.notes ≡ true }
         ensures comms { self.new.comms ≡ self.old.comms }
@@ -423,6 +442,7 @@ impl<W: Ledger, L: HistoryName> State<W, L> {
         let State { kernel, notes, .. } = self;
         kernel.shut();
         note_shutdown(notes);
+        notes.front()
     }
 
     /// Compares the minutes with what the frontends came away with. All of it is spent, the kernel too where something is missing or
@@ -465,6 +485,13 @@ impl<W: Ledger, L: HistoryName> State<W, L> {
         let State { kernel, .. } = self;
         kernel.discard();
     }
+}
+
+/// Why a post is refused for which there is no memory.
+fn refusal_of<W: Ledger>(kernel: &Kernel<W>) -> PostFault
+    ensures { IsRefusal kernel.now.machine result }
+{
+    kernel.post_fault().unwrap_or(PostFault::Memory)
 }
 
 /// Does nothing: its contract says that a kernel's state and minutes are legal.

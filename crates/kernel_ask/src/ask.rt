@@ -78,7 +78,7 @@ pub fn evaluate<L: Ledger>(alloc: Global, kernel: &Kernel<L>, text: &str) -> Res
     ensures { IsEvaluated (here kernel.now.machine.state.past).store text.now result }
 {
     let read = parse_exp(alloc, text);
-    let names = names_here(alloc, kernel);
+    let names = names_here(kernel);
     evaluation_of(alloc, kernel.store(), &names, &read)
 }
 

@@ -51,7 +51,7 @@ pub use crate::inputs::{HistoryAsk, Input};
 pub use crate::judgement::{Completeness, is_complete};
 pub use crate::limit::COMM_LIMIT;
 pub use crate::lines::exp_fault_line;
-pub use crate::making::{Making, SpentWishes};
+pub use crate::making::{Making, SpentWishes, room_for};
 pub use crate::standing::{is_settled, stands_at_end, state};
 pub use crate::wish::Wish;
 pub use kernel_text::{

@@ -1,5 +1,5 @@
 //! The values of user expressions after a job that has ended, made one by one: whoever makes them may stop between two.
-ghost use Rattle.std.specs.Prelude.{◌≡◌, ◌<◌, ◌≤◌, ◌-◌, [], true, false, List, IfSome, vec_len, vec_capacity, length};
+ghost use Rattle.std.specs.Prelude.{◌≡◌, ◌<◌, ◌≤◌, ◌-◌, [], true, false, List, IfOk, vec_len, vec_capacity, length};
 ghost use Rattle.janus_meaning.specs.Shape.{shape_of};
 ghost use Rattle.janus_check.specs.Names.{shape_in};
 ghost use Rattle.kernel_text.specs.State.{Idle, Past, here};
@@ -12,9 +12,8 @@ ghost use Rattle.kernel_ask.specs.Wishes.{WishOf};
 use crate::done::NamedValue;
 use crate::evaluation::names_here;
 use crate::wish::Wish;
-use janus_check::Env;
-use kernel_text::{Kernel, Outcome};
-use std::alloc::Global;
+use kernel_text::{DeclaredNames, Kernel, Outcome};
+use std::alloc::{AllocError, Global};
 use std::collections::VecDeque;
 use std::sync::ledger::Ledger;
 
@@ -49,16 +48,24 @@ fn is_run(outcome: &Outcome) -> bool
     }
 }
 
-/// The declared names of the world of the position, where they are needed.
-fn names_for<L: Ledger>(alloc: Global, kernel: &Kernel<L>, are_needed: bool) -> Option<Env>
-    requires { kernel.now.machine.state.job ≡ Idle }
-    ensures { IfSome result (λ env. shape_in env.names ≡ shape_of (here kernel.now.machine.state.past).store) }
+/// Room for the values of so many user expressions, all of which was written to: whoever fills it under a lock meets no memory that nobody touched before.
+///
+/// # Errors
+///
+/// `AllocError` where there is no memory.
+pub fn room_for(alloc: Global, count: usize) -> Result<Vec<NamedValue>, AllocError>
+    ensures empty { IfOk result (λ room. room.items ≡ []) }
+    ensures room { IfOk result (λ room. count ≤ vec_capacity room) }
 {
-    if are_needed {
-        names_here(alloc, kernel)
-    } else {
-        None
+    let mut room = Vec::with_capacity(alloc, count)?;
+    for _i in 0..count {
+        room.push_reserved(NamedValue {
+            name: String::new(alloc),
+            value: Ok(0),
+        });
     }
+    room.clear();
+    Ok(room)
 }
 
 impl Making {
@@ -78,20 +85,15 @@ impl Making {
         }
     }
 
-    /// Whether one is left that has to be evaluated.
-    fn needs_names(&self) -> bool {
-        self.is_wanted && self.rest.len() > 0
-    }
-
     /// The value of the next one, if one is left; whether one was. The declared names are lent.
     fn make_next<L: Ledger>(
         &mut self,
         alloc: Global,
         kernel: &Kernel<L>,
-        names: &Option<Env>,
+        names: &DeclaredNames<'_, L>,
     ) -> bool
         requires idle { kernel.now.machine.state.job ≡ Idle }
-        requires names { IfSome names.now (λ env. shape_in env.names ≡ shape_of (here kernel.now.machine.state.past).store) }
+        requires names { shape_in names.now.names ≡ shape_of (here kernel.now.machine.state.past).store }
         requires room { HasRoom self.old }
         ensures goes { (o : OutcomeOf) (given : List WishOf) → IsUnderWay o kernel.now.machine.state.past given self.old →
             IsUnderWay o kernel.now.machine.state.past given self.new }
@@ -110,8 +112,8 @@ impl Making {
         true
     }
 
-    /// The values of so many more at most; whether more may be left. The table of the declared names is made once for them; where there is no memory for
-    /// it each value says so.
+    /// The values of so many more at most; whether more may be left. The declared names are lent by the kernel's store, and the values go into the room
+    /// for them: so nothing grows here.
     pub fn make<L: Ledger>(&mut self, alloc: Global, kernel: &Kernel<L>, most: u32) -> bool
         requires idle { kernel.now.machine.state.job ≡ Idle }
         requires room { HasRoom self.old }
@@ -122,7 +124,7 @@ impl Making {
         // It answers that more may be left only where so many were.
         ensures some { result ≡ true → most ≤ length (left_of self.old) }
     {
-        let names = names_for(alloc, kernel, self.needs_names());
+        let names = names_here(kernel);
         for _i in 0..most {
             if !self.make_next(alloc, kernel, &names) {
                 return false;
@@ -139,7 +141,7 @@ impl Making {
             IsUnderWay o kernel.now.machine.state.past given self.new }
         ensures left { left_of self.new ≡ [] }
     {
-        let names = names_for(alloc, kernel, self.needs_names());
+        let names = names_here(kernel);
         for _i in 0..self.rest.len() {
             let _made = self.make_next(alloc, kernel, &names);
         }

@@ -1,5 +1,5 @@
 //! User expressions, each of which is read from its text once.
-ghost use Rattle.std.specs.Prelude.{◌≡◌, IfSome, string_bytes};
+ghost use Rattle.std.specs.Prelude.{◌≡◌, string_bytes};
 ghost use Rattle.janus_meaning.specs.Shape.{shape_of};
 ghost use Rattle.janus_check.specs.Names.{shape_in};
 ghost use Rattle.kernel_text.specs.State.{Idle, here};
@@ -8,10 +8,9 @@ ghost use Rattle.kernel_ask.specs.Wishes.{wish_of};
 
 use crate::done::NamedValue;
 use crate::evaluation::evaluation_of;
-use janus_check::Env;
 use janus_syntax::tree::Exp;
 use janus_syntax::{SyntaxFault, parse_exp};
-use kernel_text::Kernel;
+use kernel_text::{DeclaredNames, Kernel};
 use std::alloc::Global;
 use std::marker::Model;
 use std::sync::ledger::Ledger;
@@ -52,10 +51,10 @@ impl Wish {
         self,
         alloc: Global,
         kernel: &Kernel<L>,
-        names: &Option<Env>,
+        names: &DeclaredNames<'_, L>,
     ) -> NamedValue
         requires idle { kernel.now.machine.state.job ≡ Idle }
-        requires names { IfSome names.now (λ env. shape_in env.names ≡ shape_of (here kernel.now.machine.state.past).store) }
+        requires names { shape_in names.now.names ≡ shape_of (here kernel.now.machine.state.past).store }
         ensures name { string_bytes result.name ≡ self.name }
         ensures value { IsEvaluated (here kernel.now.machine.state.past).store self.exp result.value }
     {

@@ -14,6 +14,15 @@ prefix_map f xs ys p = (map f p.0, sym (map-append f xs p.0) ∙ ap (map f) p.1)
 pub prefix_trans : {A : Type 0} (xs ys zs : List A) → IsPrefix xs ys → IsPrefix ys zs → IsPrefix xs zs
 prefix_trans xs ys zs p q = (p.0 ++ q.0, sym (append_assoc xs p.0 q.0) ∙ (ap (λ w. w ++ q.0) p.1 ∙ q.1))
 
+-- who has seen on, and sees on again, has seen on
+pub seen_on : (old mid new : PassOf) → HasSeen old mid → HasSeen mid new → HasSeen old new
+seen_on old mid new p q = record {
+  lane = q.lane ∙ p.lane;
+  posts = q.posts ∙ p.posts;
+  onward = prefix_trans old.front mid.front new.front p.onward q.onward;
+  noted = prefix_trans old.notes mid.notes new.notes p.noted q.noted;
+}
+
 -- a post keeps its number
 pub number_stays : (xs ys : List Entry) (number : ℕ) (post : Post) → IsPrefix xs ys → IsNumberOf xs number post → IsNumberOf ys number post
 number_stays xs ys number post p (before, after, is, numbered) = (

@@ -11,6 +11,7 @@ pub use Rattle.shared_history.specs.declared.history.HistoryName as HistoryNames
 pub use Rattle.kernel_ask.specs.Answer
 pub use Rattle.kernel_ask.specs.declared.answer
 pub use Rattle.kernel_ask.specs.declared.done
+pub use Rattle.kernel_ask.specs.declared.comm_change
 pub use Rattle.kernel_ask.specs.CommChanges
 pub use Rattle.kernel_ask.specs.Wishes
 pub use Rattle.kernel_ask.specs.EndedAt

@@ -4,7 +4,7 @@
 //! layer above the audit promises that it passes exactly what the minutes hold, and that what it finds missing or untrue is so. A pass
 //! holds one part of a ledger, whose book the owner of the minutes keeps, so that no pass counts a post that the book hasn't; and it holds what it
 //! has seen of the minutes, which are one history, so that what one sees now begins with all that it had seen; so it is with what is noted beside
-//! them, the wishes of the posts and a shutdown.
+//! them, the wishes of the posts, a shutdown, and which comms are open.
 //!
 //! It gives the names of `kernel_ask`, of the kernel below it and of the history again that the hall cites.
 //!
@@ -26,8 +26,8 @@ pub use fault::AuditFault;
 pub use kernel_ask::{
     Answer, Ask, Begun, CellText, CommChange, Comms, Content, Done, Entry, HallFault, Job, Kernel,
     Making, NamedValue, Outcome, Phase, PostFault, Refusal, STEPS_OF_A_SLICE, Sliced, SpentWishes,
-    Wish, ask_on, comm_on, judge, shown_after,
+    Wish, ask_on, comm_on, judge, room_for, shown_after,
 };
 pub use note::Note;
 pub use pass::{Pass, Ticket};
-pub use shared_history::{Beside, HistoryName, Keeper, NewHistory};
+pub use shared_history::{Beside, Front, HistoryName, Keeper, NewHistory};

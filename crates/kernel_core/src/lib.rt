@@ -13,7 +13,7 @@
 //! - `laws` of `machine_laws`: what this says of undo and redo over any schedule, and that want of memory aside each answer is the only one.
 //!
 //! Values, cells, procedures and refusals, which its calls take, answer and lend, can be named through this crate: it gives their types again, with `Env` of
-//! `names_in_sight`, what an `OpenCell` holds, and what the calls of a `Store` take and lend.
+//! `DeclaredNames`, what an `OpenCell` holds, and what the calls of a `Store` take and lend.
 //!
 //! It has the queue, the minutes and the counter; the tree, the store and the open job are `kernel_history`'s. The names of these crates and
 //! of `kernel_machine` and `machine_laws` are passed on, types and laws here and definitions in specs/, so that layers above cite this crate alone:
@@ -37,8 +37,8 @@ pub use janus_syntax::{
     SyntaxFault, Token, TokenKind, Update, What,
 };
 pub use kernel_history::{
-    Args, HistoryTree, Names, OpenCell, Program, RoomFault, Row, Runner, StackView, Store, Tally,
-    ValueView, View, names_in_sight,
+    Args, DeclaredNames, HistoryTree, Names, OpenCell, Program, RoomFault, Row, Runner, StackView,
+    Store, Tally, ValueView, View,
 };
 pub use kernel_machine::{
     Begun, CellText, CheckFault, Env, Event, Extent, Fault, Job, MINUTES_LIMIT, Outcome, Phase,

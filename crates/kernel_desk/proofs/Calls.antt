@@ -10,7 +10,8 @@ use Rattle.kernel_hall.specs.Answer.{IsAnswer}
 use Rattle.kernel_hall.specs.post.PostFault.{PostFault}
 use Rattle.kernel_hall.specs.post.PostFault.TheVariants.{Closing, MinutesFull, QueueFull, Memory}
 use Rattle.kernel_hall.specs.Wishes.{WishOf}
-use Rattle.kernel_hall.specs.Notes.{has_shutdown}
+use Rattle.kernel_hall.specs.Notes.{has_shutdown, comms_in, IsNotedChange}
+use Rattle.kernel_hall.specs.comm_change.CommChange.{CommChange}
 use Rattle.kernel_hall.specs.Refused.{IsRefused}
 use Rattle.kernel_hall.proofs.Noted.{shut_stays}
 use Rattle.kernel_hall.specs.answer.Ask.{Ask}
@@ -18,7 +19,7 @@ use Rattle.kernel_hall.specs.answer.Answer.{Answer}
 use Rattle.kernel_hall.specs.answer.HallFault.{HallFault}
 use Rattle.kernel_hall.specs.answer.HallFault.TheVariants.{Memory as NoMemory}
 use Rattle.kernel_hall.specs.done.Done.{Done}
-use Rattle.kernel_session.specs.Question.{question_of, wishes_of}
+use Rattle.kernel_session.specs.Question.{question_of, change_of, wishes_of}
 use Rattle.kernel_desk.specs.HallDesk.{DeskState, OnlyPass, TellsMade, IsPosted, RefusesBehindShutdown, IsAnswered, IsChanged}
 
 -- a call of the hall leaves the desk with this pass, all else as it was
@@ -73,25 +74,23 @@ pub knows_on : (was_shut : Bool) (old new : PassOf) → (was_shut ≡ true → h
 knows_on was_shut old new knows seen = λ shut. shut_stays old.notes new.notes seen.noted (knows shut)
 
 answered : (desk : DeskState) (asked : Ask) (r : Result Answer HallFault)
-    → IfOk r (λ answer. (k : Machine) × (comms : List (List ℕ)) × IsLegalMachine k × (k.minutes ≡ desk.pass.front) × IsAnswer k comms asked answer)
+    → IfOk r (λ answer. (k : Machine) × IsLegalMachine k × (k.minutes ≡ desk.pass.front) × IsAnswer k (comms_in desk.pass.notes) asked answer)
     → desk.pass.posts ≤ posted_in desk.pass.front → IfErr r (λ fault. fault ≡ NoMemory) → IsAnswered (question_of asked) r desk
-answered desk asked (Ok answer) (k, comms, legal, seen, is) own memory =
-    (asked, refl, k, comms, legal, seen, subst (λ (entries : List Entry). desk.pass.posts ≤ posted_in entries) (sym seen) own, is)
+answered desk asked (Ok answer) (k, legal, seen, is) own memory =
+    (asked, refl, k, legal, seen, subst (λ (entries : List Entry). desk.pass.posts ≤ posted_in entries) (sym seen) own, is)
 answered desk asked (Err fault) is own memory = memory
 
 pub is_answered : (desk old : DeskState) (asked : Ask) (r : Result Answer HallFault) (pass : PassOf) → desk ≡ old
-    → IfOk r (λ answer. (k : Machine) × (comms : List (List ℕ)) × IsLegalMachine k × (k.minutes ≡ pass.front) × IsAnswer k comms asked answer)
+    → IfOk r (λ answer. (k : Machine) × IsLegalMachine k × (k.minutes ≡ pass.front) × IsAnswer k (comms_in pass.notes) asked answer)
     → pass.posts ≤ posted_in pass.front → IfErr r (λ fault. fault ≡ NoMemory) → HasSeen desk.pass pass
     → IsAnswered (question_of asked) r (with_pass desk pass) × HasSeen old.pass pass × OnlyPass old (with_pass desk pass)
 is_answered desk old asked r pass same is own memory seen =
     subst (λ (d : DeskState). IsAnswered (question_of asked) r (with_pass desk pass) × HasSeen d.pass pass × OnlyPass d (with_pass desk pass)) same
     (answered (with_pass desk pass) asked r is own memory, seen, refl)
 
-changed : (r : Result Bool HallFault) → IfErr r (λ fault. fault ≡ NoMemory) → IsChanged r
-changed (Ok told) memory = tt
-changed (Err fault) memory = memory
-
-pub is_changed : (desk old : DeskState) (r : Result Bool HallFault) (pass : PassOf) → desk ≡ old → IfErr r (λ fault. fault ≡ NoMemory)
-    → HasSeen desk.pass pass → IsChanged r × HasSeen old.pass pass × OnlyPass old (with_pass desk pass)
-is_changed desk old r pass same memory seen =
-    subst (λ (d : DeskState). IsChanged r × HasSeen d.pass pass × OnlyPass d (with_pass desk pass)) same (changed r memory, seen, refl)
+pub is_changed : (desk old : DeskState) (asked : CommChange) (r : Result Bool HallFault) (pass : PassOf) → desk ≡ old
+    → IsNotedChange desk.pass.notes asked r pass.notes → HasSeen desk.pass pass
+    → IsChanged old (change_of asked) r (with_pass desk pass) × HasSeen old.pass pass × OnlyPass old (with_pass desk pass)
+is_changed desk old asked r pass same is seen =
+    subst (λ (d : DeskState). IsChanged d (change_of asked) r (with_pass desk pass) × HasSeen d.pass pass × OnlyPass d (with_pass desk pass)) same
+    ((asked, refl, is), seen, refl)

@@ -18,12 +18,14 @@ use Rattle.kernel_hall.specs.Ends.{HasEnd}
 use Rattle.kernel_hall.specs.Minutes.{Entry, posted_in}
 use Rattle.kernel_hall.specs.Request.{Request}
 use Rattle.kernel_hall.specs.Passes.{PassOf, HasSeen, HasPosted}
+use Rattle.kernel_hall.specs.Notes.{comms_in, IsNotedChange}
+use Rattle.kernel_hall.specs.comm_change.CommChange.{CommChange}
 use Rattle.kernel_bell.specs.Seats.{RingerOf, ringer_seat, IsNeverLater}
 use Rattle.kernel_bell.specs.Views.{after_look, after_raise}
 use Rattle.kernel_board.specs.Frames.{Frames}
 use Rattle.kernel_board.specs.Log.{Log, IsLog, oldest_of}
 use Rattle.kernel_board.specs.Reads.{batch_from}
-use Rattle.kernel_session.specs.Question.{Question, question_of, Wishes, wishes_of}
+use Rattle.kernel_session.specs.Question.{Question, question_of, Change, change_of, Wishes, wishes_of}
 use Rattle.kernel_session.specs.Call.{Call, Posted, Asked, Changed, Rang, Shut, Published, Kept, Dated}
 use Rattle.stamp_texts.specs.Date.{IsDate}
 
@@ -67,17 +69,17 @@ IsPosted old job wishes (Err fault) new = HasSeen old.pass new.pass × IsRefused
 abbrev pub RefusesBehindShutdown : DeskState → Result Done PostFault → Type 0
 RefusesBehindShutdown old told = old.was_shut ≡ true → told ≡ Err Closing
 
--- a question is answered of the kernel whose minutes the pass has seen now, with all its own posts; a refusal is want of memory
+-- a question is answered of the kernel whose minutes the pass has seen now, with all its own posts, and of the comms that are open by the notes that it
+-- has seen now; a refusal is want of memory
 abbrev pub IsAnswered : Question → Result Answer HallFault → DeskState → Type 0
 IsAnswered q (Ok answer) new =
-    (asked : Ask) × (question_of asked ≡ q) × (k : Machine) × (comms : List (List ℕ)) × IsLegalMachine k × (k.minutes ≡ new.pass.front)
-    × (new.pass.posts ≤ posted_in k.minutes) × IsAnswer k comms asked answer
+    (asked : Ask) × (question_of asked ≡ q) × (k : Machine) × IsLegalMachine k × (k.minutes ≡ new.pass.front)
+    × (new.pass.posts ≤ posted_in k.minutes) × IsAnswer k (comms_in new.pass.notes) asked answer
 IsAnswered q (Err fault) new = fault ≡ Memory
 
--- a change of the comms is refused for want of memory alone
-abbrev pub IsChanged : Result Bool HallFault → Type 0
-IsChanged (Ok told) = Unit
-IsChanged (Err fault) = fault ≡ Memory
+-- a change of the comms is noted last of what the pass has seen now, and was made to those that were open then
+abbrev pub IsChanged : DeskState → Change → Result Bool HallFault → DeskState → Type 0
+IsChanged old change told new = (asked : CommChange) × (change_of asked ≡ change) × IsNotedChange old.pass.notes asked told new.pass.notes
 
 -- a ring is one look and one raise, to a serial that is at most the current one
 pub record IsRung (old new : RingerOf) : Type 0 where
@@ -90,7 +92,7 @@ pub record IsRung (old new : RingerOf) : Type 0 where
 abbrev pub hall_desk_leads : DeskState → Call → DeskState → Type 0
 hall_desk_leads old (Posted job wishes told) new = IsPosted old job wishes told new × RefusesBehindShutdown old told × OnlyPass old new
 hall_desk_leads old (Asked q told) new = IsAnswered q told new × HasSeen old.pass new.pass × OnlyPass old new
-hall_desk_leads old (Changed change told) new = IsChanged told × HasSeen old.pass new.pass × OnlyPass old new
+hall_desk_leads old (Changed change told) new = IsChanged old change told new × HasSeen old.pass new.pass × OnlyPass old new
 hall_desk_leads old Rang new = (seat : RingerOf) × IsRung old.seat seat × (new ≡ record old { seat = seat })
 hall_desk_leads old Shut new = HasSeen old.pass new.pass × (new ≡ record old { pass = new.pass; was_shut = true })
 hall_desk_leads old (Published b) new = new ≡ old

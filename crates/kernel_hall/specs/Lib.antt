@@ -12,6 +12,7 @@ pub use Rattle.hall_state.specs.Notes
 pub use Rattle.hall_state.specs.Answer
 pub use Rattle.hall_state.specs.answer
 pub use Rattle.hall_state.specs.done
+pub use Rattle.hall_state.specs.comm_change
 pub use Rattle.hall_state.specs.Wishes
 pub use Rattle.hall_state.specs.Shown
 pub use Rattle.hall_state.specs.Evaluation

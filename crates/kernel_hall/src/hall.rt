@@ -6,7 +6,7 @@ ghost use Rattle.hall_state.specs.LegalMinutes.{IsLegalMachine};
 ghost use Rattle.hall_state.specs.Answer.{IsAnswer};
 ghost use Rattle.hall_state.specs.Minutes.{posted_in};
 ghost use Rattle.hall_state.specs.Request.{request_of};
-ghost use Rattle.hall_state.specs.Notes.{wished_in, has_shutdown};
+ghost use Rattle.hall_state.specs.Notes.{wished_in, has_shutdown, comms_in, IsNotedChange};
 ghost use Rattle.hall_state.specs.Passes.{ticket_of, AreLegal, HasSeen, HasPosted};
 ghost use Rattle.hall_state.specs.PendingResults.{WereMade};
 ghost use Rattle.hall_state.specs.Turns.{IsTurn};
@@ -19,8 +19,8 @@ use crate::ends::Ends;
 use crate::entrance::Entrance;
 use crate::spin::{LOOKS_FOR_POST, watch};
 use hall_state::{
-    Answer, Ask, AuditFault, CommChange, Comms, Done, Entry, HallFault, HistoryName, Job, Kernel,
-    Minutes, NewHistory, Note, Pass, PostFault, State, Ticket, Turn, Wish, judge,
+    Answer, Ask, AuditFault, Beside, CommChange, Done, Entry, Front, HallFault, HistoryName, Job,
+    Kernel, Minutes, NewHistory, Note, Pass, PostFault, State, Ticket, Turn, Wish, judge, room_for,
 };
 use kernel_bell::{Bell, RunnerSeat};
 use std::alloc::Global;
@@ -40,6 +40,7 @@ pub struct Hall<W: Ledger, L: HistoryName> {
     moved: Condvar,
     ended: Ends,
     bell: Bell,
+    alloc: Global,
 }
 
 impl<W: Ledger, L: HistoryName> Model for Hall<W, L> {
@@ -53,15 +54,14 @@ impl<W: Ledger, L: HistoryName> Model for Hall<W, L> {
 }
 
 impl<W: Ledger, L: HistoryName> Hall<W, L> {
-    /// A hall round an open kernel with no minutes. It takes no memory. The posts are counted in the ledger that is opened by this blank, its minutes
-    /// become this history, and what is noted beside them the other one.
+    /// A hall round an open kernel with no minutes, where no comm is open. It takes no memory. The posts are counted in the ledger that is opened by this
+    /// blank, its minutes become this history, and what is noted beside them the other one.
     pub fn new(
         alloc: Global,
         blank: Blank,
         history: NewHistory<Entry>,
         notes: NewHistory<Note>,
         kernel: Kernel<W>,
-        comms: Comms,
         bell: Bell,
     ) -> Hall<W, L>
         requires name { blank.name ≡ L.name }
@@ -73,13 +73,14 @@ impl<W: Ledger, L: HistoryName> Hall<W, L> {
         ensures { result ≡ bell }
     {
         let (book, rest) = blank.open::<L>();
-        let state = State::new(alloc, kernel, comms, book, rest, history, notes);
+        let state = State::new(alloc, kernel, book, rest, history, notes);
         Hall {
             state: Mutex::new(state),
             entrance: Entrance::new(),
             moved: Condvar::new(),
             ended: Ends::new(),
             bell,
+            alloc,
         }
     }
 
@@ -136,7 +137,7 @@ impl<W: Ledger, L: HistoryName> Hall<W, L> {
         }
     }
 
-    /// Posts a job, whose number it answers, and tells the worker.
+    /// Posts a job, whose number it answers, and tells the worker. The room for the values of its wishes is made, and written to, before the lock is taken.
     fn send<R: Wait>(
         &self,
         rt: &R,
@@ -148,10 +149,13 @@ impl<W: Ledger, L: HistoryName> Hall<W, L> {
         ensures refused { OnErr result (HasSeen pass.old pass.new) }
         ensures refusal { IfErr result (IsRefused pass.new) }
     {
+        let Ok(room) = room_for(self.alloc, wishes.len()) else {
+            return Err(self.entrance.enter(rt, &self.state).refuse(pass));
+        };
         let number = self
             .entrance
             .enter(rt, &self.state)
-            .post(pass, job, wishes)?;
+            .post(pass, job, wishes, room)?;
         self.moved.notify_all();
         Ok(number)
     }
@@ -288,8 +292,9 @@ impl<W: Ledger, L: HistoryName> Hall<W, L> {
         unreachable!()
     }
 
-    /// Answers a question: `ask_on` under the lock, of the kernel whose minutes the pass has seen now: what it had seen is a beginning of them, and all
-    /// its posts are among them. Whether code can be executed as it stands is told with the lock free. The only refusal is `Memory`.
+    /// Answers a question: `ask_on` under the lock, of the kernel whose minutes the pass has seen now, and of the comms that were open then: what it had seen
+    /// is a beginning of them, and all its posts are among them. Whether code can be executed as it stands is told with the lock free. The only refusal is
+    /// `Memory`.
     pub fn ask<R: Wait>(
         &self,
         rt: &R,
@@ -297,7 +302,7 @@ impl<W: Ledger, L: HistoryName> Hall<W, L> {
         ask: Ask<'_>,
     ) -> Result<Answer, HallFault>
         ensures answer { IfOk result
-            (λ answer. (k : Machine) × (comms : List (List ℕ)) × IsLegalMachine k × (k.minutes ≡ pass.new.front) × IsAnswer k comms ask.entry answer) }
+            (λ answer. (k : Machine) × IsLegalMachine k × (k.minutes ≡ pass.new.front) × IsAnswer k (comms_in pass.new.notes) ask.entry answer) }
         ensures seen { HasSeen pass.old pass.new }
         ensures own { pass.new.posts ≤ posted_in pass.new.front }
         ensures refusal { IfErr result (λ f. f ≡ HallFault.Memory) }
@@ -316,26 +321,34 @@ impl<W: Ledger, L: HistoryName> Hall<W, L> {
         }
     }
 
-    /// Opens or closes a comm, and tells whether it did: `comm_on` under the lock. The pass has seen the minutes beside it.
+    /// Opens or closes a comm, and tells whether it did: `comm_on` under the lock, over the comms that were open then. The change is the last one that the pass
+    /// has seen now. The only refusal is `Memory`, of an opening.
     pub fn comm<R: Wait>(
         &self,
         rt: &R,
         pass: &mut Pass<L>,
         change: CommChange<'_>,
     ) -> Result<bool, HallFault>
+        ensures change { IsNotedChange pass.old.notes change.entry result pass.new.notes }
         ensures seen { HasSeen pass.old pass.new }
         ensures legal { AreLegal pass.new.front }
         ensures refusal { IfErr result (λ f. f ≡ HallFault.Memory) }
     {
         let mut state = self.entrance.enter(rt, &self.state);
         state.see(pass);
-        state.comm(change)
+        let told = state.comm(change);
+        state.see(pass);
+        told
     }
 
-    /// From now on each post is refused, and each job that is taken. It interrupts nothing, and takes no memory.
-    pub fn shut<R: Wait>(&self, rt: &R) {
-        self.entrance.enter(rt, &self.state).shut();
+    /// From now on each post is refused, and each job that is taken. It interrupts nothing, and takes no memory. What is handed out has seen the shutdown in
+    /// the notes of this hall.
+    pub fn shut<R: Wait>(&self, rt: &R) -> Front<Note, Beside<L>>
+        ensures { has_shutdown result ≡ true }
+    {
+        let seen = self.entrance.enter(rt, &self.state).shut();
         self.moved.notify_all();
+        seen
     }
 
     /// `shut` for a frontend, whose pass has seen the shutdown then: so each later post of it is refused as `Closing`.
@@ -345,7 +358,7 @@ impl<W: Ledger, L: HistoryName> Hall<W, L> {
         ensures legal { AreLegal pass.new.front }
     {
         let mut state = self.entrance.enter(rt, &self.state);
-        state.shut();
+        let _seen = state.shut();
         state.see(pass);
         drop(state);
         self.moved.notify_all();

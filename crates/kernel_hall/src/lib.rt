@@ -5,7 +5,8 @@
 //! the kernel, exact on the parts that are lent. To the layer above the hall promises one history for all: each pass holds what it has seen of the
 //! minutes. What it sees next begins with that, and is the minutes of a legal kernel. Its own posts stand there, each with its lane, its job and
 //! its number, and what is answered of a job is the end of that number, with the shown text and the values of the wishes that were posted with it.
-//! A question is answered of the kernel whose minutes it sees then, and who has seen a shutdown has each post refused as closing. As a hall is
+//! A question is answered of the kernel whose minutes it sees then, and of the comms that are open by its notes, which each change of them
+//! extends; and who has seen a shutdown has each post refused as closing. As a hall is
 //! closed, what the frontends came away with is compared with the minutes, and what each pass has seen is a beginning of them.
 //!
 //! `hall` has the calls and `worker` the runner's thread; `entrance` is how frontends come to the lock, `ends` where they wait for their
@@ -22,9 +23,9 @@ mod worker;
 
 pub use hall::Hall;
 pub use hall_state::{
-    Answer, Ask, AuditFault, Begun, CellText, CommChange, Comms, Content, Done, Entry, HallFault,
-    HistoryName, Job, Kernel, Minutes, NewHistory, Note, Outcome, PARTS_OF_POSTS, PASSES, Pass,
-    Passes, PendingResult, PostFault, Refusal, STEPS_OF_A_SLICE, Sliced, State, Ticket, Turn, Wish,
-    ask_on, audit, comm_on, turn_on,
+    Answer, Ask, AuditFault, Begun, Beside, CellText, CommChange, Comms, Content, Done, Entry,
+    Front, HallFault, HistoryName, Job, Kernel, Minutes, NewHistory, Note, Outcome, PARTS_OF_POSTS,
+    PASSES, Pass, Passes, PendingResult, PostFault, Refusal, STEPS_OF_A_SLICE, Sliced, State,
+    Ticket, Turn, Wish, ask_on, audit, comm_on, turn_on,
 };
 pub use worker::{Gate, Moment, work};

@@ -46,6 +46,5 @@ pub use crate::open_cell::OpenCell;
 pub use crate::tree::HistoryTree;
 pub use crate::view::View;
 pub use kernel_loader::{
-    Args, Names, Program, RoomFault, Row, Runner, StackView, Store, Tally, ValueView,
-    names_in_sight,
+    Args, DeclaredNames, Names, Program, RoomFault, Row, Runner, StackView, Store, Tally, ValueView,
 };

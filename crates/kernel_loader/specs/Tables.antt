@@ -1,5 +1,5 @@
 -- The tables of a runner between two cells, as the check of a cell sees them.
-use Rattle.std.specs.Prelude.{◌≤◌, List, map}
+use Rattle.std.specs.Prelude.{◌≤◌, List, [], map}
 use Rattle.janus_meaning.specs.Syntax.{Name}
 use Rattle.janus_meaning.specs.FormedWorld.{HaveValues}
 use Rattle.janus_meaning.specs.Limit.{name_limit}
@@ -15,6 +15,10 @@ use Rattle.kernel_loader.specs.Kinds.{kind_in}
 -- the declared names in order, each with the kind of its value
 abbrev pub names_shown : StoreState → List (Name × Kind)
 names_shown h = map (λ e. (e.0, kind_in e.1)) (listed (shown_store h))
+
+-- what is known by a store alone: its declared names, and no procedure
+abbrev pub declared_by : StoreState → Known
+declared_by h = record { names = names_shown h; procedures = [] }
 
 -- What is known by a store and by the procedures in effect, each under the name of its number.
 abbrev pub known_by : StoreState → List numbers.Name → Procedures → Known

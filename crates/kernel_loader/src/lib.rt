@@ -5,11 +5,11 @@
 //!   made flat and linked, with slots in place of names, the names of its procedures and no others come into the runner's table behind the old ones, and the
 //!   bodies of its procedures are kept behind those of earlier cells. What is refused is refused for the text's fault or for want of memory
 //!   (`Text` of `kernel_machine`). A well-formed world that the runner showed it goes on to show.
-//! - `names_in_sight` gives the names that a store declares, as the check of a cell sees them.
+//! - `DeclaredNames` are the names that a store declares, lent to the check of an expression.
 //!
-//! The code, in reading order: `sight` (the names that a store declares), `tables` (what a cell is checked over: the runner's own tables, of which nothing
-//! is copied), `checking` (a text's cell, and its check), `listing` (the names of its procedures), `keeping` (their bodies), `loader` (all of these for one
-//! text).
+//! The code, in reading order: `sight` (the names that a store declares), `tables` (what a cell is checked over: these and the runner's own tables, of which
+//! nothing is copied), `checking` (a text's cell, and its check), `listing` (the names of its procedures), `keeping` (their bodies), `loader` (all of these for
+//! one text).
 //!
 //! The definitions are in specs/: `Kinds`, `Defined`, `InEffect`, `Tables`, `Known` (what a cell is checked over), `Keeping` (the bodies that are kept) and
 //! `Loading` (what stays while a cell is loaded, what is ready, and which names of procedures are new).
@@ -28,7 +28,7 @@ mod sight;
 mod tables;
 
 pub use crate::loader::load;
-pub use crate::sight::names_in_sight;
+pub use crate::sight::DeclaredNames;
 pub use kernel_runner::{
     Args, Book, CountedStore, Cursor, Names, Procedures, Program, RoomFault, Row, Runner,
     StackView, Store, Tally, ValueView, slice,

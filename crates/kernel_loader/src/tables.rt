@@ -3,9 +3,8 @@ ghost use Rattle.std.specs.Prelude.{◌≡◌, length};
 ghost use Rattle.kernel_loader.specs.InEffect.{in_effect_from};
 ghost use Rattle.kernel_loader.specs.Tables.{IsReadable, known_by};
 
-use crate::sight::kind_of;
+use crate::sight::DeclaredNames;
 use janus_check::{Kind, SymbolTable};
-use janus_meaning::limit::LIVE_STACK_LIMIT;
 use janus_names::Names;
 use kernel_runner::{Procedures, Store};
 use std::marker::Model;
@@ -14,20 +13,18 @@ use std::sync::ledger::Ledger;
 /// The declared names of a store between two cells, and the procedures in effect with the table of their names, lent. Contracts see what is known by them.
 #[derive(Drop)]
 pub struct Tables<'a, L: Ledger> {
-    store: &'a Store<L>,
+    declared: DeclaredNames<'a, L>,
     entries: &'a Names,
     procedures: &'a Procedures,
 }
 
 impl<'a, L: Ledger> Model for Tables<'a, L> {
     ghost use Rattle.janus_check.specs.Names.{Known};
-    ghost use Rattle.kernel_loader.specs.Tables.{IsReadable, known_by};
+    ghost use Rattle.kernel_loader.specs.InEffect.{in_effect_from};
 
     ghost Value = { Known };
 
-    ghost view = { λ t. known_by t.store.now t.entries.now t.procedures.now };
-
-    ghost invariant = { λ t. IsReadable t.store.now };
+    ghost view = { λ t. record { names = t.declared.names; procedures = in_effect_from t.procedures.now 0 t.entries.now } };
 }
 
 impl<'a, L: Ledger> Tables<'a, L> {
@@ -37,7 +34,7 @@ impl<'a, L: Ledger> Tables<'a, L> {
         ensures { result ≡ known_by store.now entries.now procedures.now }
     {
         Tables {
-            store,
+            declared: DeclaredNames::new(store),
             entries,
             procedures,
         }
@@ -48,17 +45,11 @@ impl<'a, L: Ledger> SymbolTable for Tables<'a, L> {
     ghost known = { λ t. t };
 
     fn kind(&self, name: &str) -> Option<Kind> {
-        match self.store.value(name) {
-            Some(value) => Some(kind_of(value)),
-            None => None,
-        }
+        self.declared.kind(name)
     }
 
     fn place(&self, name: &str) -> Option<usize> {
-        self.store.slots_law();
-        let texts = self.store.texts();
-        texts.few_law();
-        texts.number(name)
+        self.declared.place(name)
     }
 
     fn head(&self, name: &str) -> Option<&[Kind]> {
@@ -73,12 +64,11 @@ impl<'a, L: Ledger> SymbolTable for Tables<'a, L> {
     }
 
     fn len(&self) -> usize {
-        self.store.len()
+        self.declared.len()
     }
 
     fn stacks(&self) -> usize {
-        self.store.slots_law();
-        LIVE_STACK_LIMIT - self.store.stacks_left()
+        self.declared.stacks()
     }
 
     fn procedures(&self) -> usize {

@@ -47,8 +47,8 @@ impl Publication {
     }
 }
 
-/// The messages that go out in answer to a request, before they are signed. They are sent in the order in which they are numbered:
-/// the reply, then the broadcasts.
+/// The messages that go out in answer to a request, before they are signed. They are numbered in this order: the reply, then the broadcasts. Whoever sends them
+/// decides which goes out first; `kernel_session` publishes the broadcasts, and then writes the reply.
 #[derive(Drop)]
 pub struct Outgoing {
     /// The reply to who asked, if the request has one.

@@ -12,8 +12,8 @@ use clap::error::ErrorKind as ClapErrorKind;
 use jupyter_msg::Key;
 use kernel_bell::{Bell, RINGERS};
 use kernel_places::{
-    ALL_PLACES, Comms, Entry, Hall, HistoryName, Kernel, Listeners, NewHistory, Note,
-    PARTS_OF_POSTS, PLACES, Seats, Service, Times, serve_all,
+    ALL_PLACES, Entry, Hall, HistoryName, Kernel, Listeners, NewHistory, Note, PARTS_OF_POSTS,
+    PLACES, Seats, Service, Times, serve_all,
 };
 use program_words::{send_unread_words, unread_words_status, words_status};
 use rand::make_rng;
@@ -65,15 +65,7 @@ fn new_hall<W: Ledger, L: HistoryName>(
     let Ok(kernel) = Kernel::<W>::new(alloc, writes) else {
         return Err(AllocError);
     };
-    let hall = Hall::<W, L>::new(
-        alloc,
-        posts,
-        history,
-        notes,
-        kernel,
-        Comms::new(alloc),
-        bell,
-    );
+    let hall = Hall::<W, L>::new(alloc, posts, history, notes, kernel, bell);
     Ok((hall, Seats { runner, ringers }))
 }
 

@@ -27,6 +27,6 @@ pub use crate::writing::send_counted;
 pub use exact_write::{WriteFailed, send};
 pub use janus_memory::{StackView, ValueView};
 pub use kernel_core::{
-    Begun, CellText, CheckFault, Entry, Fault, Job, Kernel, Outcome, Phase, PostFault, Refusal,
-    STEPS_OF_A_SLICE, Sliced, SyntaxFault, TravelEnd, names_in_sight,
+    Begun, CellText, CheckFault, DeclaredNames, Entry, Fault, Job, Kernel, Outcome, Phase,
+    PostFault, Refusal, STEPS_OF_A_SLICE, Sliced, SyntaxFault, TravelEnd,
 };

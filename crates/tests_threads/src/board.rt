@@ -2,7 +2,8 @@
 //! broadcasts of the numbers from the first on, and gives how many of them got their own number. `follow` (two numbers, and how many turns at most)
 //! gives where a reader stands that reads on from the first place up to the second, and how many broadcasts it read and missed; it is wrong where a
 //! read is not in order from its place on, or a lag doesn't lead it forward. `followed` (how many readers, and how many broadcasts) publishes while
-//! readers on threads read on from the start: how many broadcasts got their number, and how many readers went wrong. `clone` (a number, and frames)
+//! readers on threads read on from the start: how many broadcasts got their number, and how many readers went wrong. `publishers` (how many threads, and how
+//! many broadcasts of each) publishes from threads: the sum of the numbers that the broadcasts got. `clone` (a number, and frames)
 //! gives the topic and the octets of a broadcast of that many times these frames, and of its clone once it is gone itself. `constants` gives how a
 //! fault is told: its number, its name and its text; and how many broadcasts are kept, and how many a read gives at most.
 use crate::broadcasts::{cloned, in_order, numbered};
@@ -44,6 +45,7 @@ fn answer<R: Threads + Wait + Sync>(rt: &R, board: &Board, call: &str, sheet: &m
         "publish" => publish(rt, board, number(first), number(rest), sheet),
         "follow" => follow_row(rt, board, number(first), rest, sheet),
         "followed" => followed(rt, board, number(first), number(rest), sheet),
+        "publishers" => publishers(rt, board, number(first), number(rest), sheet),
         "clone" => cloned(number(first), rest, sheet),
         _ => constants(sheet),
     }
@@ -229,6 +231,65 @@ fn followed<R: Threads + Wait + Sync>(
             note("published ", &count, sheet);
             note(", wrong ", &wrong, sheet);
         }
+        _ => sheet.refuse(),
+    }
+}
+
+/// Publishes broadcasts, and adds up the numbers that they get, or counts where memory was refused.
+fn publish_all<R: Wait>(
+    rt: &R,
+    alloc: Global,
+    board: &Board,
+    count: usize,
+    sum: &AtomicU64,
+    refused: &AtomicU64,
+) {
+    for _ in 0..count {
+        match numbered(alloc, 0) {
+            Ok(broadcast) => sum.fetch_add(board.publish(rt, broadcast), Ordering::SeqCst),
+            Err(_) => refused.fetch_add(1, Ordering::SeqCst),
+        };
+    }
+}
+
+/// Publishes from threads: the sum of the numbers that the broadcasts got, and how often memory was refused.
+fn published_by_threads<R: Threads + Wait + Sync>(
+    rt: &R,
+    alloc: Global,
+    board: &Board,
+    threads: usize,
+    count: usize,
+) -> (u64, u64) {
+    let (sum, refused) = (AtomicU64::new(0), AtomicU64::new(0));
+    let (sum_seen, refused_seen) = (&sum, &refused);
+    thread::scope(thread::scope_env(), rt, |scope| {
+        for _ in 0..threads {
+            let started = scope.spawn(move || publish_all(
+                rt,
+                alloc,
+                board,
+                count,
+                sum_seen,
+                refused_seen,
+            ));
+            if started.is_err() {
+                refused_seen.fetch_add(1, Ordering::SeqCst);
+            }
+        }
+    });
+    (sum.into_inner(), refused.into_inner())
+}
+
+/// Publishes from threads, and writes the sum of the numbers.
+fn publishers<R: Threads + Wait + Sync>(
+    rt: &R,
+    board: &Board,
+    threads: usize,
+    count: usize,
+    sheet: &mut Sheet,
+) {
+    match published_by_threads(rt, sheet.alloc(), board, threads, count) {
+        (sum, 0) => sheet.show(&sum),
         _ => sheet.refuse(),
     }
 }

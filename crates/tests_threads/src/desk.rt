@@ -5,8 +5,8 @@ ghost use Rattle.std.specs.Prelude.{◌≡◌, ◌<◌};
 use crate::lines::note;
 use kernel_bell::{Bell, RingerSeat, RunnerSeat};
 use kernel_hall::{
-    Begun, Comms, Entry, Gate, Hall, HistoryName, Kernel, NewHistory, Note, Outcome,
-    STEPS_OF_A_SLICE, Sliced, Turn, work,
+    Begun, Entry, Gate, Hall, HistoryName, Kernel, NewHistory, Note, Outcome, STEPS_OF_A_SLICE,
+    Sliced, Turn, work,
 };
 use std::alloc::{AllocError, Global};
 use std::sync::Wait;
@@ -47,15 +47,7 @@ impl<W: Ledger, L: HistoryName> Desk<W, L> {
         let Ok(kernel) = Kernel::new(alloc, writes) else {
             return Err(AllocError);
         };
-        let hall = Hall::new(
-            alloc,
-            posts,
-            history,
-            notes,
-            kernel,
-            Comms::new(alloc),
-            bell,
-        );
+        let hall = Hall::new(alloc, posts, history, notes, kernel, bell);
         Ok(Desk { hall, seat, ringer })
     }
 

@@ -1,9 +1,10 @@
 //! A peer: one end of a connection, in one role.
 ghost use Rattle.std.specs.Prelude.{◌≡◌, ◌≢◌, ℕ, List, ◌+◌, ◌<◌, ◌≤◌, ◌↔◌, ◌⊎◌, [], ◌++◌, take, length, vec_capacity};
-ghost use Rattle.std.specs.Prelude.{IfOk, IfErr, IfSome, IfNone, IsErrAnd, IsTrue};
+ghost use Rattle.std.specs.Prelude.{IfOk, OnOk, IfErr, IfSome, IfNone, IsErrAnd, IsTrue};
 ghost use Rattle.zmtp_wire.specs.declared.fault.WireFault.{WireFault};
 ghost use Rattle.zmtp_wire.specs.Greeting.{IsGreeting, IsGreetingFault, minor_in};
 ghost use Rattle.zmtp_wire.specs.Frame.{written, IsWriteFault};
+ghost use Rattle.zmtp_wire.specs.Tally.{octet_limit};
 ghost use Rattle.zmtp_peer.specs.Faults.{Fault, Wire, fault_of, want_of_memory};
 ghost use Rattle.zmtp_peer.specs.Events.{Event, Refused, events_of};
 ghost use Rattle.zmtp_peer.specs.Intake.{IsRefusal, state_at};
@@ -139,6 +140,8 @@ impl Peer {
         requires { IsReady self.now.state }
         ensures octets { (fed : List ℕ) → (given : List Event) → Stands fed given self.now → IfOk result (λ octets.
             octets.items ≡ written (subscription_frame (terms_of self.now.role self.now.greeting) prefix.now)) }
+        ensures within { (fed : List ℕ) → (given : List Event) → Stands fed given self.now → OnOk result
+            (length (subscription_frame (terms_of self.now.role self.now.greeting) prefix.now).body ≤ octet_limit) }
         ensures fault { (fed : List ℕ) → (given : List Event) → Stands fed given self.now → IfErr result (λ fault.
             fault ≢ WireFault.Memory → IsWriteFault (subscription_frame (terms_of self.now.role self.now.greeting) prefix.now) fault) }
     {

@@ -1,6 +1,7 @@
 //! How this end subscribes.
-ghost use Rattle.std.specs.Prelude.{◌≡◌, ◌≢◌, IfOk, IfErr};
+ghost use Rattle.std.specs.Prelude.{◌≡◌, ◌≢◌, ◌≤◌, length, IfOk, OnOk, IfErr};
 ghost use Rattle.zmtp_wire.specs.Frame.{written, IsWriteFault, frame_of};
+ghost use Rattle.zmtp_wire.specs.Tally.{octet_limit};
 ghost use Rattle.zmtp_peer.specs.Subscribing.{subscription_frame};
 
 use crate::terms::Terms;
@@ -32,6 +33,7 @@ pub(crate) fn subscription_octets(
     prefix: &[u8],
 ) -> Result<Vec<u8>, WireFault>
     ensures octets { IfOk result (λ octets. octets.items ≡ written (subscription_frame terms prefix.now)) }
+    ensures within { OnOk result (length (subscription_frame terms prefix.now).body ≤ octet_limit) }
     ensures fault { IfErr result (λ fault. fault ≢ WireFault.Memory → IsWriteFault (subscription_frame terms prefix.now) fault) }
 {
     let frame = match subscription(alloc, terms, prefix) {

@@ -1,5 +1,7 @@
 //! What stands before a frame's body: the flags and the size (RFC 23, "Formal Grammar": command and message).
-ghost use Rattle.std.specs.Prelude.{◌≡◌, ◌&&◌, ◌++◌, ◌<◌, false, length, nat_lt, take, IfErr, IfNone, IfOk, IfSome, OnOk};
+ghost use Rattle.std.specs.Prelude.{◌≡◌, ◌&&◌, ◌+◌, ◌++◌, ◌<◌, ◌≤◌, false, length, nat_lt, take, vec_len, vec_capacity};
+ghost use Rattle.std.specs.Prelude.{IfErr, IfNone, IfOk, IfSome, OnOk, OnErr};
+ghost use Rattle.zmtp_wire.specs.declared.message.TheConstants.{HEADER_LENGTH};
 ghost use Rattle.zmtp_wire.specs.Header.{flags, size_octets, size_bound, header_octets};
 ghost use Rattle.zmtp_wire.specs.Fronts.{HasHeader, IsHeaderBegun, HasBadFlags, IsBadFlags};
 
@@ -96,6 +98,9 @@ impl Header {
     pub(crate) fn write(self, octets: &mut Vec<u8>) -> Result<(), AllocError>
         ensures ok { OnOk result (octets.new.items ≡ octets.old.items ++ header_octets (nat_lt 255 self.size) self) }
         ensures front { take (length octets.old.items) octets.new.items ≡ octets.old.items }
+        ensures size { OnOk result (vec_len octets.new ≤ vec_len octets.old + HEADER_LENGTH) }
+        ensures capacity { vec_capacity octets.old ≤ vec_capacity octets.new }
+        ensures full { OnErr result (vec_capacity octets.old < vec_len octets.old + HEADER_LENGTH) }
     {
         let flags = Flags {
             more: self.more,

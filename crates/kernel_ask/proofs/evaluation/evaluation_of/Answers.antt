@@ -1,4 +1,4 @@
-use Rattle.std.proofs.Common.{◌≡◌, ℕ, List, Option, IfSome, Result, Err, sym, subst}
+use Rattle.std.proofs.Common.{◌≡◌, ℕ, List, Result, Err, sym, subst}
 use Rattle.janus_meaning.specs.Store.{Store}
 use Rattle.janus_syntax.specs.Forms.{Whole}
 use Rattle.janus_syntax.specs.Text.{IsParsedExp, Refuses}
@@ -6,7 +6,7 @@ use Rattle.janus_syntax.specs.declared.tree.Exp as code
 use Rattle.janus_syntax.specs.declared.fault.SyntaxFault.{SyntaxFault}
 use Rattle.janus_syntax.specs.declared.fault.SyntaxFault.TheVariants as fault
 use Rattle.janus_meaning.specs.Shape.{shape_of}
-use Rattle.janus_check.specs.Names.{Known, shape_in}
+use Rattle.janus_check.specs.Names.{shape_in}
 use Rattle.kernel_text.specs.Text.{refused_by_syntax}
 use Rattle.kernel_text.specs.outcome.Refusal.{Refusal}
 use Rattle.kernel_ask.specs.declared.done.ExpFault.TheVariants.{Refused}
@@ -25,11 +25,10 @@ told s text fault.Memory r refused is = rw is tt
 
 pub value_of-requires : goal.value_of-requires
 value_of-requires g c =
-    let given = subst (λ (o : Option Known). IfSome o (λ (env : Known). shape_in env.names ≡ shape_of c.args.store.now.sight)) c.in-Some.is c.requires.names in
-    record { names = subst (λ (s : Store). shape_in c.in-Some.env.names ≡ shape_of s) c.slots_law.ensures.sight given }
+    record { names = subst (λ (s : Store). shape_in c.args.names.now.names ≡ shape_of s) c.slots_law.ensures.sight c.requires.names }
 
-pub returns-in-Some : goal.returns-in-Some
-returns-in-Some g c = λ text read.
+pub returns-in-Ok : goal.returns-in-Ok
+returns-in-Ok g c = λ text read.
     subst (λ (s : Store). IsEvaluated s text c.value_of.result) (sym c.slots_law.ensures.sight)
     (c.value_of.ensures text (subst (λ (r : Result code.Exp SyntaxFault). IsParsedExp text r) c.in-Ok.is read))
 

@@ -7,5 +7,5 @@ returns-clause-err g c =
     let body = c.args.body.now in
     subst
     (λ (octets : List ℕ). OnErr c.join_or_send.result (SentSome (g.W.Write.contents c.args.writer.now) (g.W.Write.contents c.join_or_send.new.writer) octets))
-    (ap (λ (octets : List ℕ). octets ++ body) c.in_ok-write.ensures.ok ∙ append_assoc c.args.joined.now.items _ body)
+    (ap (λ (octets : List ℕ). octets ++ body) c.in-Ok.ensures.ok ∙ append_assoc c.args.joined.now.items _ body)
     c.join_or_send.ensures.err

@@ -3,7 +3,7 @@ use Rattle.std.proofs.lemmas.List.{with_items_is, places}
 use Rattle.kernel_audit.specs.Notes.{wished_in}
 use Rattle.hall_state.specs.PendingResults.{AreBeside, WasTold}
 use Rattle.hall_state.specs.declared.pending_result.PendingResult.{PendingResult}
-use Rattle.hall_state.proofs.Beside.{beside_on, first_made, first_told, nowhere, nowhere_settled}
+use Rattle.hall_state.proofs.BesidePosts.{beside_on, first_made, first_told, nowhere, nowhere_settled}
 use Rattle.hall_state.proofs.state.State.done.Goals as goal
 
 pub invariant_of-self : goal.invariant_of-self
@@ -17,6 +17,7 @@ invariant_of-self g c =
       counted = old.counted;
       told = old.told;
       closes = old.closes;
+      open_comms = old.open_comms;
       beside = subst (λ (l : List PendingResult). ∥ AreBeside old.settled m.minutes wished l ∥₁)
           (sym (with_items_is old.pending_results c.fetch_first.new.pending_results (search (rules, places))))
           (beside_on old.settled m.minutes wished c.deref_mut.result.now c.fetch_first.new.pending_results c.args.number c.fetch_first.result b
@@ -35,6 +36,7 @@ invariant_of-self-else-is_first g c =
       counted = old.counted;
       told = old.told;
       closes = old.closes;
+      open_comms = old.open_comms;
       beside = subst (λ (l : List PendingResult). ∥ AreBeside old.settled m.minutes wished l ∥₁)
           (sym (with_items_is old.pending_results c.fetch.new.pending_results (search (rules, places))))
           (beside_on old.settled m.minutes wished c.deref_mut-else-is_first.result.now c.fetch.new.pending_results c.args.number c.fetch.result b

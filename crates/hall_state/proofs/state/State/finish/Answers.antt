@@ -5,7 +5,7 @@ use Rattle.hall_state.specs.OpenResults.{IsOpen}
 use Rattle.hall_state.specs.PendingResults.{AreBeside, AreKept, AreUntold}
 use Rattle.hall_state.specs.declared.open_result.OpenResult.{OpenResult}
 use Rattle.hall_state.specs.declared.pending_result.PendingResult.{PendingResult}
-use Rattle.hall_state.proofs.Beside.{open_is, goes_on, stands_there, beside_then, results_then, kept_then_too, untold_then}
+use Rattle.hall_state.proofs.BesidePosts.{open_is, goes_on, stands_there, beside_then, results_then, kept_then_too, untold_then}
 use Rattle.hall_state.proofs.state.State.finish.Goals as goal
 
 pub settle_last-spent-requires-clause-there : goal.settle_last-spent-requires-clause-there
@@ -39,6 +39,7 @@ invariant_of-self g c =
       counted = old.counted;
       told = old.told;
       closes = old.closes;
+      open_comms = old.open_comms;
       beside = subst (λ (l : List PendingResult). ∥ AreBeside r.number m.minutes wished l ∥₁)
           (sym (with_items_is old.pending_results next (search (rules, places))))
           (beside_then old.settled m wished r es next c.settle_last-spent.ensures b h);

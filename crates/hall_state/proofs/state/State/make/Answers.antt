@@ -6,7 +6,7 @@ use Rattle.hall_state.specs.PendingResults.{AreBeside, AreKept, AreUntold}
 use Rattle.hall_state.specs.declared.open_result.OpenResult.{OpenResult}
 use Rattle.hall_state.specs.declared.pending_result.PendingResult.{PendingResult}
 use Rattle.hall_state.proofs.Places.{some_same}
-use Rattle.hall_state.proofs.Beside.{open_is, goes_on, stands_there, beside_then, results_then, kept_then_too, untold_then}
+use Rattle.hall_state.proofs.BesidePosts.{open_is, goes_on, stands_there, beside_then, results_then, kept_then_too, untold_then}
 use Rattle.hall_state.proofs.state.State.make.Goals as goal
 
 pub invariant_of-self-then-make : goal.invariant_of-self-then-make
@@ -18,6 +18,7 @@ invariant_of-self-then-make g c =
       counted = old.counted;
       told = old.told;
       closes = old.closes;
+      open_comms = old.open_comms;
       beside = old.beside;
       results = goes_on old.settled m wished c.make.new.self c.in-Some.made c.make.ensures.goes
           (open_is old.settled m wished c.in-Some.made old.under_way c.in-Some.is old.results);
@@ -56,6 +57,7 @@ invariant_of-self-in-Some-take g c =
       counted = old.counted;
       told = old.told;
       closes = old.closes;
+      open_comms = old.open_comms;
       beside = subst (λ (l : List PendingResult). ∥ AreBeside r.number m.minutes wished l ∥₁)
           (sym (with_items_is old.pending_results next (search (rules, places))))
           (beside_then old.settled m wished r es next c.settle_last.ensures b h);

@@ -1,9 +1,9 @@
-use Rattle.std.proofs.Common.{◌≡◌, List, [], None, ap, sym, subst, rules}
-use Rattle.kernel_audit.specs.Notes.{wished_in}
+use Rattle.std.proofs.Common.{◌≡◌, ◌∙◌, List, [], None, ap, sym, subst, rules}
+use Rattle.kernel_audit.specs.Notes.{wished_in, comms_in}
 use Rattle.kernel_audit.specs.Wishes.{WishOf}
 use Rattle.hall_state.specs.OpenResults.{AreSettled}
 use Rattle.hall_state.specs.PendingResults.{AreBeside}
-use Rattle.hall_state.proofs.Beside.{beside_new, settled_new}
+use Rattle.hall_state.proofs.BesidePosts.{beside_new, settled_new}
 use Rattle.hall_state.proofs.state.State.new.Goals as goal
 
 pub invariant_of-result : goal.invariant_of-result
@@ -14,8 +14,9 @@ invariant_of-result g c =
       counted = search rules;
       told = search rules;
       closes = search rules;
-      beside = subst (λ (w : List (List WishOf)). ∥ AreBeside 0 minutes w c.new-2.result.items ∥₁) (sym none)
-          ∣ beside_new minutes c.new-2.result.items c.requires.fresh c.new-2.ensures.items ∣₁;
+      open_comms = ap comms_in c.keeper-2.ensures ∙ sym c.new.ensures;
+      beside = subst (λ (w : List (List WishOf)). ∥ AreBeside 0 minutes w c.new-3.result.items ∥₁) (sym none)
+          ∣ beside_new minutes c.new-3.result.items c.requires.fresh c.new-3.ensures.items ∣₁;
       results = subst (λ (w : List (List WishOf)). ∥ AreSettled 0 c.args.kernel.machine w None ∥₁) (sym none)
           ∣ settled_new c.args.kernel.machine c.requires.fresh ∣₁;
     }

@@ -4,7 +4,7 @@ use Rattle.kernel_audit.specs.Runs.{Machine}
 use Rattle.kernel_audit.specs.Notes.{wished_in}
 use Rattle.hall_state.specs.PendingResults.{IsNewPending}
 use Rattle.hall_state.proofs.Posts.{stands}
-use Rattle.hall_state.proofs.Beside.{many_wishes}
+use Rattle.hall_state.proofs.BesidePosts.{many_wishes}
 use Rattle.hall_state.proofs.state.State.post.Goals as goal
 
 pub returns-in-Ok-clause-stands : goal.returns-in-Ok-clause-stands

@@ -12,7 +12,7 @@ use Rattle.hall_state.specs.OpenResults.{AreSettled}
 use Rattle.hall_state.specs.PendingResults.{IsNewPending, IsWaiting, AreBeside}
 use Rattle.hall_state.specs.declared.pending_result.PendingResult.{PendingResult}
 use Rattle.hall_state.proofs.Posts.{one_more}
-use Rattle.hall_state.proofs.Beside.{beside_posted, results_posted, many_wishes}
+use Rattle.hall_state.proofs.BesidePosts.{beside_posted, results_posted, many_wishes}
 use Rattle.hall_state.proofs.state.State.queue.Goals as goal
 
 pub invariant_of-self-2 : goal.invariant_of-self-2
@@ -37,6 +37,7 @@ invariant_of-self-2 g c =
       counted = omega arith;
       told = c.follow.ensures;
       closes = c.note_wishes-wishes.ensures.shut ∙ old.closes ∙ sym (ap (λ (m : Machine). m.closing) is);
+      open_comms = c.note_wishes-wishes.ensures.comms ∙ old.open_comms;
       beside = ∥∥₁_map old.beside (λ a.
           subst (λ (l : List Entry). AreBeside old.settled l (wished_in c.note_wishes-wishes.new.notes) c.push_reserved.new.self.items)
           (sym (ap (λ (m : Machine). m.minutes) is))
@@ -62,3 +63,6 @@ returns-clause-pending_result g c =
           (subst (λ (w : List WishOf). IsNewPending (length c.minutes-place.result.now) w e) given c.new.ensures),
       c.push_reserved.ensures.items ∙ ap (λ es. es ++ e ∷ []) c.reserve.ensures.items,
     )
+
+pub returns-clause-serves : goal.returns-clause-serves
+returns-clause-serves g c = c.in_ok-number.ensures.post.0.serves

@@ -7,7 +7,7 @@ use Rattle.hall_state.specs.OpenResults.{AreSettled}
 use Rattle.hall_state.specs.PendingResults.{AreBeside, AreKept}
 use Rattle.hall_state.specs.declared.pending_result.PendingResult.{PendingResult}
 use Rattle.hall_state.proofs.Turns.{just_ended}
-use Rattle.hall_state.proofs.Beside.{one_is_open, all_settled, last_index, beside_opened, results_opened, order_from, kept_then, opens_kept, untold_through}
+use Rattle.hall_state.proofs.BesidePosts.{one_is_open, all_settled, last_index, beside_opened, results_opened, order_from, kept_then, opens_kept, untold_through}
 use Rattle.hall_state.proofs.state.State.turn.Goals as goal
 
 pub open_last-opened-requires : goal.open_last-opened-requires
@@ -46,6 +46,7 @@ invariant_of-self g c =
       counted = f.counted ∙ sym c.turn_on-turn.ensures.posts;
       told = c.follow.ensures;
       closes = f.closes ∙ sym c.turn_on-turn.ensures.closing;
+      open_comms = f.open_comms;
       beside = subst (λ (l : List PendingResult). ∥ AreBeside f.settled m.minutes wished l ∥₁)
           (sym (with_items_is f.pending_results next (search (rules, places))))
           (subst (λ (k : ℕ). ∥ AreBeside k m.minutes wished next ∥₁) all (∥∥₁_map b (λ a. beside_opened before wished es next m r ended a s)));

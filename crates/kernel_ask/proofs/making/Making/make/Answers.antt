@@ -1,11 +1,8 @@
 use Rattle.std.proofs.Common.{arith}
 use Rattle.kernel_ask.proofs.making.Making.make.Goals as goal
 
-pub make_next-requires-clause-names : goal.make_next-requires-clause-names
-make_next-requires-clause-names g c = c.loop-i.invariant.2
-
 pub make_next-requires-clause-room : goal.make_next-requires-clause-room
-make_next-requires-clause-room g c = c.loop-i.invariant.3
+make_next-requires-clause-room g c = c.loop-i.invariant.2
 
 pub loop-i-preserved : goal.loop-i-preserved
 loop-i-preserved g c = (
@@ -13,7 +10,6 @@ loop-i-preserved g c = (
   let was = c.loop-i.invariant.1 in
       let fewer = c.make_next.ensures.fewer in
       omega (arith, was, fewer),
-  c.loop-i.invariant.2,
   c.make_next.ensures.room,
   let was = c.loop-i.invariant.1 in
       let some = c.make_next.ensures.some c.if-not-make_next.false in

@@ -1,7 +1,7 @@
-use Rattle.std.proofs.Common.{◌≡◌, ℕ, List, IfSome, ap, sym, subst, string_bytes}
+use Rattle.std.proofs.Common.{◌≡◌, ℕ, List, ap, sym, subst, string_bytes}
 use Rattle.janus_meaning.specs.Store.{Store}
 use Rattle.janus_meaning.specs.Shape.{shape_of}
-use Rattle.janus_check.specs.Names.{Known, shape_in}
+use Rattle.janus_check.specs.Names.{shape_in}
 use Rattle.kernel_text.specs.State.{here}
 use Rattle.kernel_ask.specs.Wishes.{WishOf}
 use Rattle.kernel_ask.specs.Evaluation.{IsEvaluated}
@@ -9,7 +9,7 @@ use Rattle.kernel_ask.proofs.wish.Wish.evaluate.Goals as goal
 
 pub evaluation_of-value-requires : goal.evaluation_of-value-requires
 evaluation_of-value-requires g c = record {
-  names = subst (λ (s : Store). IfSome c.args.names.now (λ (env : Known). shape_in env.names ≡ shape_of s)) (sym c.store.ensures.sight) c.requires.names;
+  names = subst (λ (s : Store). shape_in c.args.names.now.names ≡ shape_of s) (sym c.store.ensures.sight) c.requires.names;
 }
 
 pub returns-clause-name : goal.returns-clause-name

@@ -1,6 +1,6 @@
 use Rattle.zmtp_wire.specs.Message.{bodies_of, message_octets}
 use Rattle.zmtp_wire.proofs.UnderWay.{sent_rest}
-use Rattle.zmtp_wire.proofs.sending.send_message.Goals as goal
+use Rattle.zmtp_wire.proofs.sending.send_long.Goals as goal
 
 pub returns-clause-err : goal.returns-clause-err
 returns-clause-err g c =

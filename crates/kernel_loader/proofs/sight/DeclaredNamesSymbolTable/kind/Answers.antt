@@ -5,7 +5,7 @@ use Rattle.janus_check.specs.Names.{Known, meant_kind, shape_in}
 use Rattle.kernel_runner.specs.StoreState.{shown_store}
 use Rattle.kernel_runner.specs.FrameValues.{found}
 use Rattle.kernel_loader.proofs.Tabled.{kind_entered, kind_of_found}
-use Rattle.kernel_loader.proofs.tables.TablesSymbolTable.kind.Goals as goal
+use Rattle.kernel_loader.proofs.sight.DeclaredNamesSymbolTable.kind.Goals as goal
 
 pub returns-in-Some : goal.returns-in-Some
 returns-in-Some g c =

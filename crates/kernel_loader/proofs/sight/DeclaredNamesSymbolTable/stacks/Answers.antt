@@ -7,7 +7,7 @@ use Rattle.kernel_runner.specs.StoreState.{StoreState, IsWhole, shown_store, dec
 use Rattle.janus_meaning.specs.Shape.{stack_count}
 use Rattle.janus_check.specs.Names.{Known, shape_in}
 use Rattle.kernel_loader.proofs.Tabled.{stacks_entered}
-use Rattle.kernel_loader.proofs.tables.TablesSymbolTable.stacks.Goals as goal
+use Rattle.kernel_loader.proofs.sight.DeclaredNamesSymbolTable.stacks.Goals as goal
 
 -- between two cells the stacks that live are those of the declared names
 stacks_live : (h : StoreState) → IsWhole h → in_slots (shown_store h) ≡ declared_store h → live_stacks h ≡ stacks_in (shown_store h)

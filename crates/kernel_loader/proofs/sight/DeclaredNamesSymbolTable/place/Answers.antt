@@ -9,7 +9,7 @@ use Rattle.janus_check.specs.Names.{Known, shape_in}
 use Rattle.kernel_runner.specs.StoreState.{shown_store}
 use Rattle.kernel_loader.specs.Tables.{names_shown}
 use Rattle.kernel_loader.proofs.Tabled.{slot_entered, none_entered}
-use Rattle.kernel_loader.proofs.tables.TablesSymbolTable.place.Goals as goal
+use Rattle.kernel_loader.proofs.sight.DeclaredNamesSymbolTable.place.Goals as goal
 
 told : (x : Name) (g : Shape) (texts : List Name) (r : Option ℕ) → IfSome r (λ i. IsNumbered texts i x) → (r ≡ None → IsUnmet texts x) →
     ((i : ℕ) → IsNumbered texts i x → slot_in (names_of g) x ≡ slot i) → (IsUnmet texts x → kind_at x g ≡ None) →

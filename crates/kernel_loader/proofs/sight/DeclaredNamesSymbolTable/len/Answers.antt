@@ -2,7 +2,7 @@ use Rattle.std.proofs.Common.{length, ap, ◌∙◌, sym, arith}
 use Rattle.janus_check.specs.Names.{Known}
 use Rattle.kernel_runner.specs.StoreState.{shown_store}
 use Rattle.kernel_loader.proofs.Entries.{entries_count}
-use Rattle.kernel_loader.proofs.tables.TablesSymbolTable.len.Goals as goal
+use Rattle.kernel_loader.proofs.sight.DeclaredNamesSymbolTable.len.Goals as goal
 
 pub returns-clause-count : goal.returns-clause-count
 returns-clause-count g c =
