@@ -22,8 +22,10 @@ noted old before under new comms ids change told onward is changed same written 
 
 pub returns-clause-change : goal.returns-clause-change
 returns-clause-change g c =
-    noted c.args.pass.now.notes c.see.new.pass.notes _ c.see-2.new.pass.notes _ _ c.args.change c.comm-told.result c.see.ensures.seen.noted
-    c.comm-told.ensures.before c.comm-told.ensures.change (search rules) (search rules)
+    noted c.args.pass.now.notes c.see.new.pass.notes c.deref_mut-2.result.now.notes c.see-2.new.pass.notes c.comm-told.new.self.comms
+    c.deref_mut-2.result.now.comms c.args.change c.comm-told.result c.see.ensures.seen.noted c.comm-told.ensures.before c.comm-told.ensures.change
+    (c.see.ensures.notes ∙ sym c.see.ensures.same_notes ∙ ap (λ s. s.notes) (sym c.deref_mut-2.ensures.value))
+    (c.see-2.ensures.notes ∙ ap (λ s. s.notes) c.deref_mut-3.ensures.value ∙ c.comm-told.ensures.noted)
 
 pub returns-clause-seen : goal.returns-clause-seen
 returns-clause-seen g c = seen_on c.args.pass.now c.see.new.pass c.see-2.new.pass c.see.ensures.seen c.see-2.ensures.seen
