@@ -328,7 +328,7 @@ class Conversation {
         if (quiet) this.doubted = odd && !take;
         this.misses = take ? 0 : this.misses + 1;
         if (take) this.take_state(state, quiet);
-        else if (!history.known || !state.busy) this.ask_soon(AGAIN);
+        else this.ask_soon(history.known && state.busy ? PATIENCE : AGAIN);           // what ends a job may be lost
         if (this.ask_again) this.ask_soon(this.misses ? AGAIN : SOON);
     }
 
