@@ -33,6 +33,12 @@ class Page extends Session {
     // Whether a cell of this page runs or waits. The notebook's own word on it comes from broadcasts, of which some may be lost.
     is_running() { return $('.code_cell.running').length > 0; }
 
+    // No cell of the run that ended is answered any more.
+    restarted() {
+        $('.code_cell.running').removeClass('running');
+        super.restarted();
+    }
+
     attach(kernel) {
         tools.bind(true);
         pace(kernel.ws);

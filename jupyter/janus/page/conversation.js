@@ -7,6 +7,7 @@ const TARGET = 'janus.undo', OURS = 'janus-panel-';
 const HEARD = ['status', 'execute_input', 'error', 'stream', 'comm_msg', 'comm_close'];
 const MOVES = new Set(['undo', 'redo', 'goto']);
 const SOON = 40, AGAIN = 150, HOLD = 1500, PATIENCE = 3000, WAITS = 700;      // ms
+const LOOK = 500, LOOKS = 6, MOST_LOOKS = 60;         // ms between two looks for an answer; looks until it is lost: in silence, and amid broadcasts
 const MOST_MISSES = 5;                  // states that came in the midst of jobs, before the first is believed all the same
 const LABEL = 2000;                     // so much of a cell's text is kept
 
@@ -22,6 +23,7 @@ class Conversation {
         this.ask_at = this.ask_due = 0;
         this.turn = 0;                  // counts the searches for a comm
         this.questions = 0;             // counts the states that were asked for
+        this.heard = 0;                 // counts the broadcasts
         this.begin();
     }
 
@@ -122,14 +124,20 @@ class Conversation {
             return;
         }
         this.ask_again = false;
-        const asked = this.asked = {number: ++this.questions, clock: this.clock, id: this.send('comm_msg', {comm_id: this.comm, data: {op: 'state'}})};
-        setTimeout(() => this.unanswered(asked), PATIENCE);
+        const id = this.send('comm_msg', {comm_id: this.comm, data: {op: 'state'}});
+        const asked = this.asked = {number: ++this.questions, clock: this.clock, id: id, heard: this.heard, looks: 0, silent: 0};
+        setTimeout(() => this.unanswered(asked), LOOK);
     }
 
-    // A state is answered at once, but behind a cell or a move of this page. Where none is on its way, the answer was lost.
+    // A state is answered at once, but behind a cell or a move of this page. If none is on its way, and nothing else was heard at some looks, the answer
+    // was lost. Looks are counted, and not time, since a page that stood still has not heard yet what came meanwhile.
     unanswered(asked) {
         if (this.asked !== asked || this.kernel === null) return;
-        if (this.page.is_running() || this.mine.size > 0 && !this.missing) setTimeout(() => this.unanswered(asked), PATIENCE);
+        const waits = this.page.is_running() || this.mine.size > 0 && !this.missing;
+        const is_late = this.heard !== asked.heard && ++asked.looks <= MOST_LOOKS;
+        asked.silent = waits || is_late ? 0 : asked.silent + 1;
+        asked.heard = this.heard;
+        if (asked.silent < LOOKS) setTimeout(() => this.unanswered(asked), LOOK);
         else {
             this.missing = true;
             this.sync();
@@ -166,6 +174,7 @@ class Conversation {
 
     // ---- hearing: true where nobody else needs to hear it
     hear(message, type) {
+        this.heard++;
         if (this.is_of_another_run(message, type)) {
             this.lose();
             this.page.restarted();
@@ -328,7 +337,7 @@ class Conversation {
         if (quiet) this.doubted = odd && !take;
         this.misses = take ? 0 : this.misses + 1;
         if (take) this.take_state(state, quiet);
-        else if (!history.known || !state.busy) this.ask_soon(AGAIN);
+        else this.ask_soon(history.known && state.busy ? PATIENCE : AGAIN);           // what ends a job may be lost
         if (this.ask_again) this.ask_soon(this.misses ? AGAIN : SOON);
     }
 

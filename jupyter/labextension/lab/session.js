@@ -86,7 +86,7 @@ class LabSession extends Session {
         this.changed();
     }
 
-    is_running() { return this.host.cells().some(function (it) { return it.outputArea.future && !it.outputArea.future.isDisposed; }); }
+    is_running() { return this.kernel !== null && this.kernel.running.size > 0; }
 
     backwards_of(widget) { this.backwards(widget && this.marks.of(widget)); }
 

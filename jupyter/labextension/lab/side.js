@@ -40,7 +40,7 @@ class Side extends lumino.Widget {
     place() {
         if (this.isAttached) return;
         this.app.shell.add(this, 'right', {rank: RANK});
-        if (memory.was_open()) this.app.shell.activateById(this.id);
+        this.app.restored.then(() => { if (memory.was_open()) this.app.shell.activateById(this.id); });       // JupyterLab may close its sides before
     }
 
     toggle() {

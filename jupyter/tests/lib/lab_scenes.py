@@ -11,7 +11,7 @@ from checks import check, comes, figure, wait
 from lab_page import (S, add, click_node, go_to, known, marked, marks, message, place, prompts, run, run_example, select, shown, source, stands,
                       words_below)
 from lab_server import READY
-from panel import BARS
+from panel import BARS, LOSE
 
 BUTTONS = ['Undo', 'Redo', 'Backwards', 'Steps', 'History']
 FORWARD = ['x1 = 5', 'x2 = 8', 'n = 0']
@@ -563,6 +563,9 @@ def second_frontend(stage):
     check(known(page)['parent'][6] == 3, 'a cell of the page stands under it')
     comms = [it for it in other.comms() if it != other.comm]
     check(len(comms) == 1, 'the page has one comm', comms)
+    page.js(S + 'var it = s.conversation; ' + LOSE)
+    other.run('x2 += 1')
+    stands(page, 7, 7, ['x1 = 5', 'x2 = 9', 'n = 0'], 'the page asks again if an answer is lost')
 
 
 def late_join(stage):
@@ -644,6 +647,7 @@ def ended_kernel(stage):
     select(page, 1)
     page.command('notebook:run-all-cells')
     comes('two cells wait behind one that runs', lambda: (prompts(page) == ['1', '*', '*', '*'], prompts(page)), 60)
+    page.js(S + 'var it = s.conversation; ' + LOSE)             # what the new kernel says before the server listens to it
     check(kill_kernel(stage.connection) == 1, 'the kernel of this page was killed')
     stands(page, 0, 0, [], 'the server starts it anew, and the page stands at node 0', 120)
     wanted = 'Stopped because the kernel ended: 2 cells after it did not run.'

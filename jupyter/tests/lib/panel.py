@@ -17,6 +17,10 @@ MARKS = '''return Jupyter.notebook.get_cells().filter(function (it) { return it.
     var e = it.element, n = (e.find('.janus-sign').text().match(/\\d+/) || ['?'])[0];
     return e.hasClass('janus-undone') ? '-' + n : e.hasClass('janus-in') ? '+' + n : e.hasClass('janus-maybe') ? n + '?' :
         e.hasClass('janus-gone') ? 'gone' : ''; })'''
+# Behind `var it = the conversation;`: nothing is heard of the next state that the page asks for.
+LOSE = '''var hear = it.hear, lost = null; it.hear = function (message, type) { var of = (message.parent_header || {}).msg_id;
+    if (lost === null && it.asked && of === it.asked.id) lost = of;
+    return of === lost || hear.call(it, message, type); }'''
 TOKENS = '''var cm = Jupyter.notebook.get_cell(arguments[0]).code_mirror, out = []; cm.eachLine(function (l) {
     cm.getLineTokens(cm.getLineNumber(l), true).forEach(function (t) { if (t.type) out.push(t.string + ':' + t.type); }); }); return out'''
 

@@ -7,7 +7,7 @@ from selenium.webdriver.common.keys import Keys
 import tutorial
 from browser import kill_kernel
 from checks import check, comes, figure, wait
-from panel import BARS, click_node, known, marks, message, shown, stands, tokens, words_below
+from panel import BARS, LOSE, click_node, known, marks, message, shown, stands, tokens, words_below
 
 ENDLESS = 'int turn from turn = 0 loop turn += 1 until 0'
 WORLD = ['x1 = 0', 'x2 = 0', 'n = 4']
@@ -372,6 +372,7 @@ def ended_kernel(stage):
     run_all(page)
     stands(page, 1, 1, what='the first cell ran')
     comes('the others wait', lambda: [it['prompt'] for it in page.cells()][2:5] == ['*'] * 3)
+    page.js('var it = Jupyter.janus.conversation; ' + LOSE)     # what the new kernel says before the server listens to it
     check(kill_kernel(stage.connection) == 1, 'the kernel of this page was killed')
     stands(page, 0, 0, [], 'the server starts it anew, and the page stands at node 0', 120)
     wanted = 'Stopped because the kernel ended: 2 cells after it did not run.'

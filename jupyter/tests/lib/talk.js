@@ -36,7 +36,7 @@ class Clock {
 class Talk {
     // `run_time` answers how long a job takes, `lag` how late what came of it is broadcast.
     constructor(clock, run_time, lag) {
-        Object.assign(this, {clock: clock, run_time: run_time, lag: lag, tree: new Kernel()});
+        Object.assign(this, {clock: clock, run_time: run_time, lag: lag, way: () => WAY, tree: new Kernel()});
         this.count = this.asked = 0;
         this.jobs = [];
         this.is_busy = false;
@@ -69,7 +69,7 @@ class Talk {
 
     broadcast(job, type, content) {
         const message = {header: {session: 'run', msg_type: type}, parent_header: job.parent, content: content};
-        this.clock.setTimeout(() => { if (this.handlers.has(type)) this.handlers.get(type)(message); }, WAY);
+        this.clock.setTimeout(() => { if (this.handlers.has(type)) this.handlers.get(type)(message); }, this.way());
         job.frontend.heard(message);
     }
 
