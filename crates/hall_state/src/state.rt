@@ -99,29 +99,30 @@ impl<W: Ledger, L: HistoryName> State<W, L> {
         }
     }
 
-    /// Posts a job for a pass, which counts it, and answers its number. The wishes stand beside it until it ends. A refused post drops the job
-    /// and the wishes. The pass has seen the minutes behind the post, or those for which it is refused. The room for their values was taken before the lock
-    /// was.
+    /// Posts a job for a pass, which counts it, and answers its number. The wishes are taken, and stand beside it until it ends. A refused post drops the job,
+    /// and leaves the wishes and the room to who called, to be let go of with the lock free. The pass has seen the minutes behind the post, or those for which
+    /// it is refused. The room for their values was taken before the lock was.
     pub fn post(
         &mut self,
         pass: &mut Pass<L>,
         job: Job,
-        wishes: Vec<Wish>,
-        room: Vec<NamedValue>,
+        wishes: &mut Vec<Wish>,
+        room: &mut Vec<NamedValue>,
     ) -> Result<u64, PostFault>
-        requires empty { room.items ≡ [] }
-        requires room { vec_len wishes ≤ vec_capacity room }
+        requires empty { room.old.items ≡ [] }
+        requires room { vec_len wishes.old ≤ vec_capacity room.old }
         ensures number { IfOk result (λ n. n ≡ suc (posted_in self.old.kernel.machine.minutes)) }
         ensures posted { IfOk result (λ n. self.new.kernel.machine ≡ posted self.old.kernel.machine pass.old.lane (request_of job)) }
-        ensures stands { IfOk result (λ n. HasPosted pass.old (request_of job) wishes.items n pass.new) }
+        ensures stands { IfOk result (λ n. HasPosted pass.old (request_of job) wishes.old.items n pass.new) }
         ensures refusal { IfErr result (IsRefusal self.old.kernel.machine) }
+        ensures left { OnErr result (wishes.new ≡ wishes.old) }
         ensures kernel { OnErr result (self.new.kernel.machine ≡ self.old.kernel.machine) }
         ensures pass { OnErr result (HasSeen pass.old pass.new) }
         ensures front { pass.new.front ≡ self.new.kernel.machine.minutes }
         ensures closing { has_shutdown pass.new.notes ≡ self.old.kernel.machine.closing }
         ensures comms { self.new.comms ≡ self.old.comms }
         ensures pending_result { IfOk result
-            (λ n. (e : PendingResult) × IsNewPending (length self.old.kernel.machine.minutes) wishes.items e
+            (λ n. (e : PendingResult) × IsNewPending (length self.old.kernel.machine.minutes) wishes.old.items e
             × (self.new.pending_results.items ≡ self.old.pending_results.items ++ e ∷ [])) }
         ensures pending_results { OnErr result (self.new.pending_results.items ≡ self.old.pending_results.items) }
         ensures legal { IsLegalMachine self.old.kernel.machine }
@@ -179,28 +180,30 @@ impl<W: Ledger, L: HistoryName> State<W, L> {
         &mut self,
         pass: &mut Pass<L>,
         job: Job,
-        wishes: Vec<Wish>,
-        room: Vec<NamedValue>,
+        wishes: &mut Vec<Wish>,
+        room: &mut Vec<NamedValue>,
     ) -> Result<u64, PostFault>
-        requires empty { room.items ≡ [] }
-        requires room { vec_len wishes ≤ vec_capacity room }
+        requires empty { room.old.items ≡ [] }
+        requires room { vec_len wishes.old ≤ vec_capacity room.old }
         ensures serves { OnOk result (self.old.kernel.machine.closing ≡ false) }
         ensures number { IfOk result (λ n. n ≡ suc (posted_in self.old.kernel.machine.minutes)) }
         ensures posted { IfOk result (λ n. self.new.kernel.machine ≡ posted self.old.kernel.machine pass.old.lane (request_of job)) }
         ensures counted { IfOk result (λ n. pass.new ≡ pass_of pass.old.lane (pass.old.posts + 1) pass.old.front pass.old.notes) }
-        ensures wished { IfOk result (λ n. wished_in self.new.notes ≡ wished_in self.old.notes ++ wishes.items ∷ []) }
+        ensures wished { IfOk result (λ n. wished_in self.new.notes ≡ wished_in self.old.notes ++ wishes.old.items ∷ []) }
         ensures refusal { IfErr result (IsRefusal self.old.kernel.machine) }
+        ensures left { OnErr result (wishes.new ≡ wishes.old) }
         ensures kernel { OnErr result (self.new.kernel.machine ≡ self.old.kernel.machine) }
         ensures pass { OnErr result (pass.new ≡ pass.old) }
         ensures comms { self.new.comms ≡ self.old.comms }
         ensures pending_result { IfOk result
-            (λ n. (e : PendingResult) × IsNewPending (length self.old.kernel.machine.minutes) wishes.items e
+            (λ n. (e : PendingResult) × IsNewPending (length self.old.kernel.machine.minutes) wishes.old.items e
             × (self.new.pending_results.items ≡ self.old.pending_results.items ++ e ∷ [])) }
         ensures pending_results { OnErr result (self.new.pending_results.items ≡ self.old.pending_results.items) }
     {
         let State {
             kernel,
             pending_results,
+            alloc,
             book,
             history,
             notes,
@@ -213,7 +216,8 @@ impl<W: Ledger, L: HistoryName> State<W, L> {
         let place = kernel.minutes().len();
         let number = kernel.post(pass.lane(), job)?;
         follow(history, kernel);
-        let wishes = note_wishes(notes, wishes);
+        let wishes = note_wishes(notes, mem::replace(wishes, Vec::new(*alloc)));
+        let room = mem::replace(room, Vec::new(*alloc));
         pending_results.push_reserved(PendingResult::new(place, wishes, room));
         pass.count(book);
         Ok(number)

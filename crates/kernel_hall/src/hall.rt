@@ -137,25 +137,26 @@ impl<W: Ledger, L: HistoryName> Hall<W, L> {
         }
     }
 
-    /// Posts a job, whose number it answers, and tells the worker. The room for the values of its wishes is made, and written to, before the lock is taken.
+    /// Posts a job, whose number it answers, and tells the worker. The room for the values of its wishes is made, and written to, before the lock is taken. The
+    /// wishes of a refused post are let go of with the lock free.
     fn send<R: Wait>(
         &self,
         rt: &R,
         pass: &mut Pass<L>,
         job: Job,
-        wishes: Vec<Wish>,
+        mut wishes: Vec<Wish>,
     ) -> Result<u64, PostFault>
         ensures posted { IfOk result (λ n. HasPosted pass.old (request_of job) wishes.items n pass.new) }
         ensures refused { OnErr result (HasSeen pass.old pass.new) }
         ensures refusal { IfErr result (IsRefused pass.new) }
     {
-        let Ok(room) = room_for(self.alloc, wishes.len()) else {
+        let Ok(mut room) = room_for(self.alloc, wishes.len()) else {
             return Err(self.entrance.enter(rt, &self.state).refuse(pass));
         };
         let number = self
             .entrance
             .enter(rt, &self.state)
-            .post(pass, job, wishes, room)?;
+            .post(pass, job, &mut wishes, &mut room)?;
         self.moved.notify_all();
         Ok(number)
     }
