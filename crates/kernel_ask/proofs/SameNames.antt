@@ -8,7 +8,7 @@ use Rattle.janus_syntax.specs.Tree.{Name, named, Exp, Num, Var, Element, EmptyOf
 use Rattle.janus_syntax.specs.Tree.{If}
 use Rattle.janus_syntax.specs.Tree.{Loop, LocalInt, LocalStack, Call, Uncall, Block, Empty, More, Declaration, Int, Array, StackOf, Cell, cell_of}
 use Rattle.janus_syntax.specs.View.{text_of, plain_exp, plain_stm, plain_block, plain_declaration, plain_cell}
-use Rattle.janus_check.specs.Naming.{is_it, in_exp, in_stm, in_block, in_declaration, in_cell}
+use Rattle.kernel_text.specs.Naming.{is_it, in_exp, in_stm, in_block, in_declaration, in_cell}
 
 module _ (x : meaning.Name) where
   abbrev is_name : meaning.Name → Bool

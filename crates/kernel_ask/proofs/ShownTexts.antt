@@ -8,7 +8,7 @@ use Rattle.janus_syntax.specs.Forms.{A_cell}
 use Rattle.janus_syntax.specs.Tree.{Cell}
 use Rattle.janus_syntax.specs.View.{plain_cell}
 use Rattle.janus_syntax.proofs.TextLaws.{one_tree}
-use Rattle.janus_check.specs.Naming.{in_cell}
+use Rattle.kernel_text.specs.Naming.{in_cell}
 use Rattle.kernel_text.specs.ValueTexts.{value_text}
 use Rattle.kernel_text.specs.State.{Past, world_at}
 use Rattle.kernel_text.specs.NodeTrees.{HasNoTree}

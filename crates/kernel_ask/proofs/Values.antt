@@ -5,7 +5,7 @@ use Rattle.janus_meaning.specs.Word.{Operator, wrap, bit, nonzero, operate}
 use Rattle.janus_meaning.specs.Syntax.{Name, Exp, Var, At, Empty, Top, Negate, Binary, And, Or}
 use Rattle.janus_meaning.specs.Store.{Val, Num, Arr, Stk, Lent, Store, Bare, Slot, same_name, look, look_at, number, array, stack, element}
 use Rattle.janus_meaning.specs.Value.{value, both, either, first, is_none}
-use Rattle.janus_frames.specs.Stores.{IsNumber, IsArray, IsStack}
+use Rattle.kernel_ask.specs.LookedUp.{IsNumber, IsArray, IsStack}
 use Rattle.janus_syntax.specs.View.{exp_of}
 use Rattle.janus_syntax.specs.declared.tree.Exp as code
 

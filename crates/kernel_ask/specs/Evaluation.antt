@@ -9,9 +9,9 @@ use Rattle.janus_syntax.specs.Tree.{Exp}
 use Rattle.janus_syntax.specs.View.{plain_exp}
 use Rattle.janus_syntax.specs.Forms.{Whole}
 use Rattle.janus_syntax.specs.Text.{HasExp, IsRefusalOf}
-use Rattle.janus_check.specs.Check.{exp_faults}
-use Rattle.janus_check.specs.Fault.{IsFirst}
-use Rattle.janus_check.specs.declared.fault.CheckFault.{CheckFault}
+use Rattle.kernel_text.specs.Check.{exp_faults}
+use Rattle.kernel_text.specs.CheckFault.{IsFirst}
+use Rattle.kernel_text.specs.check_fault.CheckFault.{CheckFault}
 use Rattle.janus_meaning.specs.Faults.{fault_of}
 use Rattle.kernel_text.specs.outcome.Refusal.TheVariants.{Syntax, Check, HistoryFull, TooFar, NoNode, Closing, Memory}
 use Rattle.kernel_text.specs.State.{Past, world_at}

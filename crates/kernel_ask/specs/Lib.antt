@@ -9,6 +9,7 @@ pub mod Inspection
 pub mod Judgement
 pub mod EndedAt
 pub mod Wishes
+pub mod LookedUp
 pub mod Evaluation
 pub mod Making
 pub mod Comms

@@ -10,7 +10,7 @@ use Rattle.kernel_text.specs.State.{Past, node_at, world_at}
 use Rattle.kernel_text.specs.NodeTrees.{IsTreeAt, HasNoTree}
 use Rattle.kernel_text.specs.outcome.Outcome.{Outcome}
 use Rattle.kernel_text.specs.outcome.Outcome.TheVariants.{Ran, Failed, Interrupted, Undid, Redid, Went, Refused}
-use Rattle.janus_check.specs.Naming.{in_cell}
+use Rattle.kernel_text.specs.Naming.{in_cell}
 use Rattle.kernel_text.specs.ValueTexts.{value_text}
 
 -- the texts parted by LF, if there are any

@@ -18,7 +18,7 @@ use crate::answer::{Answer, Ask, Completion, Content, HallFault};
 use crate::comms::Comms;
 use crate::completion::completion_of;
 use crate::done::ExpFault;
-use crate::evaluation::{evaluation_of, names_here};
+use crate::evaluation::evaluation_of;
 use crate::input_history::history_of;
 use crate::inputs::{HistoryAsk, Input};
 use crate::inspection::inspection_of;
@@ -42,7 +42,7 @@ pub fn complete<L: Ledger>(
 {
     let world = kernel.world();
     let procedures = world.procedures(alloc)?;
-    completion_of(alloc, world.store(), &procedures, code, cursor)
+    completion_of(alloc, &world, &procedures, code, cursor)
 }
 
 /// The value text of the declared name that touches a cursor and the text of its procedure, if it has them, parted by LF. Places count
@@ -57,7 +57,7 @@ pub fn inspect<L: Ledger>(
 {
     let world = kernel.world();
     let procedures = world.procedures(alloc)?;
-    inspection_of(alloc, world.store(), &procedures, code, cursor)
+    inspection_of(alloc, &world, &procedures, code, cursor)
 }
 
 /// The inputs that are asked for, in rising order. The only error is want of memory.
@@ -78,8 +78,9 @@ pub fn evaluate<L: Ledger>(alloc: Global, kernel: &Kernel<L>, text: &str) -> Res
     ensures { IsEvaluated (here kernel.now.machine.state.past).store text.now result }
 {
     let read = parse_exp(alloc, text);
-    let names = names_here(kernel);
-    evaluation_of(alloc, kernel.store(), &names, &read)
+    let names = kernel.declared_names();
+    let world = kernel.world();
+    evaluation_of(alloc, &world, &names, &read)
 }
 
 /// What is shown of a job that is over: the value texts of the declared names that the cell names, in the order of declaration and parted by LF,
@@ -98,7 +99,7 @@ pub fn shown_of_node<L: Ledger>(
         Outcome::Ran(node, _) => match kernel.cell(node) {
             Some(cell) => {
                 let world = kernel.world();
-                shown_of(alloc, world.store(), cell)
+                shown_of(alloc, &world, cell)
             }
             None => Ok(None),
         },

@@ -5,24 +5,22 @@ ghost use Rattle.janus_meaning.specs.Store.{look, find};
 ghost use Rattle.kernel_ask.specs.Cursor.{word_at as word_at_of};
 ghost use Rattle.kernel_ask.specs.Inspection.{value_told, procedure_told, both_told, inspection};
 ghost use Rattle.kernel_text.specs.Defined.{in_a_row};
-ghost use Rattle.janus_frames.specs.StoreState.{shown_store};
 
 use crate::cursor::word_at;
-use janus_frames::Store;
 use janus_syntax::tree::Procedure;
-use kernel_text::{newest_of, procedure_text, value_text};
+use kernel_text::{View, newest_of, procedure_text, value_text};
 use std::alloc::{AllocError, Global};
 use std::sync::ledger::Ledger;
 
 /// The value text of a name, if it is declared.
 fn value_of<L: Ledger>(
     alloc: Global,
-    store: &Store<L>,
+    world: &View<'_, L>,
     name: &str,
 ) -> Result<Option<String>, AllocError>
-    ensures { IfOk result (λ text. option_map string_bytes text ≡ value_told name.now (look name.now (shown_store store.now))) }
+    ensures { IfOk result (λ text. option_map string_bytes text ≡ value_told name.now (look name.now world.now.store)) }
 {
-    match store.value(name) {
+    match world.value(name) {
         Some(value) => {
             let text = value_text(alloc, name, value)?;
             Ok(Some(text))
@@ -67,16 +65,16 @@ fn both(first: Option<String>, second: Option<String>) -> Result<Option<String>,
 /// What is known of the name that touches the cursor: its value text if it is declared, and the text of its procedure if it has one.
 pub(crate) fn inspection_of<L: Ledger>(
     alloc: Global,
-    store: &Store<L>,
+    world: &View<'_, L>,
     procedures: &[&Procedure],
     code: &str,
     cursor: Option<u64>,
 ) -> Result<Option<String>, AllocError>
     ensures { IfOk result (λ text. option_map string_bytes text
-        ≡ inspection (record { store = shown_store store.now; procedures = in_a_row procedures.now }) (word_at_of cursor (chars code.now))) }
+        ≡ inspection (record { store = world.now.store; procedures = in_a_row procedures.now }) (word_at_of cursor (chars code.now))) }
 {
     let word = word_at(alloc, code, cursor)?;
-    let value = value_of(alloc, store, word.as_str())?;
+    let value = value_of(alloc, world, word.as_str())?;
     let procedure = print_of(alloc, procedures, word.as_str())?;
     both(value, procedure)
 }

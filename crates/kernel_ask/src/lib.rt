@@ -12,7 +12,8 @@
 //! `done`, `shown`, `wish`, `number` and `evaluation`, `making` (the values of many, with stops between), `ending` (what is made as it ends), `lines`.
 //! `comms` and `comm_change` are the open comms, `limit` what several crates test, `laws` the laws.
 //!
-//! It gives again what the layers above cite of `kernel_text` and of `kernel_core`, so that most of them name this crate alone.
+//! It names no store: of a world it reads what a `View` lends. It gives again what the layers above cite of `kernel_text` and of `kernel_core`, so that
+//! most of them name this crate alone.
 //!
 //! A cursor is counted in code points. Names are told once each, in the order of their octets. A history is of the present session alone.
 #![tactic(auto)]

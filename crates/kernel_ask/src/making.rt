@@ -1,7 +1,6 @@
 //! The values of user expressions after a job that has ended, made one by one: whoever makes them may stop between two.
 ghost use Rattle.std.specs.Prelude.{◌≡◌, ◌<◌, ◌≤◌, ◌-◌, [], true, false, List, IfOk, vec_len, vec_capacity, length};
-ghost use Rattle.janus_meaning.specs.Shape.{shape_of};
-ghost use Rattle.janus_check.specs.Names.{shape_in};
+ghost use Rattle.kernel_text.specs.DeclaredNames.{KnowsNamesOf};
 ghost use Rattle.kernel_text.specs.State.{Idle, Past, here};
 ghost use Rattle.kernel_text.specs.outcome.Outcome.{Outcome as OutcomeOf};
 ghost use Rattle.kernel_ask.specs.EndedAt.{StandsAtEnd};
@@ -10,9 +9,8 @@ ghost use Rattle.kernel_ask.specs.Making.{has_values};
 ghost use Rattle.kernel_ask.specs.Wishes.{WishOf};
 
 use crate::done::NamedValue;
-use crate::evaluation::names_here;
 use crate::wish::Wish;
-use kernel_text::{DeclaredNames, Kernel, Outcome};
+use kernel_text::{DeclaredNames, Kernel, Outcome, View};
 use std::alloc::{AllocError, Global};
 use std::collections::VecDeque;
 use std::sync::ledger::Ledger;
@@ -85,18 +83,16 @@ impl Making {
         }
     }
 
-    /// The value of the next one, if one is left; whether one was. The declared names are lent.
+    /// The value of the next one, if one is left; whether one was. The world of the position is lent, with its declared names.
     fn make_next<L: Ledger>(
         &mut self,
         alloc: Global,
-        kernel: &Kernel<L>,
+        world: &View<'_, L>,
         names: &DeclaredNames<'_, L>,
     ) -> bool
-        requires idle { kernel.now.machine.state.job ≡ Idle }
-        requires names { shape_in names.now.names ≡ shape_of (here kernel.now.machine.state.past).store }
+        requires names { KnowsNamesOf names.now world.now.store }
         requires room { HasRoom self.old }
-        ensures goes { (o : OutcomeOf) (given : List WishOf) → IsUnderWay o kernel.now.machine.state.past given self.old →
-            IsUnderWay o kernel.now.machine.state.past given self.new }
+        ensures goes { (o : OutcomeOf) (s : Past) (given : List WishOf) → world.now ≡ here s → IsUnderWay o s given self.old → IsUnderWay o s given self.new }
         ensures room { HasRoom self.new }
         ensures fewer { length (left_of self.new) ≡ length (left_of self.old) - 1 }
         ensures left { result ≡ false → left_of self.new ≡ [] }
@@ -106,14 +102,14 @@ impl Making {
             return false;
         };
         if self.is_wanted {
-            let named = wish.evaluate(alloc, kernel, names);
+            let named = wish.evaluate(alloc, world, names);
             self.values.push_reserved(named);
         }
         true
     }
 
-    /// The values of so many more at most; whether more may be left. The declared names are lent by the kernel's store, and the values go into the room
-    /// for them: so nothing grows here.
+    /// The values of so many more at most; whether more may be left. The declared names and the world are lent by the kernel, and the values go into
+    /// the room for them: so nothing grows here.
     pub fn make<L: Ledger>(&mut self, alloc: Global, kernel: &Kernel<L>, most: u32) -> bool
         requires idle { kernel.now.machine.state.job ≡ Idle }
         requires room { HasRoom self.old }
@@ -124,9 +120,10 @@ impl Making {
         // It answers that more may be left only where so many were.
         ensures some { result ≡ true → most ≤ length (left_of self.old) }
     {
-        let names = names_here(kernel);
+        let names = kernel.declared_names();
+        let world = kernel.world();
         for _i in 0..most {
-            if !self.make_next(alloc, kernel, &names) {
+            if !self.make_next(alloc, &world, &names) {
                 return false;
             }
         }
@@ -141,9 +138,10 @@ impl Making {
             IsUnderWay o kernel.now.machine.state.past given self.new }
         ensures left { left_of self.new ≡ [] }
     {
-        let names = names_here(kernel);
+        let names = kernel.declared_names();
+        let world = kernel.world();
         for _i in 0..self.rest.len() {
-            let _made = self.make_next(alloc, kernel, &names);
+            let _made = self.make_next(alloc, &world, &names);
         }
     }
 

@@ -9,11 +9,10 @@ ghost use Rattle.kernel_ask.specs.Added.{with_match, with_matches};
 ghost use Rattle.kernel_text.specs.Procedures.{procedure_names};
 ghost use Rattle.kernel_ask.specs.Matches.{names_of, AreMatches};
 ghost use Rattle.kernel_text.specs.Defined.{in_a_row};
-ghost use Rattle.janus_frames.specs.StoreState.{shown_store};
 
-use janus_frames::Store;
 use janus_syntax::token::{KEYWORDS, Keyword};
 use janus_syntax::tree::Procedure;
+use kernel_text::View;
 use std::alloc::{AllocError, Global};
 use std::collections::BTreeSet;
 use std::sync::ledger::Ledger;
@@ -54,14 +53,14 @@ fn add_match(
 fn add_declared<L: Ledger>(
     alloc: Global,
     names: &mut BTreeSet<String>,
-    store: &Store<L>,
+    world: &View<'_, L>,
     prefix: &str,
 ) -> Result<(), AllocError>
     ensures { OnOk result (map string_bytes names.new.keys
-        ≡ with_matches prefix.now (map string_bytes names.old.keys) (names_of (shown_store store.now))) }
+        ≡ with_matches prefix.now (map string_bytes names.old.keys) (names_of world.now.store)) }
 {
-    for i in 0..store.len() {
-        let (name, _) = store.entry(i);
+    for i in 0..world.len() {
+        let (name, _) = world.entry(i);
         add_match(alloc, names, name, prefix)?;
     }
     Ok(())
@@ -111,15 +110,15 @@ fn in_order(alloc: Global, names: BTreeSet<String>) -> Result<Vec<String>, Alloc
 /// The declared names, the procedures and the keywords that begin with the prefix, each once, in the order of their octets.
 pub(crate) fn matches_of<L: Ledger>(
     alloc: Global,
-    store: &Store<L>,
+    world: &View<'_, L>,
     procedures: &[&Procedure],
     prefix: &str,
 ) -> Result<Vec<String>, AllocError>
     ensures { IfOk result
-        (λ v. AreMatches (record { store = shown_store store.now; procedures = in_a_row procedures.now }) prefix.now (map string_bytes v.items)) }
+        (λ v. AreMatches (record { store = world.now.store; procedures = in_a_row procedures.now }) prefix.now (map string_bytes v.items)) }
 {
     let mut names = BTreeSet::new(alloc);
-    add_declared(alloc, &mut names, store, prefix)?;
+    add_declared(alloc, &mut names, world, prefix)?;
     add_procedures(alloc, &mut names, procedures, prefix)?;
     add_keywords(alloc, &mut names, &KEYWORDS, prefix)?;
     in_order(alloc, names)

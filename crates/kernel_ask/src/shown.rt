@@ -4,15 +4,12 @@ ghost use Rattle.std.specs.List.{filter, join_with_byte};
 ghost use Rattle.janus_meaning.specs.World.{listed};
 ghost use Rattle.kernel_text.specs.Values.{shown};
 ghost use Rattle.janus_syntax.specs.Tree.{cell_view};
-ghost use Rattle.janus_check.specs.Naming.{in_cell};
+ghost use Rattle.kernel_text.specs.Naming.{in_cell};
 ghost use Rattle.kernel_text.specs.ValueTexts.{value_text as value_text_of};
 ghost use Rattle.kernel_ask.specs.Shown.{shown_text};
-ghost use Rattle.janus_frames.specs.StoreState.{shown_store};
 
-use janus_check::cell_names;
-use janus_frames::Store;
 use janus_syntax::tree::Cell;
-use kernel_text::{ValueView, value_text};
+use kernel_text::{ValueView, View, cell_names, value_text};
 use std::alloc::{AllocError, Global};
 use std::sync::ledger::Ledger;
 
@@ -37,15 +34,15 @@ fn push_named(
 /// The value texts of the declared names that the cell names, in the order of declaration.
 fn named_texts<L: Ledger>(
     alloc: Global,
-    store: &Store<L>,
+    world: &View<'_, L>,
     cell: &Cell,
 ) -> Result<Vec<String>, AllocError>
     ensures { IfOk result (λ v. map string_bytes v.items
-        ≡ map value_text_of (filter (λ e. in_cell e.0 (cell_view cell.now)) (listed (shown_store store.now)))) }
+        ≡ map value_text_of (filter (λ e. in_cell e.0 (cell_view cell.now)) (listed world.now.store))) }
 {
     let mut texts = Vec::new(alloc);
-    for i in 0..store.len() {
-        let (name, value) = store.entry(i);
+    for i in 0..world.len() {
+        let (name, value) = world.entry(i);
         push_named(alloc, &mut texts, name, value, cell)?;
     }
     Ok(texts)
@@ -66,12 +63,12 @@ fn parted(alloc: Global, first: &str, rest: &[String]) -> Result<String, AllocEr
 /// The value texts of the declared names that the cell names, parted by LF, if it names one.
 pub(crate) fn shown_of<L: Ledger>(
     alloc: Global,
-    store: &Store<L>,
+    world: &View<'_, L>,
     cell: &Cell,
 ) -> Result<Option<String>, AllocError>
-    ensures { IfOk result (λ text. option_map string_bytes text ≡ shown_text (shown_store store.now) (cell_view cell.now)) }
+    ensures { IfOk result (λ text. option_map string_bytes text ≡ shown_text world.now.store (cell_view cell.now)) }
 {
-    let texts = named_texts(alloc, store, cell)?;
+    let texts = named_texts(alloc, world, cell)?;
     match texts.as_slice() {
         [] => Ok(None),
         [first, rest @ ..] => {

@@ -5,21 +5,19 @@ ghost use Rattle.kernel_text.specs.State.{Idle};
 ghost use Rattle.kernel_text.specs.ValueTexts.{value_text as value_text_of};
 ghost use Rattle.kernel_ask.specs.EndedAt.{StandsAtEnd};
 ghost use Rattle.kernel_ask.specs.State.{is_busy as is_busy_of, IsState};
-ghost use Rattle.janus_frames.specs.StoreState.{shown_store};
 
 use crate::answer::KernelState;
-use janus_frames::Store;
-use kernel_text::{Kernel, Outcome, Phase, value_text};
+use kernel_text::{Kernel, Outcome, Phase, View, value_text};
 use std::alloc::{AllocError, Global};
 use std::sync::ledger::Ledger;
 
-/// The value texts of the names of a store, in the order of declaration.
-fn value_texts<L: Ledger>(alloc: Global, store: &Store<L>) -> Result<Vec<String>, AllocError>
-    ensures { IfOk result (λ v. map string_bytes v.items ≡ map value_text_of (listed (shown_store store.now))) }
+/// The value texts of the declared names, in the order of declaration.
+fn value_texts<L: Ledger>(alloc: Global, world: &View<'_, L>) -> Result<Vec<String>, AllocError>
+    ensures { IfOk result (λ v. map string_bytes v.items ≡ map value_text_of (listed world.now.store)) }
 {
     let mut texts = Vec::new(alloc);
-    for i in 0..store.len() {
-        let (name, value) = store.entry(i);
+    for i in 0..world.len() {
+        let (name, value) = world.entry(i);
         texts.push(value_text(alloc, name, value)?)?;
     }
     Ok(texts)
@@ -66,7 +64,7 @@ pub fn state<L: Ledger>(alloc: Global, kernel: &Kernel<L>) -> Result<KernelState
     ensures { IfOk result (IsState kernel.now.machine) }
 {
     let shown = kernel.world();
-    let world = value_texts(alloc, shown.store())?;
+    let world = value_texts(alloc, &shown)?;
     let extent = kernel.extent();
     Ok(KernelState {
         node: kernel.position(),

@@ -1,8 +1,6 @@
 //! User expressions, each of which is read from its text once.
 ghost use Rattle.std.specs.Prelude.{◌≡◌, string_bytes};
-ghost use Rattle.janus_meaning.specs.Shape.{shape_of};
-ghost use Rattle.janus_check.specs.Names.{shape_in};
-ghost use Rattle.kernel_text.specs.State.{Idle, here};
+ghost use Rattle.kernel_text.specs.DeclaredNames.{KnowsNamesOf};
 ghost use Rattle.kernel_ask.specs.Evaluation.{IsEvaluated};
 ghost use Rattle.kernel_ask.specs.Wishes.{wish_of};
 
@@ -10,7 +8,7 @@ use crate::done::NamedValue;
 use crate::evaluation::evaluation_of;
 use janus_syntax::tree::Exp;
 use janus_syntax::{SyntaxFault, parse_exp};
-use kernel_text::{DeclaredNames, Kernel};
+use kernel_text::{DeclaredNames, View};
 use std::alloc::Global;
 use std::marker::Model;
 use std::sync::ledger::Ledger;
@@ -46,20 +44,19 @@ impl Wish {
         Wish { name, text, exp }
     }
 
-    /// The value of the expression in the world of the position, or why it has none, under the name. No job is open, and the declared names are lent.
+    /// The value of the expression in a world, whose declared names these are, or why it has none, under the name.
     pub(crate) fn evaluate<L: Ledger>(
         self,
         alloc: Global,
-        kernel: &Kernel<L>,
+        world: &View<'_, L>,
         names: &DeclaredNames<'_, L>,
     ) -> NamedValue
-        requires idle { kernel.now.machine.state.job ≡ Idle }
-        requires names { shape_in names.now.names ≡ shape_of (here kernel.now.machine.state.past).store }
+        requires names { KnowsNamesOf names.now world.now.store }
         ensures name { string_bytes result.name ≡ self.name }
-        ensures value { IsEvaluated (here kernel.now.machine.state.past).store self.exp result.value }
+        ensures value { IsEvaluated world.now.store self.exp result.value }
     {
         let Wish { name, exp, .. } = self;
-        let value = evaluation_of(alloc, kernel.store(), names, &exp);
+        let value = evaluation_of(alloc, world, names, &exp);
         NamedValue { name, value }
     }
 }

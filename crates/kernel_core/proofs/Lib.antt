@@ -11,3 +11,5 @@ pub mod Taken
 pub mod Crosses
 -- Of kernel_machine, given again.
 pub use Rattle.kernel_machine.proofs.Crosses as MachineCrosses
+-- Of janus_check, given again.
+pub use Rattle.kernel_history.proofs.LookupLemmas

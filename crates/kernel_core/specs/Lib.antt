@@ -40,9 +40,15 @@ pub use Rattle.kernel_machine.specs.declared.heading
 pub use Rattle.kernel_machine.specs.declared.limit
 pub use Rattle.kernel_machine.specs.contracts.outcome as contracts_of_outcome
 pub use Rattle.kernel_machine.specs.contracts.post as contracts_of_post
--- Procedures that are lent, and the view of the shown world; and the trees of nodes.
+-- Procedures that are lent, and the view of the shown world; the trees of nodes; and what an expression is checked over.
 pub use Rattle.kernel_history.specs.Defined
 pub use Rattle.kernel_history.specs.NodeTrees
+pub use Rattle.kernel_history.specs.DeclaredNames
+-- Of the check of cells and expressions.
+pub use Rattle.kernel_history.specs.Check
+pub use Rattle.kernel_history.specs.Naming
+pub use Rattle.kernel_history.specs.CheckFault
+pub use Rattle.kernel_history.specs.check_fault
 -- What a runner does that is taken out with its open cell.
 pub use Rattle.kernel_history.specs.Runner
 -- The code's own words: the minutes as it writes them, and how its fields are the machine.

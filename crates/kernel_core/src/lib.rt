@@ -6,14 +6,17 @@
 //!   tree with the worlds of all its nodes. `slice` and `shut` take no memory.
 //! - `Kernel::world`: the shown world. With no open job it is that of the position, inside a cell that after the counted steps.
 //!   The tree and the open job are legal.
+//! - `Kernel::declared_names`: the names of the position's world, over which an expression is checked between two jobs.
 //! - `Kernel::cell`: the tree of a node's cell, lent.
 //! - `Kernel::minutes`: each post, and how each job ended. They are legal: a fold over them that knows nothing of slices gives the
 //!   tree, the position, the favourites and the counter, save what the open job has done.
 //! - `run_events`: the answers and the state after any list of events are a run of the machine from the state before.
 //! - `laws` of `machine_laws`: what this says of undo and redo over any schedule, and that want of memory aside each answer is the only one.
 //!
-//! Values, cells, procedures and refusals, which its calls take, answer and lend, can be named through this crate: it gives their types again, with `Env` of
-//! `DeclaredNames`, what an `OpenCell` holds, and what the calls of a `Store` take and lend.
+//! Values, cells, procedures and refusals, which its calls take, answer and lend, can be named through this crate: it gives their types again, with
+//! `SymbolTable`, `Kind` and `check_exp` for `DeclaredNames`, what an `OpenCell` holds, down to its store and its tree, and what the calls of a `Store` and of
+//! a `Tree` take, lend and answer. A kernel itself lends no store. What can't be named through it, since `kernel_loader` doesn't give it again: `LinkedCode`
+//! of a `Program` and a `Book`, `LinkedProcedure` of `Procedures`, `OpenCall` of a `Cursor`, all of `janus_machine`; and what a `Row` and a `Stop` consist of.
 //!
 //! It has the queue, the minutes and the counter; the tree, the store and the open job are `kernel_history`'s. The names of these crates and
 //! of `kernel_machine` and `machine_laws` are passed on, types and laws here and definitions in specs/, so that layers above cite this crate alone:
@@ -37,11 +40,12 @@ pub use janus_syntax::{
     SyntaxFault, Token, TokenKind, Update, What,
 };
 pub use kernel_history::{
-    Args, DeclaredNames, HistoryTree, Names, OpenCell, Program, RoomFault, Row, Runner, StackView,
-    Store, Tally, ValueView, View,
+    Args, Book, CountedStore, Cursor, DeclaredNames, EndedCell, HistoryTree, Kind, Names, Node,
+    OpenCell, Procedures, Program, RoomFault, Route, Row, RowSliced, Runner, StackView, Stop,
+    Store, SymbolTable, Tally, Tree, TreeFault, ValueView, View, cell_names, check_exp,
 };
 pub use kernel_machine::{
-    Begun, CellText, CheckFault, Env, Event, Extent, Fault, Job, MINUTES_LIMIT, Outcome, Phase,
+    Begun, CellText, CheckFault, Event, Extent, Fault, Job, MINUTES_LIMIT, Outcome, Phase,
     PostFault, Progress, QUEUE_LIMIT, Refusal, STEP_LIMIT, STEPS_OF_A_SLICE, Sliced, Told,
     TravelEnd,
 };

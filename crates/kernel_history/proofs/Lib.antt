@@ -9,3 +9,5 @@ pub mod Rows
 mod Done
 mod TableNames
 pub mod Crosses
+-- Of janus_check, given again.
+pub use Rattle.janus_check.proofs.LookupLemmas

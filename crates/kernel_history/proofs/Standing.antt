@@ -28,6 +28,7 @@ use Rattle.janus_slots.specs.Slots as slots
 use Rattle.janus_slots.specs.Slots.{names_in}
 use Rattle.janus_slots.specs.Law.{AreListed}
 use Rattle.kernel_loader.specs.StoreState.{StoreState, IsWhole, shown_store}
+use Rattle.kernel_loader.specs.Tables.{IsReadable}
 use Rattle.kernel_loader.specs.Bodies.{AreBelow, AreDefined, Define}
 use Rattle.kernel_loader.specs.Procedures.{kept_in}
 use Rattle.kernel_loader.proofs.BodiesInEffect.{forgotten_still_defined}
@@ -55,6 +56,7 @@ use Rattle.kernel_history.specs.declared.job.Open.TheVariants.{Idle, Border, Ins
 use Rattle.kernel_machine.proofs.LanguageLaws.{part_none_forward, part_none_backward, exec_end, exec_some}
 use Rattle.kernel_loader.proofs.Growing.{same_more, ready_grows}
 use Rattle.kernel_loader.proofs.Listed.{listed_still}
+use Rattle.kernel_loader.proofs.Readable.{readable}
 use Rattle.kernel_loader.proofs.Unlisted.{taken_back, shown_same, shows_unlisted}
 use Rattle.janus_slots.proofs.Whole.{names_size}
 use Rattle.kernel_loader.proofs.Running.{stands_part}
@@ -892,10 +894,17 @@ if_ok_map (Err e) f h = tt
 -- ---- between two jobs
 
 pub idle_store : {L : Type 0} (tree : HistoryTree) (runner : Runner L) (job : Open) → StandsAt tree job runner → job_of job ≡ state.Idle →
-    (shown_store runner.counted.store ≡ (here (past_of tree)).store) × IsWhole runner.counted.store
-idle_store tree runner Idle stands e = (stands.0.store, stands.1)
+    shown_store runner.counted.store ≡ (here (past_of tree)).store
+idle_store tree runner Idle stands e = stands.0.store
 idle_store tree runner (Border travel) stands e = absurd (cc e)
 idle_store tree runner (Inside i) stands e = absurd (cc e)
+
+-- the declared names can be read, since no local is open
+pub idle_readable : {L : Type 0} (tree : HistoryTree) (runner : Runner L) (job : Open) → StandsAt tree job runner → job_of job ≡ state.Idle →
+    IsLegal (past_of tree) → IsReadable runner.counted.store
+idle_readable tree runner Idle stands e legal = readable runner (shown_here tree) stands (legal.sound tree.position legal.position)
+idle_readable tree runner (Border travel) stands e legal = absurd (cc e)
+idle_readable tree runner (Inside i) stands e legal = absurd (cc e)
 
 -- ---- what a runner leaves, from where it stands
 

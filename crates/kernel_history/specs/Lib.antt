@@ -3,6 +3,7 @@
 pub mod Fields
 pub mod CountedState
 pub mod NodeTrees
+pub mod DeclaredNames
 pub mod Bodies
 pub mod Index
 pub mod TableNames
@@ -15,3 +16,8 @@ pub use Rattle.kernel_loader.specs.StoreState
 -- Of kernel_loader, given again.
 pub use Rattle.kernel_loader.specs.Defined
 pub use Rattle.kernel_loader.specs.Runner
+-- Of janus_check, given again.
+pub use Rattle.janus_check.specs.Check
+pub use Rattle.janus_check.specs.Naming
+pub use Rattle.janus_check.specs.Fault as CheckFault
+pub use Rattle.janus_check.specs.declared.fault as check_fault

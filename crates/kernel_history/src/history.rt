@@ -12,7 +12,7 @@ ghost use Rattle.janus_meaning.specs.World.{entered};
 ghost use Rattle.janus_names.specs.Numbers.{GoOn};
 ghost use Rattle.janus_slots.specs.Slots.{names_in};
 ghost use Rattle.janus_slots.specs.Law.{AreListed};
-ghost use Rattle.kernel_loader.specs.StoreState.{IsWhole, shown_store};
+ghost use Rattle.kernel_loader.specs.StoreState.{shown_store};
 ghost use Rattle.kernel_loader.specs.Procedures.{kept_in};
 ghost use Rattle.kernel_machine.specs.Text.{Accepts, Refuses};
 ghost use Rattle.kernel_loader.specs.Program.{cell_of_program, procedures_of, IsReady};
@@ -23,6 +23,7 @@ ghost use Rattle.kernel_loader.specs.Loading.{KeepsShown};
 ghost use Rattle.kernel_machine.specs.Extent.{IsExtent};
 ghost use Rattle.janus_syntax.specs.Tree.{cell_view};
 ghost use Rattle.kernel_history.specs.NodeTrees.{IsTreeAt, HasNoTree};
+ghost use Rattle.kernel_history.specs.DeclaredNames.{known_by_names, KnowsNamesOf};
 ghost use Rattle.kernel_history.specs.Bodies.{NodesAreReady, AreInOrder};
 ghost use Rattle.kernel_history.specs.TableNames.{AreItsOwn};
 ghost use Rattle.kernel_history.specs.Standing.{shown_here, StandsAt};
@@ -37,7 +38,7 @@ use crate::tree::{HistoryTree, below, can_go_down, can_go_up, find_way, is_full}
 use crate::view::View;
 use cell_tree::Tree as Cells;
 use janus_syntax::tree::Cell;
-use kernel_loader::{Program, Runner, Store, load};
+use kernel_loader::{DeclaredNames, Program, Runner, load};
 use kernel_machine::{
     Aim, Begun, Extent, Heading, Outcome, Refusal, Sliced, Travel, TravelEnd, Way,
 };
@@ -202,14 +203,13 @@ impl<L: Ledger> History<L> {
         View::of(&self.runner, &self.tree, &self.job)
     }
 
-    /// The store between two jobs: it has the names and values of the position's world, and no local is open.
-    pub fn store(&self) -> &Store<L>
+    /// The declared names between two jobs, lent, as an expression is checked over them: those of the position's world. It takes no memory.
+    pub fn declared_names(&self) -> DeclaredNames<'_, L>
         requires { self.now.state.job ≡ Idle }
-        ensures sight { result.now.sight ≡ (here self.now.state.past).store }
-        ensures whole { IsWhole result.now }
+        ensures known { result ≡ known_by_names (here self.now.state.past).store }
+        ensures shape { KnowsNamesOf result (here self.now.state.past).store }
     {
-        self.runner.counted.store.slots_law();
-        &self.runner.counted.store
+        DeclaredNames::new(&self.runner.counted.store)
     }
 
     /// The number of the node at which the kernel stands.

@@ -2,7 +2,6 @@
 ghost use Rattle.std.specs.Prelude.{◌≡◌, ◌<◌, ◌↔◌, IsTrue, IfOk, Some, slice_get};
 ghost use Rattle.janus_meaning.specs.Store.{look};
 ghost use Rattle.janus_meaning.specs.World.{size_of, listed};
-ghost use Rattle.kernel_loader.specs.StoreState.{shown_store};
 ghost use Rattle.kernel_loader.specs.FrameValues.{found};
 ghost use Rattle.kernel_loader.specs.Values.{shown};
 ghost use Rattle.kernel_loader.specs.Defined.{in_a_row};
@@ -21,7 +20,8 @@ use std::alloc::{AllocError, Global};
 use std::marker::Model;
 use std::sync::ledger::Ledger;
 
-/// The shown world: the declared names in the order of their declaration, with their values, and the procedures that are defined.
+/// The shown world: the declared names in the order of their declaration, with their values, and the procedures that are defined. The store that
+/// holds the names is not lent on.
 #[derive(Drop)]
 pub struct View<'a, L: Ledger> {
     store: &'a Store<L>,
@@ -60,13 +60,6 @@ impl<'a, L: Ledger> View<'a, L> {
             tree,
             own: own_procedures(tree, job),
         }
-    }
-
-    /// The store that holds the names and their values.
-    pub fn store(&self) -> &Store<L>
-        ensures { shown_store result.now ≡ self.now.store }
-    {
-        self.store
     }
 
     /// How many names are declared.

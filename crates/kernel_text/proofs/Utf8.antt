@@ -16,9 +16,9 @@ use Rattle.janus_syntax.specs.Fault as syntax
 use Rattle.janus_syntax.specs.declared.fault.SyntaxFault.{SyntaxFault}
 use Rattle.janus_syntax.specs.declared.fault.SyntaxFault.TheVariants as s
 use Rattle.janus_syntax.specs.declared.token.Span.{Span}
-use Rattle.janus_check.specs.Fault as check
-use Rattle.janus_check.specs.declared.fault.CheckFault.{CheckFault}
-use Rattle.janus_check.specs.declared.fault.CheckFault.TheVariants as c
+use Rattle.kernel_core.specs.CheckFault as check
+use Rattle.kernel_core.specs.check_fault.CheckFault.{CheckFault}
+use Rattle.kernel_core.specs.check_fault.CheckFault.TheVariants as c
 use Rattle.kernel_core.specs.Refusal as refusal
 use Rattle.kernel_core.specs.outcome.TravelEnd.{TravelEnd}
 use Rattle.kernel_core.specs.outcome.TravelEnd.TheVariants.{All, Asked, NoMemory}

@@ -26,8 +26,14 @@ pub use Rattle.kernel_core.specs.PostFault
 pub use Rattle.kernel_core.specs.Defined
 pub use Rattle.kernel_core.specs.Counters
 pub use Rattle.kernel_core.specs.NodeTrees
+pub use Rattle.kernel_core.specs.DeclaredNames
 pub use Rattle.kernel_core.specs.Text
 pub use Rattle.kernel_core.specs.Extent
+-- Of janus_check, given again.
+pub use Rattle.kernel_core.specs.Check
+pub use Rattle.kernel_core.specs.Naming
+pub use Rattle.kernel_core.specs.CheckFault
+pub use Rattle.kernel_core.specs.check_fault
 -- Of janus_memory, given again.
 pub use Rattle.janus_memory.specs.Stacks
 pub use Rattle.janus_memory.specs.Values

@@ -8,7 +8,8 @@
 //! `ValueTexts`, `ProcedureTexts`, `Procedures`, and `NameSets`, the order of names that are told). [`laws`] says that a procedure has one text,
 //! however its tree is placed.
 //!
-//! It gives the names of `kernel_core` again that `kernel_ask` cites: texts are of what a kernel tells, so who names them names both.
+//! It gives the names of `kernel_core` again that `kernel_ask` cites, the check of expressions among them: texts are of what a kernel tells, so who names
+//! them names both.
 #![tactic(auto)]
 
 pub mod laws;
@@ -28,5 +29,6 @@ pub use exact_write::{WriteFailed, send};
 pub use janus_memory::{StackView, ValueView};
 pub use kernel_core::{
     Begun, CellText, CheckFault, DeclaredNames, Entry, Fault, Job, Kernel, Outcome, Phase,
-    PostFault, Refusal, STEPS_OF_A_SLICE, Sliced, SyntaxFault, TravelEnd,
+    PostFault, Refusal, STEPS_OF_A_SLICE, Sliced, SyntaxFault, TravelEnd, View, cell_names,
+    check_exp,
 };

@@ -1,12 +1,10 @@
-use Rattle.std.proofs.Common.{◌≡◌, ℕ, List, Result, Err, sym, subst}
+use Rattle.std.proofs.Common.{◌≡◌, ℕ, List, Result, Err, subst}
 use Rattle.janus_meaning.specs.Store.{Store}
 use Rattle.janus_syntax.specs.Forms.{Whole}
 use Rattle.janus_syntax.specs.Text.{IsParsedExp, Refuses}
 use Rattle.janus_syntax.specs.declared.tree.Exp as code
 use Rattle.janus_syntax.specs.declared.fault.SyntaxFault.{SyntaxFault}
 use Rattle.janus_syntax.specs.declared.fault.SyntaxFault.TheVariants as fault
-use Rattle.janus_meaning.specs.Shape.{shape_of}
-use Rattle.janus_check.specs.Names.{shape_in}
 use Rattle.kernel_text.specs.Text.{refused_by_syntax}
 use Rattle.kernel_text.specs.outcome.Refusal.{Refusal}
 use Rattle.kernel_ask.specs.declared.done.ExpFault.TheVariants.{Refused}
@@ -23,16 +21,11 @@ told s text (fault.TooNested at) r refused is = rw is refused
 told s text (fault.DelocalName at) r refused is = rw is refused
 told s text fault.Memory r refused is = rw is tt
 
-pub value_of-requires : goal.value_of-requires
-value_of-requires g c =
-    record { names = subst (λ (s : Store). shape_in c.args.names.now.names ≡ shape_of s) c.slots_law.ensures.sight c.requires.names }
-
 pub returns-in-Ok : goal.returns-in-Ok
 returns-in-Ok g c = λ text read.
-    subst (λ (s : Store). IsEvaluated s text c.value_of.result) (sym c.slots_law.ensures.sight)
-    (c.value_of.ensures text (subst (λ (r : Result code.Exp SyntaxFault). IsParsedExp text r) c.in-Ok.is read))
+    c.value_of.ensures text (subst (λ (r : Result code.Exp SyntaxFault). IsParsedExp text r) c.in-Ok.is read)
 
 pub returns-in-Err : goal.returns-in-Err
 returns-in-Err g c = λ text read.
-    told c.args.store.now.sight text c.in-Err.fault c.of_syntax.result (subst (λ (r : Result code.Exp SyntaxFault). IsParsedExp text r) c.in-Err.is read)
+    told c.args.world.now.store text c.in-Err.fault c.of_syntax.result (subst (λ (r : Result code.Exp SyntaxFault). IsParsedExp text r) c.in-Err.is read)
     c.of_syntax.ensures

@@ -9,11 +9,10 @@ use Rattle.janus_syntax.specs.View.{exp_of}
 use Rattle.janus_syntax.specs.Tree as tree
 use Rattle.janus_syntax.specs.Tree.{exp_view}
 use Rattle.janus_syntax.specs.Text.{HasExp}
-use Rattle.janus_check.specs.Check.{exp_faults}
-use Rattle.janus_check.specs.Fault.{IsFirst}
-use Rattle.janus_check.specs.declared.fault.CheckFault.{CheckFault}
-use Rattle.janus_check.specs.declared.fault.CheckFault.TheVariants as fault
-use Rattle.janus_frames.specs.StoreState.{shown_store}
+use Rattle.kernel_text.specs.Check.{exp_faults}
+use Rattle.kernel_text.specs.CheckFault.{IsFirst}
+use Rattle.kernel_text.specs.check_fault.CheckFault.{CheckFault}
+use Rattle.kernel_text.specs.check_fault.CheckFault.TheVariants as fault
 use Rattle.kernel_text.specs.Text.{refused_by_check}
 use Rattle.kernel_text.specs.outcome.Refusal.{Refusal}
 use Rattle.kernel_ask.specs.declared.done.ExpFault.TheVariants.{Refused}
@@ -23,7 +22,7 @@ use Rattle.kernel_ask.proofs.evaluation.value_of.Goals as goal
 
 pub number-requires : goal.number-requires
 number-requires g c =
-    let s : Store = shown_store c.args.store.now in
+    let s : Store = c.args.world.now.store in
     let e : Exp = exp_of c.args.exp.now in
     let formed : IsExp (shape_of s) e = subst (λ (g : Shape). IsExp g e) c.requires.names c.in-Ok.ensures.well_formed in
     record { safe = λ broken. not_broken e s formed broken }
@@ -46,14 +45,14 @@ told s text e fault.Memory r has first is = rw is tt
 
 pub returns-in-Err : goal.returns-in-Err
 returns-in-Err g c = λ text has.
-    let s : Store = shown_store c.args.store.now in
+    let s : Store = c.args.world.now.store in
     let e = exp_view c.args.exp.now in
     let first = subst (λ (g : Shape). IsFirst c.in-Err.fault (exp_faults g e)) c.requires.names c.in-Err.ensures.first in
     told s text e c.in-Err.fault c.of_check.result has first c.of_check.ensures
 
 pub returns-in-Ok-number : goal.returns-in-Ok-number
 returns-in-Ok-number g c = λ text has.
-    let s : Store = shown_store c.args.store.now in
+    let s : Store = c.args.world.now.store in
     let e : Exp = exp_of c.args.exp.now in
     let formed : IsExp (shape_of s) e = subst (λ (g : Shape). IsExp g e) c.requires.names c.in-Ok.ensures.well_formed in
     let has_value : HasValue s text (Fine c.in-Ok-number.number) = record {
@@ -67,7 +66,7 @@ returns-in-Ok-number g c = λ text has.
 
 pub returns-in-Err-number : goal.returns-in-Err-number
 returns-in-Err-number g c = λ text has.
-    let s : Store = shown_store c.args.store.now in
+    let s : Store = c.args.world.now.store in
     let e : Exp = exp_of c.args.exp.now in
     let formed : IsExp (shape_of s) e = subst (λ (g : Shape). IsExp g e) c.requires.names c.in-Ok.ensures.well_formed in
     record {

@@ -7,7 +7,6 @@ use Rattle.std.specs.List.Sorted.{IsStrictlySortedBy}
 use Rattle.std.specs.String.{string_cmp}
 use Rattle.janus_syntax.specs.Spelling.{keyword_text}
 use Rattle.janus_syntax.specs.declared.token.TheConstants.{KEYWORDS}
-use Rattle.janus_frames.specs.StoreState.{shown_store}
 use Rattle.kernel_ask.specs.Added.{with_matches}
 use Rattle.kernel_text.specs.Procedures.{procedure_names}
 use Rattle.kernel_ask.specs.Matches.{names_of, AreMatches}
@@ -26,7 +25,7 @@ pub returns : goal.returns
 returns g c =
     let prefix = c.args.prefix.now in
     let keywords = map keyword_text KEYWORDS in
-    let w : World = record { store = shown_store c.args.store.now; procedures = in_a_row c.args.procedures.now } in
+    let w : World = record { store = c.args.world.now.store; procedures = in_a_row c.args.procedures.now } in
     let all : map string_bytes c.add_keywords.new.names.keys ≡ all_matches w prefix =
     c.in_ok-add_keywords.ensures
     ∙ ap (λ ks. with_matches prefix ks keywords)

@@ -7,7 +7,6 @@ use Rattle.janus_meaning.specs.Value.{value}
 use Rattle.janus_meaning.specs.Word.{wrap, bit, nonzero, operate}
 use Rattle.janus_meaning.specs.Store.{Stk, Arr, look, element}
 use Rattle.janus_syntax.specs.View.{name_of, exp_of, operator_of}
-use Rattle.janus_frames.specs.StoreState.{shown_store}
 use Rattle.janus_evaluation.specs.Results.{fault_of}
 use Rattle.janus_evaluation.proofs.Numbers.{wrap_number, bit_wraps}
 use Rattle.kernel_text.specs.Stacks.{held}
@@ -19,21 +18,21 @@ use Rattle.kernel_ask.proofs.number.+number.Goals as goal
 pub returns-in-Number : goal.returns-in-Number
 unfolding value wrap
 returns-in-Number g t c =
-    let s = shown_store c.args.store.now in
+    let s = c.args.world.now.store in
     let n : ℤ = c.cast_signed.result in
     let z : to_z w32 (of_z w32 n) ≡ n = grind (arith, to_z-of_z) in
     ap Fine (z ∙ c.cast_signed.ensures ∙ wrap_number c.in-Number.number (omega arith)) ∙ ap (number_in s) (sym c.in-Number.is)
 
 pub variable-requires : goal.variable-requires
 variable-requires g t c =
-    let s = shown_store c.args.store.now in
+    let s = c.args.world.now.store in
     let x = name_of c.in-Variable.name in
     let n = is_number s x (λ q. c.requires.safe (ap (number_in s) c.in-Variable.is ∙ q)) in
     (n.0, ap (λ x. look x s) c.deref.ensures ∙ n.1)
 
 pub returns-in-Variable : goal.returns-in-Variable
 returns-in-Variable g t c =
-    let s = shown_store c.args.store.now in
+    let s = c.args.world.now.store in
     let x = name_of c.in-Variable.name in
     let n : ℤ = c.variable.result in
     let z : to_z w32 (of_z w32 n) ≡ n = grind (arith, to_z-of_z) in
@@ -41,7 +40,7 @@ returns-in-Variable g t c =
 
 pub number-requires : goal.number-requires
 number-requires g t c κs within =
-    let s = shown_store c.args.store.now in
+    let s = c.args.world.now.store in
     let a = name_of c.in-Element.name in
     let i = exp_of c.in-Element.index.value in
     let safe : value (tree.At a i) s ≡ Bad Broken → ⊥ = λ q. c.requires.safe (ap (number_in s) c.in-Element.is ∙ q) in
@@ -55,7 +54,7 @@ number-requires g t c κs within =
 
 pub returns-in_err-index-in-Element : goal.returns-in_err-index-in-Element
 returns-in_err-index-in-Element g t c =
-    let s = shown_store c.args.store.now in
+    let s = c.args.world.now.store in
     let a = name_of c.in-Element.name in
     let i = exp_of c.in-Element.index.value in
     let safe : value (tree.At a i) s ≡ Bad Broken → ⊥ = λ q. c.requires.safe (ap (number_in s) c.in-Element.is ∙ q) in
@@ -67,7 +66,7 @@ returns-in_err-index-in-Element g t c =
 
 pub array-requires : goal.array-requires
 array-requires g t c =
-    let s = shown_store c.args.store.now in
+    let s = c.args.world.now.store in
     let a = name_of c.in-Element.name in
     let i = exp_of c.in-Element.index.value in
     let safe : value (tree.At a i) s ≡ Bad Broken → ⊥ = λ q. c.requires.safe (ap (number_in s) c.in-Element.is ∙ q) in
@@ -76,7 +75,7 @@ array-requires g t c =
 
 pub returns-in_ok-index-in-Element : goal.returns-in_ok-index-in-Element
 returns-in_ok-index-in-Element g t c =
-    let s = shown_store c.args.store.now in
+    let s = c.args.world.now.store in
     let a = name_of c.in-Element.name in
     let i = exp_of c.in-Element.index.value in
     let l = c.array.result.now in
@@ -88,21 +87,21 @@ returns-in_ok-index-in-Element g t c =
 
 pub stack-requires : goal.stack-requires
 stack-requires g t c =
-    let s = shown_store c.args.store.now in
+    let s = c.args.world.now.store in
     let x = name_of c.in-Empty.name in
     let l = empty_is_stack s x (λ q. c.requires.safe (ap (number_in s) c.in-Empty.is ∙ q)) in
     (l.0, ap (λ x. look x s) c.deref-in-Empty.ensures ∙ l.1)
 
 pub stack-requires-in-Top : goal.stack-requires-in-Top
 stack-requires-in-Top g t c =
-    let s = shown_store c.args.store.now in
+    let s = c.args.world.now.store in
     let x = name_of c.in-Top.name in
     let l = top_is_stack s x (λ q. c.requires.safe (ap (number_in s) c.in-Top.is ∙ q)) in
     (l.0, ap (λ x. look x s) c.deref-in-Top.ensures ∙ l.1)
 
 pub returns-in-Empty : goal.returns-in-Empty
 returns-in-Empty g t c =
-    let s = shown_store c.args.store.now in
+    let s = c.args.world.now.store in
     let x = name_of c.in-Empty.name in
     let l = held c.stack.result in
     let there : look x s ≡ Fine (Stk l) = ap (λ x. look x s) (sym c.deref-in-Empty.ensures) ∙ c.stack.ensures in
@@ -112,7 +111,7 @@ returns-in-Empty g t c =
 
 pub returns-in-Top : goal.returns-in-Top
 returns-in-Top g t c =
-    let s = shown_store c.args.store.now in
+    let s = c.args.world.now.store in
     let x = name_of c.in-Top.name in
     let l = held c.stack-in-Top.result in
     let there : look x s ≡ Fine (Stk l) = ap (λ x. look x s) (sym c.deref-in-Top.ensures) ∙ c.stack-in-Top.ensures in
@@ -120,7 +119,7 @@ returns-in-Top g t c =
 
 pub number-requires-in-Negative : goal.number-requires-in-Negative
 number-requires-in-Negative g t c κs within =
-    let s = shown_store c.args.store.now in
+    let s = c.args.world.now.store in
     let e = exp_of c.in-Negative.positive.value in (
       omega (arith, c.decreases, ap exp_size c.in-Negative.is, ap exp_size c.deref-in-Negative.ensures),
       (
@@ -131,7 +130,7 @@ number-requires-in-Negative g t c κs within =
 
 pub returns-in_err-positive-in-Negative : goal.returns-in_err-positive-in-Negative
 returns-in_err-positive-in-Negative g t c =
-    let s = shown_store c.args.store.now in
+    let s = c.args.world.now.store in
     let e = exp_of c.in-Negative.positive.value in
     let p = err_from_is_err_and c.from_residual-in_err-positive-in-Negative.result c.from_residual-in_err-positive-in-Negative.ensures.1 in
     rw (p.1, p.2)
@@ -140,7 +139,7 @@ returns-in_err-positive-in-Negative g t c =
 
 pub returns-in_ok-positive-in-Negative : goal.returns-in_ok-positive-in-Negative
 returns-in_ok-positive-in-Negative g t c =
-    let s = shown_store c.args.store.now in
+    let s = c.args.world.now.store in
     let e = exp_of c.in-Negative.positive.value in
     let n : ℤ = c.in_ok-positive-in-Negative.positive in
     let z : to_z w32 (of_z w32 n) ≡ n = grind (arith, to_z-of_z) in
@@ -152,7 +151,7 @@ returns-in_ok-positive-in-Negative g t c =
 
 pub number-requires-in-Binary : goal.number-requires-in-Binary
 number-requires-in-Binary g t c κs within =
-    let s = shown_store c.args.store.now in
+    let s = c.args.world.now.store in
     let o = operator_of c.in-Binary.operator in
     let l = exp_of c.in-Binary.left.value in
     let r = exp_of c.in-Binary.right.value in (
@@ -165,7 +164,7 @@ number-requires-in-Binary g t c κs within =
 
 pub returns-in_err-left-in-Binary : goal.returns-in_err-left-in-Binary
 returns-in_err-left-in-Binary g t c =
-    let s = shown_store c.args.store.now in
+    let s = c.args.world.now.store in
     let o = operator_of c.in-Binary.operator in
     let l = exp_of c.in-Binary.left.value in
     let r = exp_of c.in-Binary.right.value in
@@ -176,7 +175,7 @@ returns-in_err-left-in-Binary g t c =
 
 pub number-requires-in-Binary-2 : goal.number-requires-in-Binary-2
 number-requires-in-Binary-2 g t c κs within =
-    let s = shown_store c.args.store.now in
+    let s = c.args.world.now.store in
     let o = operator_of c.in-Binary.operator in
     let l = exp_of c.in-Binary.left.value in
     let r = exp_of c.in-Binary.right.value in
@@ -192,7 +191,7 @@ number-requires-in-Binary-2 g t c κs within =
 
 pub returns-in_err-right-in-Binary : goal.returns-in_err-right-in-Binary
 returns-in_err-right-in-Binary g t c =
-    let s = shown_store c.args.store.now in
+    let s = c.args.world.now.store in
     let o = operator_of c.in-Binary.operator in
     let l = exp_of c.in-Binary.left.value in
     let r = exp_of c.in-Binary.right.value in
@@ -205,7 +204,7 @@ returns-in_err-right-in-Binary g t c =
 
 pub returns-in_ok-right-in-Binary : goal.returns-in_ok-right-in-Binary
 returns-in_ok-right-in-Binary g t c =
-    let s = shown_store c.args.store.now in
+    let s = c.args.world.now.store in
     let o = operator_of c.in-Binary.operator in
     let l = exp_of c.in-Binary.left.value in
     let r = exp_of c.in-Binary.right.value in
@@ -220,7 +219,7 @@ returns-in_ok-right-in-Binary g t c =
 
 pub number-requires-in-And : goal.number-requires-in-And
 number-requires-in-And g t c κs within =
-    let s = shown_store c.args.store.now in
+    let s = c.args.world.now.store in
     let l = exp_of c.in-And.left.value in
     let r = exp_of c.in-And.right.value in (
       omega (arith, c.decreases, ap exp_size c.in-And.is, ap exp_size c.deref-in-And.ensures),
@@ -232,7 +231,7 @@ number-requires-in-And g t c κs within =
 
 pub returns-in_err-left-in-And : goal.returns-in_err-left-in-And
 returns-in_err-left-in-And g t c =
-    let s = shown_store c.args.store.now in
+    let s = c.args.world.now.store in
     let l = exp_of c.in-And.left.value in
     let r = exp_of c.in-And.right.value in
     let p = err_from_is_err_and c.from_residual-in_err-left-in-And.result c.from_residual-in_err-left-in-And.ensures.1 in
@@ -242,7 +241,7 @@ returns-in_err-left-in-And g t c =
 
 pub returns-then-not-holds : goal.returns-then-not-holds
 returns-then-not-holds g t c =
-    let s = shown_store c.args.store.now in
+    let s = c.args.world.now.store in
     let l = exp_of c.in-And.left.value in
     let r = exp_of c.in-And.right.value in
     let n : ℤ = c.in_ok-left-in-And.left in
@@ -253,7 +252,7 @@ returns-then-not-holds g t c =
 
 pub number-requires-in-And-2 : goal.number-requires-in-And-2
 number-requires-in-And-2 g t c κs within =
-    let s = shown_store c.args.store.now in
+    let s = c.args.world.now.store in
     let l = exp_of c.in-And.left.value in
     let r = exp_of c.in-And.right.value in
     let n : ℤ = c.in_ok-left-in-And.left in
@@ -269,7 +268,7 @@ number-requires-in-And-2 g t c κs within =
 
 pub returns-in_err-right-in-And : goal.returns-in_err-right-in-And
 returns-in_err-right-in-And g t c =
-    let s = shown_store c.args.store.now in
+    let s = c.args.world.now.store in
     let l = exp_of c.in-And.left.value in
     let r = exp_of c.in-And.right.value in
     let n : ℤ = c.in_ok-left-in-And.left in
@@ -283,7 +282,7 @@ returns-in_err-right-in-And g t c =
 
 pub returns-in_ok-right-in-And : goal.returns-in_ok-right-in-And
 returns-in_ok-right-in-And g t c =
-    let s = shown_store c.args.store.now in
+    let s = c.args.world.now.store in
     let l = exp_of c.in-And.left.value in
     let r = exp_of c.in-And.right.value in
     let n : ℤ = c.in_ok-left-in-And.left in
@@ -300,7 +299,7 @@ returns-in_ok-right-in-And g t c =
 
 pub number-requires-in-Or : goal.number-requires-in-Or
 number-requires-in-Or g t c κs within =
-    let s = shown_store c.args.store.now in
+    let s = c.args.world.now.store in
     let l = exp_of c.in-Or.left.value in
     let r = exp_of c.in-Or.right.value in (
       omega (arith, c.decreases, ap exp_size c.in-Or.is, ap exp_size c.deref-in-Or.ensures),
@@ -312,7 +311,7 @@ number-requires-in-Or g t c κs within =
 
 pub returns-in_err-left-in-Or : goal.returns-in_err-left-in-Or
 returns-in_err-left-in-Or g t c =
-    let s = shown_store c.args.store.now in
+    let s = c.args.world.now.store in
     let l = exp_of c.in-Or.left.value in
     let r = exp_of c.in-Or.right.value in
     let p = err_from_is_err_and c.from_residual-in_err-left-in-Or.result c.from_residual-in_err-left-in-Or.ensures.1 in
@@ -322,7 +321,7 @@ returns-in_err-left-in-Or g t c =
 
 pub returns-then-holds : goal.returns-then-holds
 returns-then-holds g t c =
-    let s = shown_store c.args.store.now in
+    let s = c.args.world.now.store in
     let l = exp_of c.in-Or.left.value in
     let r = exp_of c.in-Or.right.value in
     let n : ℤ = c.in_ok-left-in-Or.left in
@@ -333,7 +332,7 @@ returns-then-holds g t c =
 
 pub number-requires-in-Or-2 : goal.number-requires-in-Or-2
 number-requires-in-Or-2 g t c κs within =
-    let s = shown_store c.args.store.now in
+    let s = c.args.world.now.store in
     let l = exp_of c.in-Or.left.value in
     let r = exp_of c.in-Or.right.value in
     let n : ℤ = c.in_ok-left-in-Or.left in
@@ -349,7 +348,7 @@ number-requires-in-Or-2 g t c κs within =
 
 pub returns-in_err-right-in-Or : goal.returns-in_err-right-in-Or
 returns-in_err-right-in-Or g t c =
-    let s = shown_store c.args.store.now in
+    let s = c.args.world.now.store in
     let l = exp_of c.in-Or.left.value in
     let r = exp_of c.in-Or.right.value in
     let n : ℤ = c.in_ok-left-in-Or.left in
@@ -363,7 +362,7 @@ returns-in_err-right-in-Or g t c =
 
 pub returns-in_ok-right-in-Or : goal.returns-in_ok-right-in-Or
 returns-in_ok-right-in-Or g t c =
-    let s = shown_store c.args.store.now in
+    let s = c.args.world.now.store in
     let l = exp_of c.in-Or.left.value in
     let r = exp_of c.in-Or.right.value in
     let n : ℤ = c.in_ok-left-in-Or.left in

@@ -5,13 +5,12 @@ use Rattle.janus_meaning.specs.Store.{Val}
 use Rattle.janus_meaning.specs.World.{listed}
 use Rattle.kernel_text.specs.Values.{shown}
 use Rattle.kernel_text.specs.ValueTexts.{value_text}
-use Rattle.janus_frames.specs.StoreState.{shown_store}
 use Rattle.kernel_ask.proofs.Names.{length_listed, taken_next}
 use Rattle.kernel_ask.proofs.standing.value_texts.Goals as goal
 
 pub loop-i-preserved : goal.loop-i-preserved
 loop-i-preserved g c =
-    let s = shown_store c.args.store.now in
+    let s = c.args.world.now.store in
     let i = c.loop-i.i in
     let entry : Name × Val = (c.entry.result.0.now, shown c.entry.result.1) in
     let text = c.in_ok-value_text.field-0 in
@@ -24,6 +23,6 @@ loop-i-preserved g c =
 
 pub returns : goal.returns
 returns g c =
-    let s = shown_store c.args.store.now in
+    let s = c.args.world.now.store in
     let all : length (listed s) ≤ c.loop-i.i = omega (arith, length_listed s, c.len-i-end.ensures, c.loop-i-test.false) in
     c.loop-i.invariant ∙ ap (map value_text) (take_all c.loop-i.i (listed s) all)

@@ -1,6 +1,6 @@
 use Rattle.std.proofs.Common.{◌≡◌, ℕ, suc, Bool, true, false, List, drop, sym, ap, ◌∙◌, add-one, bytes_eq}
 use Rattle.janus_meaning.specs.Store.{find, pick, same_name}
-use Rattle.janus_check.proofs.LookupLemmas.{same_as_bytes}
+use Rattle.kernel_core.proofs.LookupLemmas.{same_as_bytes}
 use Rattle.kernel_core.specs.Defined.{in_a_row}
 use Rattle.kernel_text.proofs.Newest.{plain, find_next}
 use Rattle.kernel_text.proofs.procedures.newest_of.Goals as goal
