@@ -1,5 +1,5 @@
 //! The places at which a kernel serves its connections: 32 for each of the five sockets, each of which takes a connection, serves it to
-//! its end and takes the next; an usher for each socket, who accepts the connections; beside them the worker that runs the cells; and how
+//! its end and takes the next; an acceptor for each socket, who accepts the connections; beside them the worker that runs the cells; and how
 //! all of them come to an end.
 //!
 //! How long connections have [`Times`] says. A connection whose handshake takes ten seconds fails, and so does a message that takes ten seconds to be
@@ -34,7 +34,7 @@
 //! that nothing of a connection is counted behind its end (the type of `Allowance`): that a thread runs, a connection is served or an end
 //! comes, no contract can say.
 //!
-//! The files, in the order in which a connection passes them: `usher` accepts it and has others make room, `door` is where it waits for a place,
+//! The files, in the order in which a connection passes them: `acceptor` accepts it and has others make room, `door` is where it waits for a place,
 //! `places` has the places and the listeners, `requests` serves it on shell, control, stdin and heartbeat, `publishing` on iopub; `reader`
 //! is the stream on which it comes, `writer` that on which its answers go out, `witness` notes what is told of it, `sockets` and `time` have the rules of
 //! each socket and its times. `task` is what a thread
@@ -48,6 +48,7 @@
 //! `kernel_iopub` promise; that what it is told is noted at the place is tested. `serve_all` has a condition alone.
 #![tactic(auto)]
 
+mod acceptor;
 mod door;
 mod latch;
 mod places;
@@ -59,7 +60,6 @@ mod sockets;
 mod start;
 mod task;
 mod time;
-mod usher;
 mod warning;
 mod witness;
 mod worker;
