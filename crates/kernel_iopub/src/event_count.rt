@@ -28,7 +28,7 @@ impl EventCount {
         self.count.load(Ordering::SeqCst)
     }
 
-    /// There is something to look at: what was done before is seen by each who looks after the count has risen. It takes a lock only if a thread waits.
+    /// There is something to look at: what was done before is seen by each who looks after the count has risen. It takes a lock only if a thread waits, or is about to.
     pub fn raise<R: Wait>(&self, rt: &R) {
         let _before = self.count.fetch_add(1, Ordering::SeqCst);
         if self.is_awaited.load(Ordering::SeqCst) {

@@ -25,7 +25,7 @@ impl Signals {
     }
 
     /// A subscriber comes to the place.
-    pub fn begin(&self) {
+    pub(crate) fn begin(&self) {
         self.is_reading.store(false, Ordering::SeqCst);
         self.answered.store(0, Ordering::SeqCst);
     }

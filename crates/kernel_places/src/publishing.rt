@@ -91,7 +91,7 @@ fn receive<
         return allowance;
     }
     let allowance = supply(rt, service, index, &stream, allowance);
-    let _ = service.subscribers.leave(rt, index);
+    service.subscribers.leave(rt, index);
     allowance
 }
 

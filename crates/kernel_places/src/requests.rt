@@ -74,7 +74,7 @@ fn receive<W: Ledger, L: HistoryName, S: Ledger, D: Desk, R: Wait + Clock>(
         return allowance;
     }
     let allowance = converse(rt, service, desk, place, &stream, number, allowance);
-    let _ = service.callers.leave(rt, place.index);
+    service.callers.leave(rt, place.index);
     allowance
 }
 

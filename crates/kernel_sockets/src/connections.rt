@@ -1,5 +1,4 @@
 //! The connections that are served.
-use crate::hangups::Hangups;
 use crate::presence::Presence;
 use crate::register::{Register, Stream};
 use crate::room::Stays;
@@ -57,26 +56,12 @@ impl Connections {
         register.enter(place, stream)
     }
 
-    /// Takes the connection at a place away. Whether the place was relieved of it: then who served it serves no other one there.
-    pub fn leave<R: Wait>(&self, rt: &R, place: usize) -> bool {
+    /// Takes the connection at a place away.
+    pub fn leave<R: Wait>(&self, rt: &R, place: usize) {
         let mut register = self.register.lock(rt);
-        let was_relieved = register.leave(place);
+        register.leave(place);
         drop(register);
         self.left.notify_all();
-        was_relieved
-    }
-
-    /// Relieves one of `count` places from `first` on of a connection on which a request is under way and whose peer has hung up: what
-    /// `Register::relieve` does of the register under the lock. It takes no memory.
-    pub fn relieve<R: Wait>(
-        &self,
-        rt: &R,
-        hangups: &mut Hangups,
-        first: usize,
-        count: usize,
-    ) -> Option<usize> {
-        let mut register = self.register.lock(rt);
-        register.relieve(&self.presences, hangups, first, count)
     }
 
     /// Ends the connection at one of `count` places from `first` on that has to make room, if one has to, by what is seen of the places under the lock:

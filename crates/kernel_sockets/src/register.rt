@@ -1,10 +1,9 @@
 //! The register of the connections that are served.
 ghost use Rattle.std.specs.Prelude.{◌≡◌, ◌+◌, ◌<◌, ◌≤◌, ◌↔◌, None, Some, true, false};
-ghost use Rattle.std.specs.Prelude.{All, IfOk, IfSome, IfNone, IsTrue, slice_get, slice_set, slice_range, length, vec_len, is_some};
+ghost use Rattle.std.specs.Prelude.{All, IfOk, IfSome, IsTrue, slice_get, slice_set, slice_range, length, vec_len, is_some};
 ghost use Rattle.kernel_sockets.specs.Room.{MakesRoom};
 ghost use Rattle.kernel_sockets.specs.Seen.{is_taken as is_taken_of, AreSeen};
 
-use crate::hangups::Hangups;
 use crate::presence::Presence;
 use crate::room::{Sight, Stays, who_makes_room};
 use std::alloc::{AllocError, Global};
@@ -21,10 +20,7 @@ pub struct Register {
     pub is_closed: bool,
     /// What was seen of each place when one was looked for that makes room. It is kept, so that looking takes no memory.
     pub sights: Vec<Sight>,
-    /// Of each place, whether it was relieved of its connection, which is served to its end all the same.
-    pub relieved: Vec<bool>,
     ghost all_seen: { vec_len sights ≡ vec_len streams },
-    ghost all_marked: { vec_len relieved ≡ vec_len streams },
 }
 
 impl Register {
@@ -42,7 +38,6 @@ impl Register {
             streams,
             is_closed: false,
             sights: vec![in alloc; Sight::NOBODY; places]?,
-            relieved: vec![in alloc; false; places]?,
         })
     }
 
@@ -61,22 +56,15 @@ impl Register {
         true
     }
 
-    /// Takes the connection at a place away, if there is such a place. Whether the place was relieved of it; from now on it is not.
-    pub fn leave(&mut self, place: usize) -> bool
+    /// Takes the connection at a place away, where there is such a place.
+    pub fn leave(&mut self, place: usize)
         ensures closed { self.new.is_closed ≡ self.old.is_closed }
         ensures left { place < length self.old.streams.items → self.new.streams.items ≡ slice_set self.old.streams.items place None }
         ensures elsewhere { length self.old.streams.items ≤ place → self.new.streams.items ≡ self.old.streams.items }
-        ensures relieved { place < length self.old.streams.items → slice_get self.old.relieved.items place ≡ Some result }
-        ensures no_longer { place < length self.old.streams.items → self.new.relieved.items ≡ slice_set self.old.relieved.items place false }
-        ensures nobody { length self.old.streams.items ≤ place → result ≡ false }
     {
-        if place >= self.streams.len() {
-            return false;
+        if place < self.streams.len() {
+            self.streams[place] = None;
         }
-        self.streams[place] = None;
-        let was_relieved = self.relieved[place];
-        self.relieved[place] = false;
-        was_relieved
     }
 
     /// Whether a connection is at a place.
@@ -143,62 +131,6 @@ impl Register {
         let row = self.sights.get(first..end)?;
         let place = who_makes_room(row, stays, now)?;
         self.end(first + place);
-        Some(place)
-    }
-
-    /// Whether a place has an orphan of which it was not relieved: a request is under way there, and the peer has hung up.
-    fn has_orphan(&self, presences: &[Presence], hangups: &mut Hangups, place: usize) -> bool
-        ensures taken { IsTrue result → is_taken_of self.now.streams.items place ≡ true }
-        ensures kept { IsTrue result → slice_get self.now.relieved.items place ≡ Some false }
-    {
-        if place >= self.streams.len() || self.relieved[place] {
-            return false;
-        }
-        let sight = self.sight(presences, place);
-        match &self.streams[place] {
-            Some(stream) => sight.is_under_way() && hangups.has_hung_up(stream),
-            None => false,
-        }
-    }
-
-    /// The first of `count` places from `first` on with an orphan of which it was not relieved.
-    fn find_orphan(
-        &self,
-        presences: &[Presence],
-        hangups: &mut Hangups,
-        first: usize,
-        count: usize,
-    ) -> Option<usize>
-        ensures taken { IfSome result (λ place. is_taken_of self.now.streams.items place ≡ true) }
-        ensures kept { IfSome result (λ place. slice_get self.now.relieved.items place ≡ Some false) }
-    {
-        for place in first..first.saturating_add(count) {
-            if self.has_orphan(presences, hangups, place) {
-                return Some(place);
-            }
-        }
-        None
-    }
-
-    /// Relieves one of `count` places from `first` on of its orphan, if one has any: a connection on which a request is under way and whose peer has hung
-    /// up. Who serves it does so to its end, and leaves then; another one may serve the next connection in its stead from now on. Each place is relieved
-    /// once of one connection. It takes no memory.
-    pub fn relieve(
-        &mut self,
-        presences: &[Presence],
-        hangups: &mut Hangups,
-        first: usize,
-        count: usize,
-    ) -> Option<usize>
-        ensures streams { self.new.streams.items ≡ self.old.streams.items }
-        ensures closed { self.new.is_closed ≡ self.old.is_closed }
-        ensures taken { IfSome result (λ place. is_taken_of self.old.streams.items place ≡ true) }
-        ensures once { IfSome result (λ place. slice_get self.old.relieved.items place ≡ Some false) }
-        ensures relieved { IfSome result (λ place. self.new.relieved.items ≡ slice_set self.old.relieved.items place true) }
-        ensures none { IfNone result (self.new.relieved.items ≡ self.old.relieved.items) }
-    {
-        let place = self.find_orphan(presences, hangups, first, count)?;
-        self.relieved[place] = true;
         Some(place)
     }
 

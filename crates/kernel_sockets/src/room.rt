@@ -81,7 +81,7 @@ impl Sight {
     }
 
     /// Whether a request is under way of who showed the key.
-    pub(crate) fn is_under_way(self) -> bool
+    fn is_under_way(self) -> bool
         ensures { IsTrue result ↔ IsUnderWay self }
     {
         self.is_trusted && !self.is_resting

@@ -1,5 +1,5 @@
 //! What strangers hold: connections on which no message with a valid signature came.
-ghost use Rattle.std.specs.Prelude.{◌≡◌, ◌+◌, ◌-◌, ◌^◌, ◌≤◌, ◌<◌, ◌↔◌, min, IsTrue, true, false, IfSome, IfNone};
+ghost use Rattle.std.specs.Prelude.{◌≡◌, ◌+◌, ◌-◌, ◌≤◌, ◌<◌, ◌↔◌, IsTrue, true, false, IfSome, IfNone};
 ghost use Rattle.kernel_sockets.specs.declared.shares.TheConstants.{COMMON_OCTETS, OWN_OCTETS};
 ghost use Rattle.kernel_sockets.specs.Shares.{common_of};
 
@@ -123,19 +123,6 @@ impl<S: Ledger> Common<S> {
         Some(Allowance { part })
     }
 
-    /// An allowance comes back, so that another place may have one: one is left more, but where as many are left as can be counted.
-    pub fn take_back(&mut self, allowance: Allowance<S>)
-        ensures left { self.new.left ≡ min (self.old.left + 1) (2 ^ 64 - 1) }
-        ensures held { self.new.held ≡ self.old.held }
-    {
-        let Allowance { part } = allowance;
-        let Some(left) = self.left.checked_add(1) else {
-            return;
-        };
-        self.rest.merge(part);
-        self.left = left;
-    }
-
     /// A stranger brings `count` octets more. False, and nothing changes, where strangers would hold too much together by that.
     pub fn bring(&mut self, share: &mut Share<S>, count: u64) -> bool
         ensures brought { IsTrue result → share.new.brought ≡ share.old.brought + count }
@@ -221,12 +208,6 @@ impl<S: Ledger> Strangers<S> {
     pub fn allowance<R: Wait>(&self, rt: &R) -> Option<Allowance<S>> {
         let mut common = self.common.lock(rt);
         common.allowance()
-    }
-
-    /// An allowance comes back, so that another place may have one.
-    pub fn take_back<R: Wait>(&self, rt: &R, allowance: Allowance<S>) {
-        let mut common = self.common.lock(rt);
-        common.take_back(allowance);
     }
 
     /// A stranger brings `count` octets more: what `Common::bring` answers of what strangers hold as it is under the lock. No lock is taken for what

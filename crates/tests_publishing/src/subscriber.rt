@@ -3,7 +3,8 @@
 //! and what is written; `amid` (a number, and octets) the same where the octets come from the subscriber once it has this number of octets of what is
 //! written, of which it takes one at a time. `over` has the writing half write on a connection that can be hung up on: how that ends, and whether it
 //! was hung up on. `ready` (octets) is `hear`, and gives what the watcher of the reading half was told; `answers` (a number) has
-//! the writing half write to a subscriber that takes this number of octets and then fails, and gives what its watcher was told. `limits` gives how many prefixes, and how many octets of them, a connection may subscribe to.
+//! the writing half write to a subscriber that takes this number of octets and then fails, and gives what its watcher was told. `limits` gives how many
+//! prefixes, and how many octets of them, a connection may subscribe to.
 ghost use Rattle.std.specs.Prelude.{◌≡◌, ◌<◌};
 
 use crate::line::Line;
