@@ -43,9 +43,9 @@
 //!
 //! It gives again what a program needs to start it: the kernel, the hall and the comms that it makes.
 //!
-//! In functions that are not public it is proved that of who showed the key no octets are counted, and that a stranger's octets come further
-//! only where they are counted. That none come further before this is asked is no clause's. When the watcher is told `kernel_session::serve` and
-//! `kernel_iopub` promise; that what it is told is noted at the place is tested. `serve_all` has a condition alone.
+//! By what is noted at a place `kernel_sockets::Account` promises that of who showed the key no octets are counted, and that a stranger's may be kept only if
+//! they are counted. That none are kept before it is asked is no clause's. When the watcher is told `kernel_session::serve` and `kernel_iopub` promise; that
+//! what it is told is noted at the place is tested. `serve_all` has a condition alone.
 #![tactic(auto)]
 
 mod acceptor;
