@@ -1,5 +1,5 @@
-/* How the ushers of sockets, their places and the end of the kernel wait: an usher, two places and three connections that come, or with -DDOORS=2 two
-   ushers, each with a place and a connection of its own; one who starts and ends all, and a shutdown that any connection may bring. A peer goes away, or
+/* How the acceptors of sockets, their places and the end of the kernel wait: an acceptor, two places and three connections that come, or with -DDOORS=2 two
+   acceptors, each with a place and a connection of its own; one who starts and ends all, and a shutdown that any connection may bring. A peer goes away, or
    stays until it is shut.
 
    Claims: no invalid end state: once a shutdown came, every thread comes to its end; and `ends`: it does so in the end, under weak fairness.
@@ -43,14 +43,14 @@ inline close_door(d) {          /* Door::close */
     WAKE_ALL(taken[d])
 }
 
-proctype Usher(byte me; byte d) {
+proctype Acceptor(byte me; byte d) {
     bool offers, is_awaited;
     AWAIT(has_started, starting, skip);                 /* Latch::wait */
     do
     :: is_ending -> break
     :: !is_ending ->
         if
-        :: is_listening && come[d] < CONNECTIONS -> come[d]++         /* usher::accept */
+        :: is_listening && come[d] < CONNECTIONS -> come[d]++         /* acceptor::accept */
         :: !is_listening -> goto again
         fi;
         AWAIT(!has_next[d], taken[d], offers = !is_door_closed[d]; has_next[d] = offers; is_awaited = !offers || idle[d] > 0);
@@ -58,7 +58,7 @@ proctype Usher(byte me; byte d) {
         :: !offers -> skip
         :: offers -> WAKE_ONE(offered[d])
         fi;
-        do                                              /* usher::see_in */
+        do                                              /* acceptor::see_in */
         :: is_awaited -> break
         :: !is_awaited ->
             if                                          /* Connections::make_room: a stranger, if one is there */
@@ -139,9 +139,9 @@ proctype Console() {
 
 init {
     atomic { 
-        run Starter(4); run Place(0); run Place(1); run Usher(2, 0);
+        run Starter(4); run Place(0); run Place(1); run Acceptor(2, 0);
 #if DOORS > 1
-        run Usher(3, 1);
+        run Acceptor(3, 1);
 #endif
         run Console()
     }

@@ -1,11 +1,12 @@
 /* How the halves of two subscribers' connections and a publisher of two broadcasts wait, or with -DPUBLISHERS=2 two of one each. One peer is there from the
-   first, the other is ready at some time and may ping once; each goes away, or is shut for reading as the kernel ends. Of the count it is kept for each
-   writing half whether it has risen since that half took it: nothing else of it is looked at.
+   first, the other is ready at some time and may ping once; each goes away, or is shut for reading as the kernel ends. Of a count it is kept whether it has
+   risen since its writing half took it: nothing else of it is looked at. It rises without a lock, which is taken only if the writing half sleeps or is about
+   to.
 
    Claims: no invalid end state, and no ping is left at the end; and `heard`: what is published behind the place at which a peer joined is read by its
    writing half, and a ping is answered, or that half has come to its end, whatever thread goes on.
-   Spoiled: the writing half takes the count after it has looked, so that what comes in between wakes it no more; or with -DSPOILED=2 who raises the count
-   wakes one of those who sleep. */
+   Spoiled: the writing half takes the count after it has looked, so that what comes in between wakes it no more; or with -DSPOILED=2 it says that it sleeps
+   only after it has looked at the count. */
 #include "waiting.h"
 
 #ifndef PUBLISHERS
@@ -17,8 +18,11 @@
 #define BROADCASTS (2 / PUBLISHERS)
 #define NOWHERE    99
 
-byte risen;                     /* EventCount::risen */
+byte risen[2];                  /* EventCount::risen */
+bool gate[2];                   /* EventCount::gate */
 bool has_risen[2];              /* whether EventCount::count is another one than was seen */
+bool is_awaited[2];             /* EventCount::is_awaited */
+bool is_reading[2];             /* Signals::is_reading */
 byte board;                     /* how many broadcasts lie on it */
 byte joined[2];                 /* Subscriber::joined */
 byte pings[2];                  /* Subscriber::pings */
@@ -26,13 +30,29 @@ bool is_silent[2];              /* Subscriber::is_silent */
 byte at[2];                     /* the place of a writing half */
 bool has_spoken[2];
 
-inline raise() {                /* EventCount::raise */
-    atomic { has_risen[0] = true; has_risen[1] = true };
-#if SPOILED == 2
-    WAKE_ONE(risen)
-#else
-    WAKE_ALL(risen)
+inline raise(whose) {              /* EventCount::raise */
+    has_risen[whose] = true;
+    if
+    :: is_awaited[whose] -> UNDER(gate[whose], skip); WAKE_ALL(risen[whose])
+    :: !is_awaited[whose] -> skip
+    fi
+}
+
+inline wait_past() {            /* EventCount::wait_past */
+    LOCK(gate[me]);
+#if SPOILED != 2
+    is_awaited[me] = true;
 #endif
+    do
+    :: has_risen[me] -> break
+    :: !has_risen[me] ->
+#if SPOILED == 2
+        is_awaited[me] = true;
+#endif
+        SLEEP(gate[me], risen[me])
+    od;
+    UNLOCK(gate[me]);
+    is_awaited[me] = false
 }
 
 proctype Publisher() {
@@ -41,7 +61,15 @@ proctype Publisher() {
     :: atomic { count < BROADCASTS -> count++; board++ };   /* Bulletin::publish */
         if
         :: count < BROADCASTS -> skip                   /* request::publish_each publishes more first */
-        :: raise()                                      /* Bulletin::wake */
+        :: true ->                                      /* Bulletin::wake */
+            if
+            :: is_reading[0] -> raise(0)                /* Signals::wake_reader */
+            :: !is_reading[0] -> skip
+            fi;
+            if
+            :: is_reading[1] -> raise(1)
+            :: !is_reading[1] -> skip
+            fi
         fi
     :: count == BROADCASTS -> break
     od
@@ -52,15 +80,15 @@ proctype Hears(byte who) {
     if
     :: joined[who] == NOWHERE ->
         joined[who] = board;                            /* Subscriber::take: Bulletin::join */
-        raise();                                        /* half::hear_all */
+        raise(who);                                     /* half::wake_for */
         if
-        :: pings[who]++; raise()
+        :: pings[who]++; raise(who)
         :: skip
         fi
     :: joined[who] != NOWHERE -> skip
     fi;
     is_silent[who] = true;                              /* subscriber::fall_silent */
-    raise()                                             /* half::hear */
+    raise(who)                                          /* half::hear */
 }
 
 proctype Speaks(byte me) {
@@ -71,22 +99,22 @@ proctype Speaks(byte me) {
 #if SPOILED != 1
         has_risen[me] = false;                          /* EventCount::seen */
 #endif
-        atomic { joined_at = joined[me]; was_silent = is_silent[me] };      /* subscriber::look */
-        pings[me] = 0;                                  /* half::answer: take_pings */
-        atomic {
-            before = (at[me] != NOWHERE -> at[me] : joined_at);
-            if
-            :: before == NOWHERE -> skip                /* half::go_on: no place to read from */
-            :: before != NOWHERE -> at[me] = board      /* Bulletin::read_from */
-            fi
-        };
+        atomic { joined_at = joined[me]; was_silent = is_silent[me]; pings[me] = 0 };       /* half::look_and_answer: subscriber::look */
+        before = (at[me] != NOWHERE -> at[me] : joined_at);
+        if
+        :: at[me] == NOWHERE && joined_at != NOWHERE -> is_reading[me] = true       /* half::join: Signals::read_on */
+        :: at[me] != NOWHERE || joined_at == NOWHERE -> skip
+        fi;
+        if
+        :: before == NOWHERE -> skip                    /* half::go_on: no place to read from */
+        :: before != NOWHERE -> at[me] = board          /* Bulletin::read_from */
+        fi;
 #if SPOILED == 1
         has_risen[me] = false;
 #endif
         if
         :: at[me] == before && was_silent -> break
-        :: at[me] == before && !was_silent ->
-            AWAIT(has_risen[me], risen, skip)           /* EventCount::wait_past */
+        :: at[me] == before && !was_silent -> wait_past()
         :: at[me] != before -> skip
         fi
     od;

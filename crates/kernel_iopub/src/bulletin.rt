@@ -3,30 +3,28 @@ ghost use Rattle.std.specs.Prelude.{IfOk};
 ghost use Rattle.kernel_board.specs.Log.{Log, IsLog};
 ghost use Rattle.kernel_board.specs.Reads.{IsRead};
 
-use crate::event_count::EventCount;
+use crate::signals::Signals;
 use kernel_board::{Board, BoardFault, Broadcast, Place, Read};
 use std::alloc::{AllocError, Global};
 use std::sync::Wait;
 
-/// The board, and the count that rises once broadcasts were published.
+/// The board, and at each place of a subscriber the signals of the one that is there.
 #[derive(Drop)]
 pub struct Bulletin {
     board: Board,
-    event_count: EventCount,
+    signals: Vec<Signals>,
 }
 
 impl Bulletin {
-    /// A board with nothing on it.
+    /// A board with nothing on it, and a number of places for subscribers.
     ///
     /// # Errors
     ///
     /// `AllocError` where there is no memory.
-    pub fn new(alloc: Global) -> Result<Bulletin, AllocError> {
+    pub fn new(alloc: Global, places: usize) -> Result<Bulletin, AllocError> {
         let board = Board::new(alloc)?;
-        Ok(Bulletin {
-            board,
-            event_count: EventCount::new(),
-        })
+        let signals = signals_of(alloc, places)?;
+        Ok(Bulletin { board, signals })
     }
 
     /// Appends a broadcast to the board, as `kernel_board::publish_on` does to the log under its lock. It takes no memory, and wakes nobody. One that no
@@ -38,9 +36,19 @@ impl Bulletin {
         let _number = self.board.publish(rt, broadcast);
     }
 
-    /// Wakes who waits for broadcasts: the count rises, so what was published before is found by each who looks then.
+    /// Wakes each subscriber that reads the board: its count rises, so it finds what was published before as it looks then. No lock is taken for one that
+    /// is awake, and nobody else is woken.
     pub fn wake<R: Wait>(&self, rt: &R) {
-        self.event_count.raise(rt);
+        for signals in &self.signals {
+            signals.wake_reader(rt);
+        }
+    }
+
+    /// Wakes all who wait at any place.
+    pub fn wake_all<R: Wait>(&self, rt: &R) {
+        for signals in &self.signals {
+            signals.event_count().raise(rt);
+        }
     }
 
     /// The place after the last broadcast: the end of the log as it is under the board's lock.
@@ -59,8 +67,17 @@ impl Bulletin {
         self.board.read_from(rt, place)
     }
 
-    /// The count that rises once broadcasts were published, and whenever else there is something to look at.
-    pub fn event_count(&self) -> &EventCount {
-        &self.event_count
+    /// The signals of the subscriber at a place, if there is such a place.
+    pub fn signals(&self, place: usize) -> Option<&Signals> {
+        self.signals.get(place)
     }
+}
+
+/// The signals of a number of places at which no subscriber has been yet.
+fn signals_of(alloc: Global, places: usize) -> Result<Vec<Signals>, AllocError> {
+    let mut signals = Vec::with_capacity(alloc, places)?;
+    for _ in 0..places {
+        signals.push(Signals::new())?;
+    }
+    Ok(signals)
 }

@@ -1,6 +1,7 @@
 //! The two halves of a subscriber's connection.
 ghost use Rattle.std.specs.Prelude.{◌≡◌, ◌<◌, ℕ, Bool, true, [], ◌∷◌, IfOk, OnOk, OnErr, if◌then◌else◌};
 ghost use Rattle.std.specs.List.{flat_map};
+ghost use Rattle.std.specs.Option.{option_or};
 ghost use Rattle.zmtp_wire.specs.Message.{bodies_of};
 ghost use Rattle.kernel_watch.specs.Hears.{Hears};
 ghost use Rattle.kernel_iopub.specs.Signs.{Gone, Goes, GoesSome, gone, pong_signs, ready_notices};
@@ -10,9 +11,10 @@ use crate::bulletin::Bulletin;
 use crate::fault::SubscriberFault;
 use crate::news::News;
 use crate::send::{send_broadcast, send_pong};
+use crate::signals::Signals;
 use crate::subscriber::{
-    PREFIX_LIMIT, PREFIX_OCTET_LIMIT, Subscriber, fall_silent, look, note_answered, take,
-    take_pings, wanted,
+    PREFIX_LIMIT, PREFIX_OCTET_LIMIT, Sight, Subscriber, fall_silent, look, take, take_pings,
+    wanted,
 };
 use kernel_board::{Broadcast, Place, Read as BoardRead};
 use kernel_watch::{Notice, Watcher};
@@ -45,10 +47,10 @@ fn tell_ready<V: Watcher>(watcher: &mut V, was_ready: bool, is_ready: bool) -> b
     is_ready
 }
 
-/// Wakes the writers where a peer is ready or has sent pings. What else it sends, as that it subscribes, is nothing to wake those of all connections for.
-fn wake_for<R: Wait>(rt: &R, bulletin: &Bulletin, news: News) {
+/// Wakes the peer's own writing half, if the peer is ready or has sent pings. What else it sends, as that it subscribes, is nothing to wake anyone for.
+fn wake_for<R: Wait>(rt: &R, signals: &Signals, news: News) {
     if news.is_ready || news.pings > 0 {
-        bulletin.event_count().raise(rt);
+        signals.event_count().raise(rt);
     }
 }
 
@@ -56,6 +58,7 @@ fn wake_for<R: Wait>(rt: &R, bulletin: &Bulletin, news: News) {
 fn hear_all<L: Ledger, R: Wait, I: Read, V: Watcher>(
     rt: &R,
     bulletin: &Bulletin,
+    signals: &Signals,
     shared: &Mutex<Subscriber<L>>,
     reader: &mut I,
     watcher: &mut V,
@@ -75,10 +78,10 @@ fn hear_all<L: Ledger, R: Wait, I: Read, V: Watcher>(
         if heard > HEARD_OCTET_LIMIT {
             return Err(SubscriberFault::TooMuch);
         }
-        let news = take(rt, bulletin, shared, &room[..count])?;
+        let news = take(rt, bulletin, signals, shared, &room[..count])?;
         is_ready = tell_ready(watcher, is_ready, news.is_ready);
         heard = heard.saturating_sub(news.ping_octets);
-        wake_for(rt, bulletin, news);
+        wake_for(rt, signals, news);
     }
     Err(SubscriberFault::Read)
 }
@@ -88,15 +91,16 @@ fn hear_all<L: Ledger, R: Wait, I: Read, V: Watcher>(
 pub fn hear<L: Ledger, R: Wait, I: Read, V: Watcher>(
     rt: &R,
     bulletin: &Bulletin,
+    signals: &Signals,
     shared: &Mutex<Subscriber<L>>,
     reader: &mut I,
     watcher: &mut V,
 ) -> Result<(), SubscriberFault>
     ensures told { (is_ready : Bool) × Hears (V.notices watcher.old) (V.notices watcher.new) (ready_notices is_ready) }
 {
-    let heard = hear_all(rt, bulletin, shared, reader, watcher);
+    let heard = hear_all(rt, bulletin, signals, shared, reader, watcher);
     fall_silent(rt, shared);
-    bulletin.event_count().raise(rt);
+    signals.event_count().raise(rt);
     heard
 }
 
@@ -122,10 +126,9 @@ fn send_answer<W: Write, V: Watcher>(
 }
 
 /// Writes answers to pings in turn, and tells of each: all of them, or some and a beginning of the next.
-fn send_pongs<L: Ledger, R: Wait, W: Write, V: Watcher>(
-    rt: &R,
+fn send_pongs<W: Write, V: Watcher>(
     alloc: Global,
-    shared: &Mutex<Subscriber<L>>,
+    signals: &Signals,
     writer: &mut W,
     watcher: &mut V,
     contexts: &[Vec<u8>],
@@ -137,7 +140,7 @@ fn send_pongs<L: Ledger, R: Wait, W: Write, V: Watcher>(
 {
     for context in contexts {
         match send_answer(alloc, writer, watcher, context) {
-            Ok(()) => note_answered(rt, shared),
+            Ok(()) => signals.note_answered(),
             Err(fault) => return Err(fault),
         }
     }
@@ -149,6 +152,7 @@ fn send_pongs<L: Ledger, R: Wait, W: Write, V: Watcher>(
 fn answer<L: Ledger, R: Wait, W: Write, V: Watcher>(
     rt: &R,
     alloc: Global,
+    signals: &Signals,
     shared: &Mutex<Subscriber<L>>,
     share: &mut Share<L>,
     writer: &mut W,
@@ -162,7 +166,7 @@ fn answer<L: Ledger, R: Wait, W: Write, V: Watcher>(
     ensures parts { share.new.parts ≡ share.old.parts }
 {
     match take_pings(rt, shared, share) {
-        Ok(contexts) => send_pongs(rt, alloc, shared, writer, watcher, &contexts),
+        Ok(contexts) => send_pongs(alloc, signals, writer, watcher, &contexts),
         Err(fault) => Err(fault),
     }
 }
@@ -171,6 +175,7 @@ fn answer<L: Ledger, R: Wait, W: Write, V: Watcher>(
 fn send_next<L: Ledger, R: Wait, W: Write, V: Watcher>(
     rt: &R,
     alloc: Global,
+    signals: &Signals,
     shared: &Mutex<Subscriber<L>>,
     share: &mut Share<L>,
     writer: &mut W,
@@ -184,7 +189,7 @@ fn send_next<L: Ledger, R: Wait, W: Write, V: Watcher>(
         (gone (W.contents writer.new) (V.notices watcher.new)) (broadcast.now ∷ [])) }
     ensures parts { share.new.parts ≡ share.old.parts }
 {
-    match answer(rt, alloc, shared, share, writer, watcher) {
+    match answer(rt, alloc, signals, shared, share, writer, watcher) {
         Ok(()) => {}
         Err(fault) => return Err(fault),
     }
@@ -198,6 +203,7 @@ fn send_next<L: Ledger, R: Wait, W: Write, V: Watcher>(
 fn send_all<L: Ledger, R: Wait, W: Write, V: Watcher>(
     rt: &R,
     alloc: Global,
+    signals: &Signals,
     shared: &Mutex<Subscriber<L>>,
     share: &mut Share<L>,
     writer: &mut W,
@@ -212,7 +218,9 @@ fn send_all<L: Ledger, R: Wait, W: Write, V: Watcher>(
     ensures parts { share.new.parts ≡ share.old.parts }
 {
     for broadcast in broadcasts {
-        match send_next(rt, alloc, shared, share, writer, watcher, broadcast) {
+        match send_next(
+            rt, alloc, signals, shared, share, writer, watcher, broadcast,
+        ) {
             Ok(()) => {}
             Err(fault) => return Err(fault),
         }
@@ -227,6 +235,7 @@ fn write_from<L: Ledger, R: Wait, W: Write, V: Watcher>(
     rt: &R,
     alloc: Global,
     bulletin: &Bulletin,
+    signals: &Signals,
     shared: &Mutex<Subscriber<L>>,
     share: &mut Share<L>,
     writer: &mut W,
@@ -245,7 +254,7 @@ fn write_from<L: Ledger, R: Wait, W: Write, V: Watcher>(
         Ok(BoardRead::Lagged(_)) => Err(SubscriberFault::Lagged),
         Ok(BoardRead::Got(broadcasts, next)) => {
             let kept = wanted(rt, alloc, shared, &broadcasts)?;
-            match send_all(rt, alloc, shared, share, writer, watcher, &kept) {
+            match send_all(rt, alloc, signals, shared, share, writer, watcher, &kept) {
                 Ok(()) => Ok(next),
                 Err(fault) => Err(fault),
             }
@@ -258,6 +267,7 @@ fn go_on<L: Ledger, R: Wait, W: Write, V: Watcher>(
     rt: &R,
     alloc: Global,
     bulletin: &Bulletin,
+    signals: &Signals,
     shared: &Mutex<Subscriber<L>>,
     share: &mut Share<L>,
     writer: &mut W,
@@ -274,10 +284,50 @@ fn go_on<L: Ledger, R: Wait, W: Write, V: Watcher>(
     let Some(place) = before else {
         return Ok(None);
     };
-    match write_from(rt, alloc, bulletin, shared, share, writer, watcher, place) {
+    match write_from(
+        rt, alloc, bulletin, signals, shared, share, writer, watcher, place,
+    ) {
         Ok(next) => Ok(Some(next)),
         Err(fault) => Err(fault),
     }
+}
+
+/// Looks once, and answers the pings that wait then, all of them. What it saw.
+#[tactic(auto, using(crate::proofs::SignLemmas::goes_none))]
+fn look_and_answer<L: Ledger, R: Wait, W: Write, V: Watcher>(
+    rt: &R,
+    alloc: Global,
+    signals: &Signals,
+    shared: &Mutex<Subscriber<L>>,
+    share: &mut Share<L>,
+    writer: &mut W,
+    watcher: &mut V,
+) -> Result<Sight, SubscriberFault>
+    requires share { (share.old.parts ≡ L.parts) × (0 < share.old.parts) }
+    ensures ok { OnOk result (AreAnswered share.old.amount (gone (W.contents writer.old) (V.notices watcher.old))
+        (gone (W.contents writer.new) (V.notices watcher.new)) share.new.amount) }
+    ensures err { OnErr result (AreAnsweredInPart share.old.amount (gone (W.contents writer.old) (V.notices watcher.old))
+        (gone (W.contents writer.new) (V.notices watcher.new))) }
+    ensures parts { share.new.parts ≡ share.old.parts }
+{
+    let (sight, contexts) = match look(rt, shared, share) {
+        Ok(found) => found,
+        Err(fault) => return Err(fault),
+    };
+    match send_pongs(alloc, signals, writer, watcher, &contexts) {
+        Ok(()) => Ok(sight),
+        Err(fault) => Err(fault),
+    }
+}
+
+/// Where the board is read next: where the last round ended, or else where the peer joined, if it has. From then on broadcasts wake this half.
+fn join(signals: &Signals, at: Option<Place>, joined: Option<Place>) -> Option<Place>
+    ensures { result ≡ option_or at joined }
+{
+    if at.is_none() && joined.is_some() {
+        signals.read_on();
+    }
+    at.or(joined)
 }
 
 /// The writing half: it writes what the peer wants from where it joined on, and between messages it answers pings, until nothing more comes from the
@@ -286,6 +336,7 @@ pub fn speak<L: Ledger, R: Wait, W: Write, V: Watcher>(
     rt: &R,
     alloc: Global,
     bulletin: &Bulletin,
+    signals: &Signals,
     shared: &Mutex<Subscriber<L>>,
     share: &mut Share<L>,
     writer: &mut W,
@@ -300,14 +351,15 @@ pub fn speak<L: Ledger, R: Wait, W: Write, V: Watcher>(
 {
     let mut at: Option<Place> = None;
     for _ in rt.forever() {
-        let seen = bulletin.event_count().seen(rt);
-        let sight = look(rt, shared);
-        match answer(rt, alloc, shared, share, writer, watcher) {
-            Ok(()) => {}
+        let seen = signals.event_count().seen();
+        let sight = match look_and_answer(rt, alloc, signals, shared, share, writer, watcher) {
+            Ok(sight) => sight,
             Err(fault) => return Err(fault),
-        }
-        let before = at.or(sight.joined);
-        at = match go_on(rt, alloc, bulletin, shared, share, writer, watcher, before) {
+        };
+        let before = join(signals, at, sight.joined);
+        at = match go_on(
+            rt, alloc, bulletin, signals, shared, share, writer, watcher, before,
+        ) {
             Ok(after) => after,
             Err(fault) => return Err(fault),
         };
@@ -315,7 +367,7 @@ pub fn speak<L: Ledger, R: Wait, W: Write, V: Watcher>(
             if sight.is_silent {
                 return Ok(());
             }
-            bulletin.event_count().wait_past(rt, seen);
+            signals.event_count().wait_past(rt, seen);
         }
     }
     unreachable!()

@@ -1,9 +1,11 @@
 //! The publish socket of a kernel: one connection of it, served by two threads, one of which reads what the peer subscribes to while the
 //! other writes what it wants of the broadcasts on the board.
 //!
-//! The broadcasts of a kernel lie on the board of [`Bulletin`], beside a count that rises whenever there is something to look at: who
-//! published and then wakes, who has nothing more to hear and who ends the kernel do so first and then raise it, and who waits takes the count, looks
-//! at everything, and waits until the count is another one. So no waking is lost, and nobody polls.
+//! The broadcasts of a kernel lie on the board of [`Bulletin`], with the [`Signals`] of the subscriber at each place: a count of its own that rises whenever
+//! its writing half has something to look at. Who published wakes those that read the board, a reading half its own writing half alone, and who ends the
+//! kernel all of them: each does so first and then raises the count, and who waits takes the count, looks at everything, and waits until the count is another
+//! one. So no waking is lost, and nobody polls. No lock is taken for one that is awake. On its way to its answer a ping takes the subscriber's lock twice, as
+//! it is heard and as the writing half takes it, and in between that of the count, if the writing half sleeps.
 //!
 //! [`serve_subscriber`] is a connection, over any reader and writer. The peer joins the board as it is ready; one that falls behind what
 //! the board keeps is disconnected.
@@ -30,7 +32,8 @@
 //! No contract says that a round comes, that one who waits wakes, or that a subscriber is heard. The sources are RFC 23 for messages, RFC 29 for a
 //! publisher's subscriptions, and RFC 37 for pings.
 //!
-//! `serve_subscriber`, which runs the halves on two threads, has no clause. That a subscriber which lost a ping for want of memory is
+//! A writing half has hung up on its peer once it has ended, however it ended ([`speak_and_hang_up`]): so a subscriber that fell behind what the board keeps
+//! is disconnected. `serve_subscriber`, which runs the halves on two threads, has no clause. That a subscriber which lost a ping for want of memory is
 //! marked so is no clause's.
 #![tactic(auto)]
 
@@ -41,6 +44,7 @@ mod half;
 mod news;
 mod send;
 mod serve;
+mod signals;
 mod subscriber;
 
 pub use bulletin::Bulletin;
@@ -48,5 +52,6 @@ pub use event_count::EventCount;
 pub use fault::SubscriberFault;
 pub use half::{hear, speak};
 pub use kernel_watch::{Notice, Unwatched, Watcher};
-pub use serve::{HangUp, serve_subscriber};
+pub use serve::{HangUp, serve_subscriber, speak_and_hang_up};
+pub use signals::Signals;
 pub use subscriber::{PREFIX_LIMIT, PREFIX_OCTET_LIMIT, Subscriber};

@@ -1,9 +1,10 @@
 //! A connection of the publish socket.
-ghost use Rattle.std.specs.Prelude.{◌≡◌, ◌<◌};
+ghost use Rattle.std.specs.Prelude.{◌≡◌, ◌<◌, true};
 
 use crate::bulletin::Bulletin;
 use crate::fault::SubscriberFault;
 use crate::half::{hear, speak};
+use crate::signals::Signals;
 use crate::subscriber::Subscriber;
 use exact_write::send;
 use kernel_watch::Watcher;
@@ -17,32 +18,35 @@ use std::thread::{Scope, Threads};
 
 /// The end of a connection at which the writer stands, so that the reader's end comes too.
 pub trait HangUp {
+    ghost use Rattle.std.specs.Prelude.{◌≡◌, Bool, true};
+
+    // It has hung up.
+    ghost is_over: { Self → Bool };
+
     /// Ends the connection both ways: a read that waits at its other handle ends.
-    fn hang_up(&mut self);
+    fn hang_up(&mut self)
+        ensures { is_over self.new ≡ true };
 }
 
-/// The writing half on its thread: it hangs up behind what it wrote, so that the reading half ends too.
-fn speak_and_hang_up<L: Ledger, R: Wait, W: Write + HangUp + Drop, V: Watcher + Drop>(
+/// The writing half on its thread, and its end. What it writes is what [`speak`] writes; then it has hung up, however that ended, so that the reading half
+/// ends too: a subscriber that fell behind what the board keeps is disconnected. It answers how the writing half ended.
+pub fn speak_and_hang_up<L: Ledger, R: Wait, W: Write + HangUp, V: Watcher>(
     rt: &R,
     alloc: Global,
     bulletin: &Bulletin,
+    signals: &Signals,
     shared: &Mutex<Subscriber<L>>,
-    mut share: Share<L>,
-    mut writer: W,
-    mut watcher: V,
-)
-    requires { (share.parts ≡ L.parts) × (0 < share.parts) }
+    share: &mut Share<L>,
+    writer: &mut W,
+    watcher: &mut V,
+) -> Result<(), SubscriberFault>
+    requires share { (share.old.parts ≡ L.parts) × (0 < share.old.parts) }
+    ensures over { W.is_over writer.new ≡ true }
+    ensures parts { share.new.parts ≡ share.old.parts }
 {
-    let _ = speak(
-        rt,
-        alloc,
-        bulletin,
-        shared,
-        &mut share,
-        &mut writer,
-        &mut watcher,
-    );
+    let spoken = speak(rt, alloc, bulletin, signals, shared, share, writer, watcher);
     writer.hang_up();
+    spoken
 }
 
 /// Serves one connection of the publish socket: a thread beside this one writes what the peer wants of the broadcasts from the time on at
@@ -67,6 +71,7 @@ pub fn serve_subscriber<
     rt: &R,
     alloc: Global,
     bulletin: &Bulletin,
+    signals: &Signals,
     reader: &mut I,
     writer: W,
     hearing: &mut H,
@@ -76,6 +81,7 @@ pub fn serve_subscriber<
         rt,
         alloc,
         bulletin,
+        signals,
         reader,
         writer,
         hearing,
@@ -97,6 +103,7 @@ fn start_speaking<
     rt: &'s R,
     alloc: Global,
     bulletin: &'s Bulletin,
+    signals: &'s Signals,
     shared: &'s Mutex<Subscriber<L>>,
     share: Share<L>,
     writer: W,
@@ -104,9 +111,21 @@ fn start_speaking<
 ) -> bool
     requires { (share.parts ≡ L.parts) × (0 < share.parts) }
 {
+    let (mut share, mut writer, mut watcher) = (share, writer, watcher);
     let half = move ||
         requires { (share.parts ≡ L.parts) × (0 < share.parts) }
-    { speak_and_hang_up(rt, alloc, bulletin, shared, share, writer, watcher) };
+    {
+        let _ = speak_and_hang_up(
+            rt,
+            alloc,
+            bulletin,
+            signals,
+            shared,
+            &mut share,
+            &mut writer,
+            &mut watcher,
+        );
+    };
     scope.spawn(half).is_ok()
 }
 
@@ -122,6 +141,7 @@ fn run_halves<
     rt: &R,
     alloc: Global,
     bulletin: &Bulletin,
+    signals: &Signals,
     shared: &Mutex<Subscriber<L>>,
     share: Share<L>,
     reader: &mut I,
@@ -137,10 +157,12 @@ fn run_halves<
         |scope|
             requires { (share.parts ≡ L.parts) × (0 < share.parts) }
         {
-            if !start_speaking(scope, rt, alloc, bulletin, shared, share, writer, speaking) {
+            if !start_speaking(
+                scope, rt, alloc, bulletin, signals, shared, share, writer, speaking,
+            ) {
                 return Err(SubscriberFault::Memory);
             }
-            hear(rt, bulletin, shared, reader, hearing)
+            hear(rt, bulletin, signals, shared, reader, hearing)
         },
     )
 }
@@ -157,6 +179,7 @@ fn serve_counted<
     rt: &R,
     alloc: Global,
     bulletin: &Bulletin,
+    signals: &Signals,
     reader: &mut I,
     mut writer: W,
     hearing: &mut H,
@@ -166,6 +189,7 @@ fn serve_counted<
     requires name { blank.name ≡ L.name }
     requires parts { (blank.parts ≡ L.parts) × (blank.parts ≡ 1) }
 {
+    signals.begin();
     let (subscriber, share) = Subscriber::<L>::new(alloc, blank);
     let opening = subscriber.opening()?;
     if send(&mut writer, &opening).is_err() {
@@ -173,6 +197,6 @@ fn serve_counted<
     }
     let shared = Mutex::new(subscriber);
     run_halves(
-        rt, alloc, bulletin, &shared, share, reader, writer, hearing, speaking,
+        rt, alloc, bulletin, signals, &shared, share, reader, writer, hearing, speaking,
     )
 }

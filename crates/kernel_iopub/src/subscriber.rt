@@ -6,10 +6,12 @@ ghost use Rattle.zmtp_peer.specs.Reading.{Stands};
 ghost use Rattle.zmtp_wire.specs.Message.{bodies_of};
 ghost use Rattle.kernel_iopub.specs.Round.{AreWanted, WasFed, IsChosen};
 ghost use Rattle.kernel_iopub.specs.Pings.{HasAsked, WereAsked, BringsPings};
+ghost use Rattle.kernel_iopub.specs.declared.subscriber.TheConstants.{PREFIX_LIMIT, PREFIX_OCTET_LIMIT};
 
 use crate::bulletin::Bulletin;
 use crate::fault::SubscriberFault;
 use crate::news::{News, news_of};
+use crate::signals::Signals;
 use kernel_board::{Broadcast, Place};
 use std::alloc::Global;
 use std::mem;
@@ -50,6 +52,8 @@ pub struct Subscriber<L: Ledger> {
     /// How many prefixes it has subscribed to over its life, and how many octets they have together.
     prefixes: u32,
     prefix_octets: usize,
+    ghost few_prefixes: { prefixes ≤ PREFIX_LIMIT },
+    ghost short_prefixes: { prefix_octets ≤ PREFIX_OCTET_LIMIT },
 }
 
 /// What the writing half finds.
@@ -94,22 +98,27 @@ impl<L: Ledger> Subscriber<L> {
     /// Counts what came.
     ///
     /// # Errors
-    /// `TooMuch` where a limit of the prefixes or of the pings without an answer is passed, and else none.
+    /// `TooMuch` if a limit of the prefixes or of the pings without an answer would be passed, and no other; then nothing is counted.
     fn count(&mut self, news: News) -> Result<(), SubscriberFault>
         ensures same { (self.new.peer ≡ self.old.peer) × (self.new.pings ≡ self.old.pings) }
         ensures unanswered { OnOk result ((self.new.unanswered ≡ self.old.unanswered + news.pings) × (self.new.unanswered < UNANSWERED_PING_LIMIT)) }
+        ensures prefixes { OnOk result (self.new.prefixes ≡ self.old.prefixes + news.prefixes) }
+        ensures prefix_octets { OnOk result (self.new.prefix_octets ≡ self.old.prefix_octets + news.prefix_octets) }
         ensures too_much { OnErr result ((UNANSWERED_PING_LIMIT ≤ self.old.unanswered + news.pings)
             ⊎ ((PREFIX_LIMIT < self.old.prefixes + news.prefixes) ⊎ (PREFIX_OCTET_LIMIT < self.old.prefix_octets + news.prefix_octets))) }
     {
-        self.prefixes = self.prefixes.saturating_add(news.prefixes);
-        self.prefix_octets = self.prefix_octets.saturating_add(news.prefix_octets);
-        self.unanswered = self.unanswered.saturating_add(news.pings);
-        if self.prefixes > PREFIX_LIMIT
-            || self.prefix_octets > PREFIX_OCTET_LIMIT
-            || self.unanswered >= UNANSWERED_PING_LIMIT
+        let prefixes = self.prefixes.saturating_add(news.prefixes);
+        let prefix_octets = self.prefix_octets.saturating_add(news.prefix_octets);
+        let unanswered = self.unanswered.saturating_add(news.pings);
+        if prefixes > PREFIX_LIMIT
+            || prefix_octets > PREFIX_OCTET_LIMIT
+            || unanswered >= UNANSWERED_PING_LIMIT
         {
             return Err(SubscriberFault::TooMuch);
         }
+        self.prefixes = prefixes;
+        self.prefix_octets = prefix_octets;
+        self.unanswered = unanswered;
         Ok(())
     }
 
@@ -131,12 +140,12 @@ impl<L: Ledger> Subscriber<L> {
         mem::replace(&mut self.pings, Vec::new(self.alloc))
     }
 
-    /// One ping more was answered.
-    fn answered(&mut self)
-        ensures fewer { self.new.unanswered ≡ self.old.unanswered - 1 }
+    /// So many pings more were answered.
+    fn answered(&mut self, count: usize)
+        ensures fewer { self.new.unanswered ≡ self.old.unanswered - count }
         ensures same { (self.new.peer ≡ self.old.peer) × (self.new.pings ≡ self.old.pings) }
     {
-        self.unanswered = self.unanswered.saturating_sub(1);
+        self.unanswered = self.unanswered.saturating_sub(count);
     }
 
     /// Feeds the peer what came. As it is ready it joins the board. What came: the pings in it wait behind the others, and each counts as unanswered.
@@ -223,15 +232,18 @@ fn wanted_of(
     Ok(kept)
 }
 
-/// Feeds the peer what came, and tells its fault. What came.
+/// Takes note of the pings that were answered, feeds the peer what came, and tells its fault. What came. It takes one lock.
 pub(crate) fn take<L: Ledger, R: Wait>(
     rt: &R,
     bulletin: &Bulletin,
+    signals: &Signals,
     shared: &Mutex<Subscriber<L>>,
     piece: &[u8],
 ) -> Result<News, SubscriberFault> {
+    let answered = signals.take_answered();
     let mut guard = shared.lock(rt);
     let subscriber = &mut *guard;
+    subscriber.answered(answered);
     let news = subscriber.take(rt, bulletin, piece)?;
     // A fault behind the events is told by a call of its own.
     subscriber.take(rt, bulletin, &[])?;
@@ -261,26 +273,38 @@ pub(crate) fn take_pings<L: Ledger, R: Wait>(
     Ok(subscriber.give_pings(share))
 }
 
-/// One ping was answered.
-pub(crate) fn note_answered<L: Ledger, R: Wait>(rt: &R, shared: &Mutex<Subscriber<L>>) {
-    let mut guard = shared.lock(rt);
-    let subscriber = &mut *guard;
-    subscriber.answered();
-}
-
 /// Nothing more comes from the peer.
 pub(crate) fn fall_silent<L: Ledger, R: Wait>(rt: &R, shared: &Mutex<Subscriber<L>>) {
     let mut guard = shared.lock(rt);
     guard.is_silent = true;
 }
 
-/// What the writing half finds.
-pub(crate) fn look<L: Ledger, R: Wait>(rt: &R, shared: &Mutex<Subscriber<L>>) -> Sight {
-    let subscriber = shared.lock(rt);
-    Sight {
+/// What the writing half finds, and the pings that wait, which it takes in their order. Each counts as unanswered until it is told otherwise. The share
+/// counts them. It takes one lock.
+///
+/// # Errors
+/// `Memory` if one is lost for lack of it.
+pub(crate) fn look<L: Ledger, R: Wait>(
+    rt: &R,
+    shared: &Mutex<Subscriber<L>>,
+    share: &mut Share<L>,
+) -> Result<(Sight, Vec<Vec<u8>>), SubscriberFault>
+    requires share { (share.old.parts ≡ L.parts) × (0 < share.old.parts) }
+    ensures asked { IfOk result (λ found. WereAsked share.old.amount (bodies_of found.1.items)) }
+    ensures taken { IfOk result (λ found. share.new.amount ≡ share.old.amount + vec_len found.1) }
+    ensures parts { share.new.parts ≡ share.old.parts }
+    ensures err { IfErr result (λ fault. fault ≡ SubscriberFault.Memory) }
+{
+    let mut guard = shared.lock(rt);
+    let subscriber = &mut *guard;
+    if !subscriber.is_whole {
+        return Err(SubscriberFault::Memory);
+    }
+    let sight = Sight {
         joined: subscriber.joined,
         is_silent: subscriber.is_silent,
-    }
+    };
+    Ok((sight, subscriber.give_pings(share)))
 }
 
 /// Those of the broadcasts that the peer wants, as it stands under the lock.

@@ -13,6 +13,7 @@ use Rattle.kernel_board.specs.contracts.log.BroadcastLog as BroadcastLog
 use Rattle.kernel_desk.proofs.HallCrosses.{Hall-sync}
 use Rattle.kernel_desk.specs.HistoryNames as HistoryName
 use Rattle.kernel_iopub.specs.contracts.bulletin.Bulletin as Bulletin
+use Rattle.kernel_iopub.specs.contracts.signals.Signals as Signals
 use Rattle.kernel_sockets.specs.contracts.connections.Connections as Connections
 use Rattle.kernel_sockets.specs.contracts.listener.Listener as Listener
 use Rattle.kernel_sockets.specs.contracts.shares.Common as Common
@@ -28,8 +29,11 @@ Broadcast-send = search (crosses, sendable) depth 60 fits 20000
 BroadcastLog-send : IsSend (BroadcastLog.the_field).row
 BroadcastLog-send = search (crosses, cells_send, deed_send, frees, Broadcast-send, sendable) depth 60 fits 20000
 
+Signals-sync : IsSync (Signals.the_field).row
+Signals-sync = search (crosses, sendable) depth 60 fits 20000
+
 pub Bulletin-sync : IsSync (Bulletin.the_field).row
-Bulletin-sync = search (crosses, BroadcastLog-send, sendable) depth 60 fits 20000
+Bulletin-sync = search (crosses, BroadcastLog-send, Signals-sync, sendable) depth 60 fits 20000
 
 Connections-sync : IsSync (Connections.the_field).row
 Connections-sync = search (crosses, sendable) depth 60 fits 20000

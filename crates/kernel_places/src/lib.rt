@@ -1,5 +1,5 @@
 //! The places at which a kernel serves its connections: 32 for each of the five sockets, each of which takes a connection, serves it to
-//! its end and takes the next; an usher for each socket, who accepts the connections; beside them the worker that runs the cells; and how
+//! its end and takes the next; an acceptor for each socket, who accepts the connections; beside them the worker that runs the cells; and how
 //! all of them come to an end.
 //!
 //! How long connections have [`Times`] says. A connection whose handshake takes ten seconds fails, and so does a message that takes ten seconds to be
@@ -34,7 +34,7 @@
 //! that nothing of a connection is counted behind its end (the type of `Allowance`): that a thread runs, a connection is served or an end
 //! comes, no contract can say.
 //!
-//! The files, in the order in which a connection passes them: `usher` accepts it and has others make room, `door` is where it waits for a place,
+//! The files, in the order in which a connection passes them: `acceptor` accepts it and has others make room, `door` is where it waits for a place,
 //! `places` has the places and the listeners, `requests` serves it on shell, control, stdin and heartbeat, `publishing` on iopub; `reader`
 //! is the stream on which it comes, `writer` that on which its answers go out, `witness` notes what is told of it, `sockets` and `time` have the rules of
 //! each socket and its times. `task` is what a thread
@@ -43,11 +43,12 @@
 //!
 //! It gives again what a program needs to start it: the kernel, the hall and the comms that it makes.
 //!
-//! In functions that are not public it is proved that of who showed the key no octets are counted, and that a stranger's octets come further
-//! only where they are counted. That none come further before this is asked is no clause's. When the watcher is told `kernel_session::serve` and
-//! `kernel_iopub` promise; that what it is told is noted at the place is tested. `serve_all` has a condition alone.
+//! By what is noted at a place `kernel_sockets::Account` promises that of who showed the key no octets are counted, and that a stranger's may be kept only if
+//! they are counted. That none are kept before it is asked is no clause's. When the watcher is told `kernel_session::serve` and `kernel_iopub` promise; that
+//! what it is told is noted at the place is tested. `serve_all` has a condition alone.
 #![tactic(auto)]
 
+mod acceptor;
 mod door;
 mod latch;
 mod places;
@@ -59,7 +60,6 @@ mod sockets;
 mod start;
 mod task;
 mod time;
-mod usher;
 mod warning;
 mod witness;
 mod worker;

@@ -15,6 +15,8 @@ use std::thread::Threads;
 use std::time::Clock;
 
 impl<R: Clock> HangUp for TimedWriter<'_, R> {
+    ghost is_over = { λ writer. writer.is_over };
+
     fn hang_up(&mut self) {
         self.end();
     }
@@ -36,6 +38,9 @@ fn supply<
     let Some(presence) = service.subscribers.presence(index) else {
         return allowance;
     };
+    let Some(signals) = service.bulletin.signals(index) else {
+        return allowance;
+    };
     let input = ConnectionInput::new(stream, &service.subscribers);
     let mut reader = TimedReader::new(
         rt,
@@ -47,13 +52,14 @@ fn supply<
         &service.strangers,
         allowance,
     );
-    let writer = TimedWriter::new(rt, stream, presence, Socket::Iopub);
+    let writer = TimedWriter::new(rt, stream, presence, Socket::Iopub, service.times);
     let mut hearing = Witness::new(rt, presence);
     let speaking = Witness::new(rt, presence);
     let _ = serve_subscriber(
         rt,
         service.alloc,
         &service.bulletin,
+        signals,
         &mut reader,
         writer,
         &mut hearing,

@@ -64,7 +64,7 @@ impl<'a, R: Clock + Wait, S: Ledger> TimedReader<'a, R, S> {
             times,
             until: handshake_end(rt, times),
             socket,
-            account: Account::new(strangers, presence, quota(socket), allowance),
+            account: Account::new(strangers, quota(socket), allowance),
         }
     }
 
@@ -90,7 +90,8 @@ impl<'a, R: Clock + Wait, S: Ledger> TimedReader<'a, R, S> {
     ///
     /// `OutOfMemory` where a stranger, or all strangers together, would hold too much by them.
     fn count(&mut self, count: usize) -> io::Result<()> {
-        if self.account.enter(self.rt, count as u64) {
+        let noted = self.presence.take_noted();
+        if self.account.enter(self.rt, noted, count as u64) {
             return Ok(());
         }
         Err(io::Error::from(ErrorKind::OutOfMemory))

@@ -39,7 +39,7 @@ fn converse<W: Ledger, L: HistoryName, S: Ledger, D: Desk, R: Wait + Clock>(
         &service.strangers,
         allowance,
     );
-    let mut writer = TimedWriter::new(rt, stream, presence, place.socket);
+    let mut writer = TimedWriter::new(rt, stream, presence, place.socket, service.times);
     let mut witness = Witness::new(rt, presence);
     let _ = serve(
         service.alloc,

@@ -50,7 +50,7 @@ pub struct Service<W: Ledger, L: HistoryName, S: Ledger> {
 
 /// A board with nothing on it, and no connections, of callers and of subscribers.
 fn shared(alloc: Global) -> Result<(Bulletin, Connections, Connections), AllocError> {
-    let bulletin = Bulletin::new(alloc)?;
+    let bulletin = Bulletin::new(alloc, PLACES)?;
     let callers = Connections::new(alloc, CALLED_SOCKETS * PLACES)?;
     let subscribers = Connections::new(alloc, PLACES)?;
     Ok((bulletin, callers, subscribers))

@@ -147,8 +147,8 @@ fn start_worker<
     true
 }
 
-/// Starts the ushers of all sockets. False where a thread could not be made.
-fn start_ushers<
+/// Starts the acceptors of all sockets. False where a thread could not be made.
+fn start_acceptors<
     's,
     E,
     W: Ledger + Send + Sync,
@@ -198,7 +198,7 @@ fn start_all<
         && start_attending(scope, rt, service, listeners, Socket::Control, &mut desks)
         && start_without_desks(scope, rt, service, listeners, Socket::Stdin)
         && start_without_desks(scope, rt, service, listeners, Socket::Heartbeat)
-        && start_ushers(scope, rt, service, listeners)
+        && start_acceptors(scope, rt, service, listeners)
 }
 
 /// Tells that all is ready. A fault of the stream is passed over.
@@ -233,7 +233,7 @@ fn end_subscribers<W: Ledger, L: HistoryName, S: Ledger, R: Wait + Clock>(
     service: &Service<W, L, S>,
 ) {
     service.subscribers.close(rt, Shutdown::Read);
-    service.bulletin.event_count().raise(rt);
+    service.bulletin.wake_all(rt);
     see_out(rt, &service.subscribers);
 }
 

@@ -1,9 +1,9 @@
 //! What the threads of the places do.
+use crate::acceptor::accept_all;
 use crate::places::{Listeners, Place};
 use crate::publishing::attend_subscribers;
 use crate::requests::{attend, attend_silently};
 use crate::service::Service;
-use crate::usher::usher;
 use kernel_desk::{HallDesk, HistoryName, Socket};
 use std::sync::Wait;
 use std::sync::ledger::Ledger;
@@ -40,7 +40,7 @@ impl<W: Ledger + Send + Sync, L: HistoryName + Send + Sync, R: Threads + Wait + 
             Task::Attend(place, desk) => attend(rt, service, place, desk),
             Task::AttendSilently(place) => attend_silently(rt, service, place),
             Task::AttendSubscribers(place) => attend_subscribers(rt, service, place.index),
-            Task::LetIn(socket) => usher(rt, service, listeners, socket),
+            Task::LetIn(socket) => accept_all(rt, service, listeners, socket),
         }
     }
 }

@@ -6,6 +6,8 @@ use std::time::{Clock, Duration};
 pub struct Times {
     /// A handshake, from when the connection was accepted.
     pub handshake: u64,
+    /// A message that the kernel writes, whatever the pieces: its write deadline.
+    pub message: u64,
     /// One whose handshake is not over where another one waits, and on shell and control a stranger: from when it was let in.
     pub stranger: u64,
     /// A ready connection of stdin, iopub or heartbeat where another one waits: for how long nothing came on it, and it took nothing.
@@ -18,6 +20,7 @@ impl Times {
     /// Those that `janus-kernel` gives.
     pub const USUAL: Times = Times {
         handshake: 10_000,
+        message: 10_000,
         stranger: 200,
         silence: 60_000,
         owner: 600_000,

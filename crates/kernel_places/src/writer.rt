@@ -1,24 +1,27 @@
 //! A stream that is written in its time: each message within the write deadline.
+ghost use Rattle.std.specs.Prelude.{◌≡◌, true};
 ghost use Rattle.std.specs.Io.{WritesAtMost};
 
 use crate::sockets::is_signed;
-use crate::time::{INTERRUPTIONS, milliseconds};
+use crate::time::{INTERRUPTIONS, Times, milliseconds};
 use kernel_desk::Socket;
-use kernel_sockets::{MESSAGE_MILLISECONDS, Patience, Presence};
+use kernel_sockets::{Presence, WriteDeadline};
 use std::io;
 use std::io::{ErrorKind, Write};
 use std::net::{Shutdown, TcpStream};
 use std::time::{Clock, Duration};
 
-/// What goes out on a connection. A message that takes longer than ten seconds fails, in whatever pieces it is taken.
+/// What goes out on a connection. A message that takes longer than its time fails, in whatever pieces it is taken.
 #[derive(Drop)]
 pub(crate) struct TimedWriter<'a, R: Clock> {
     rt: &'a R,
     stream: &'a TcpStream,
     presence: &'a Presence,
     /// When the message has to be out of which a piece is.
-    patience: Patience,
+    deadline: WriteDeadline,
     socket: Socket,
+    /// It has ended the connection.
+    pub is_over: bool,
 }
 
 impl<'a, R: Clock> TimedWriter<'a, R> {
@@ -28,19 +31,24 @@ impl<'a, R: Clock> TimedWriter<'a, R> {
         stream: &'a TcpStream,
         presence: &'a Presence,
         socket: Socket,
+        times: Times,
     ) -> TimedWriter<'a, R> {
         TimedWriter {
             rt,
             stream,
             presence,
-            patience: Patience::new(),
+            deadline: WriteDeadline::new(times.message),
             socket,
+            is_over: false,
         }
     }
 
-    /// Ends the connection both ways.
-    pub fn end(&self) {
+    /// Ends the connection both ways. Nothing goes out on it from now on.
+    pub fn end(&mut self)
+        ensures { self.new.is_over ≡ true }
+    {
         let _ = self.stream.shutdown(Shutdown::Both);
+        self.is_over = true;
     }
 
     /// Notes that something went out, where no signed message shows who is there: who takes it is there.
@@ -52,15 +60,15 @@ impl<'a, R: Clock> TimedWriter<'a, R> {
 
     /// The next piece has the whole time of a message again.
     fn begin_anew(&mut self) -> io::Result<()> {
-        self.patience.wrote(true);
-        let whole = Duration::from_millis(MESSAGE_MILLISECONDS);
+        self.deadline.wrote(true);
+        let whole = Duration::from_millis(self.deadline.most);
         self.stream.set_write_timeout(Some(whole))
     }
 
     /// Has the next piece take no longer than what is left of the time of its message. The first one has what the socket has for each write.
     fn bound_next(&mut self) -> io::Result<()> {
-        let is_first = self.patience.until.is_none();
-        match self.patience.left(milliseconds(self.rt)) {
+        let is_first = self.deadline.until.is_none();
+        match self.deadline.left(milliseconds(self.rt)) {
             None => Err(io::Error::from(ErrorKind::TimedOut)),
             Some(_) if is_first => Ok(()),
             Some(left) => {
@@ -74,7 +82,7 @@ impl<'a, R: Clock> TimedWriter<'a, R> {
     fn write_piece(&mut self, buf: &[u8]) -> io::Result<usize>
         ensures bound { WritesAtMost result buf.now }
     {
-        let is_first = self.patience.until.is_none();
+        let is_first = self.deadline.until.is_none();
         self.bound_next()?;
         let mut stream = self.stream;
         let count = stream.write(buf)?;
@@ -82,7 +90,7 @@ impl<'a, R: Clock> TimedWriter<'a, R> {
         if count == buf.len() && !is_first {
             self.begin_anew()?;
         } else {
-            self.patience.wrote(count == buf.len());
+            self.deadline.wrote(count == buf.len());
         }
         Ok(count)
     }

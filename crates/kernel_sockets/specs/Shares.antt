@@ -1,7 +1,19 @@
 -- What strangers hold.
-use Rattle.std.specs.Prelude.{ℕ, ◌-◌}
+use Rattle.std.specs.Prelude.{ℕ, ◌-◌, Bool, false, if◌then◌else◌}
+use Rattle.kernel_sockets.specs.declared.account.Quota.{Quota}
+use Rattle.kernel_sockets.specs.declared.account.Quota.TheVariants.{Own, Common}
+use Rattle.kernel_sockets.specs.declared.presence.Noted.{Noted}
 use Rattle.kernel_sockets.specs.declared.shares.TheConstants.{OWN_OCTETS}
 
 -- how much of what a stranger brought lies past its own share
 abbrev pub common_of : ℕ → ℕ
 common_of brought = brought - OWN_OCTETS
+
+-- whether an answer to all that came has it counted no longer: only where nobody may bring more than its own share
+abbrev pub settles : Quota → Bool → Bool
+settles Own was_answered = was_answered
+settles Common was_answered = false
+
+-- how much is still counted of what a stranger brought, by what was noted of answers
+abbrev pub left_of : Quota → Noted → ℕ → ℕ
+left_of quota noted brought = if settles quota noted.was_answered then 0 else brought - noted.answered

@@ -1,8 +1,9 @@
 //! The book of what came on one connection.
-ghost use Rattle.std.specs.Prelude.{◌≡◌, ◌+◌, ◌-◌, ◌<◌, ◌≤◌, ◌↔◌, ◌⊎◌, IsTrue, false, if◌then◌else◌};
+ghost use Rattle.std.specs.Prelude.{◌≡◌, ◌+◌, ◌-◌, ◌<◌, ◌≤◌, ◌↔◌, IsTrue, false, if◌then◌else◌};
 ghost use Rattle.kernel_sockets.specs.declared.shares.TheConstants.{OWN_OCTETS};
+ghost use Rattle.kernel_sockets.specs.Shares.{left_of, settles};
 
-use crate::presence::Presence;
+use crate::presence::Noted;
 use crate::shares::{Allowance, OWN_OCTETS, Share, Strangers};
 use std::sync::Wait;
 use std::sync::ledger::Ledger;
@@ -16,28 +17,34 @@ pub enum Quota {
     Own,
 }
 
-/// What came on one connection, as long as it is counted: while no message with a valid signature came on it, less what was answered. What is noted of both
-/// at the connection's place is looked at as something comes. It can't be let go of: [`Account::close`] alone takes it, and gives the allowance back.
+impl Quota {
+    /// Whether all that came is counted no longer, where it was answered or wasn't.
+    fn settles(self, was_answered: bool) -> bool
+        ensures { result ≡ settles self was_answered }
+    {
+        match self {
+            Quota::Own => was_answered,
+            Quota::Common => false,
+        }
+    }
+}
+
+/// What came on one connection, as long as it is counted: while no message with a valid signature came on it, less what was answered. It can't be let go of:
+/// [`Account::close`] alone takes it, and gives the allowance back.
 pub struct Account<'a, S: Ledger> {
     strangers: &'a Strangers<S>,
-    presence: &'a Presence,
-    quota: Quota,
+    pub quota: Quota,
     pub share: Share<S>,
 }
 
 impl<'a, S: Ledger> Account<'a, S> {
-    /// That of a connection on which nothing came, at the place of this presence.
-    pub fn new(
-        strangers: &'a Strangers<S>,
-        presence: &'a Presence,
-        quota: Quota,
-        allowance: Allowance<S>,
-    ) -> Account<'a, S>
-        ensures { result.share.brought ≡ 0 }
+    /// That of a connection on which nothing came.
+    pub fn new(strangers: &'a Strangers<S>, quota: Quota, allowance: Allowance<S>) -> Account<'a, S>
+        ensures nothing { result.share.brought ≡ 0 }
+        ensures quota { result.quota ≡ quota }
     {
         Account {
             strangers,
-            presence,
             quota,
             share: Share::new(allowance),
         }
@@ -47,6 +54,7 @@ impl<'a, S: Ledger> Account<'a, S> {
     fn bring<R: Wait>(&mut self, rt: &R, count: u64) -> bool
         ensures brought { IsTrue result → self.new.share.brought ≡ self.old.share.brought + count }
         ensures same { result ≡ false → self.new.share.brought ≡ self.old.share.brought }
+        ensures quota { self.new.quota ≡ self.old.quota }
     {
         match self.quota {
             Quota::Common => self.strangers.bring(rt, &mut self.share, count),
@@ -56,7 +64,8 @@ impl<'a, S: Ledger> Account<'a, S> {
 
     /// Counts no longer what was answered: all that came, or `answered` octets of it.
     fn let_go<R: Wait>(&mut self, rt: &R, is_all: bool, answered: u64)
-        ensures { self.new.share.brought ≡ (if is_all then 0 else self.old.share.brought - answered) }
+        ensures left { self.new.share.brought ≡ (if is_all then 0 else self.old.share.brought - answered) }
+        ensures quota { self.new.quota ≡ self.old.quota }
     {
         if is_all {
             self.strangers.settle(rt, &mut self.share);
@@ -65,38 +74,20 @@ impl<'a, S: Ledger> Account<'a, S> {
         }
     }
 
-    /// Counts octets that came, and tells whether they may be kept. Nothing is counted of who showed the key, and what was answered no longer is: all that
-    /// came before, or `answered` octets of it.
-    fn enter_by<R: Wait>(
-        &mut self,
-        rt: &R,
-        is_trusted: bool,
-        was_answered: bool,
-        answered: u64,
-        count: u64,
-    ) -> bool
-        ensures trusted { IsTrue is_trusted → IsTrue result × (self.new.share.brought ≡ 0) }
-        ensures brought { is_trusted ≡ false → IsTrue result
-            → self.new.share.brought ≡ (if was_answered then 0 else self.old.share.brought - answered) + count }
-        ensures refused { is_trusted ≡ false → result ≡ false
-            → self.new.share.brought ≡ (if was_answered then 0 else self.old.share.brought - answered) }
+    /// Counts octets that came, before anything of them is kept, and tells whether they may be, by what was noted of the connection until now. Nothing is
+    /// counted of who showed the key, and what was answered no longer is. Otherwise these octets are counted beside what is left of those before; or none
+    /// of them, and then they may not be kept.
+    pub fn enter<R: Wait>(&mut self, rt: &R, noted: Noted, count: u64) -> bool
+        ensures trusted { IsTrue noted.is_trusted → IsTrue result × (self.new.share.brought ≡ 0) }
+        ensures brought { noted.is_trusted ≡ false → IsTrue result
+            → self.new.share.brought ≡ left_of self.old.quota noted self.old.share.brought + count }
+        ensures refused { noted.is_trusted ≡ false → result ≡ false
+            → self.new.share.brought ≡ left_of self.old.quota noted self.old.share.brought }
+        ensures quota { self.new.quota ≡ self.old.quota }
     {
-        self.let_go(rt, is_trusted || was_answered, answered);
-        is_trusted || self.bring(rt, count)
-    }
-
-    /// Counts octets that came, before anything of them is kept, and tells whether they may be. What is kept is counted: these octets, and no more than there
-    /// were before beside them; or nothing, of who showed the key.
-    pub fn enter<R: Wait>(&mut self, rt: &R, count: u64) -> bool
-        ensures { IsTrue result → (self.new.share.brought ≡ 0)
-            ⊎ ((count ≤ self.new.share.brought) × (self.new.share.brought ≤ self.old.share.brought + count)) }
-    {
-        if self.presence.is_trusted() {
-            return self.enter_by(rt, true, false, 0, count);
-        }
-        let was_answered = self.quota == Quota::Own && self.presence.take_all_answered();
-        let answered = self.presence.take_answered();
-        self.enter_by(rt, false, was_answered, answered, count)
+        let is_all = noted.is_trusted || self.quota.settles(noted.was_answered);
+        self.let_go(rt, is_all, noted.answered);
+        noted.is_trusted || self.bring(rt, count)
     }
 
     /// Whether more is counted than its own share has.
@@ -110,7 +101,6 @@ impl<'a, S: Ledger> Account<'a, S> {
     pub fn close<R: Wait>(self, rt: &R) -> Allowance<S> {
         let Account {
             strangers,
-            presence: _,
             quota: _,
             share,
         } = self;

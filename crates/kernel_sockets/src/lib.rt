@@ -1,7 +1,7 @@
 //! The TCP sockets of a kernel, as threads share them: listening sockets that any thread can close while others wait at them, and the
 //! connections that are being served, so that they can be brought to an end.
 //!
-//! A [`Listener`] hands out connections with no delay by Nagle's algorithm, on which a write waits ten seconds at most. [`Connections`] are
+//! A [`Listener`] hands out connections with no delay by Nagle's algorithm, on which a write waits as long as it is told at most. [`Connections`] are
 //! those that are served at a number of places: who serves one enters it and leaves again, and who ends the kernel closes them all, so that
 //! no more come in, and reads from those that are there come to their end ([`ConnectionInput`]). Of the connection at each place a [`Presence`] tells
 //! whether it is ready, whether it is trusted, when it was heard and since when no request is under way, as it was noted there, so that one makes room where
@@ -11,7 +11,7 @@
 //! [`Strangers`]: each has its own share, and past their shares they bring no more together than [`COMMON_OCTETS`]. A place has an [`Allowance`] for each
 //! connection that it serves, whose [`Account`] counts what comes on it by a [`Share`] and can't be let go of: it is given back, and the types keep that
 //! the count is the sum of what the shares have, so that one which is given back is counted no longer. The time of a message that is written begins with its
-//! first piece and stays with the others ([`Patience`]).
+//! first piece and stays with the others ([`WriteDeadline`]).
 //!
 //! To the layer above this crate promises that rule, that count, that time and safety: no clause can say what a socket does. The register under the
 //! lock is exact on what it is lent ([`Connections`] is that register under a lock). It stands on no other crate of the kernel.
@@ -22,9 +22,9 @@
 
 mod account;
 mod connections;
+mod deadline;
 mod input;
 mod listener;
-mod patience;
 mod presence;
 mod register;
 mod room;
@@ -32,10 +32,10 @@ mod shares;
 
 pub use account::{Account, Quota};
 pub use connections::Connections;
+pub use deadline::WriteDeadline;
 pub use input::ConnectionInput;
 pub use listener::Listener;
-pub use patience::{MESSAGE_MILLISECONDS, Patience};
-pub use presence::Presence;
+pub use presence::{Noted, Presence};
 pub use register::{Register, Stream};
 pub use room::{Sight, Stays, who_makes_room};
 pub use shares::{Allowance, COMMON_OCTETS, Common, OWN_OCTETS, READ_OCTETS, Share, Strangers};

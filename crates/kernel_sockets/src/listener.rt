@@ -1,5 +1,4 @@
 //! A listening socket.
-use crate::patience::MESSAGE_MILLISECONDS;
 use std::io;
 use std::net::{Net, Shutdown, TcpListener, TcpStream};
 use std::os::fd::OwnedFd;
@@ -29,15 +28,15 @@ impl Listener {
         Ok(Listener { listener, closer })
     }
 
-    /// Waits for the next connection.
+    /// Waits for the next connection, on which a write waits so many milliseconds at most.
     ///
     /// # Errors
     ///
     /// That the socket is closed, and what else the system refuses.
-    pub fn accept(&self) -> io::Result<TcpStream> {
+    pub fn accept(&self, most: u64) -> io::Result<TcpStream> {
         let (stream, _) = self.listener.accept()?;
         stream.set_nodelay(true)?;
-        stream.set_write_timeout(Some(Duration::from_millis(MESSAGE_MILLISECONDS)))?;
+        stream.set_write_timeout(Some(Duration::from_millis(most)))?;
         Ok(stream)
     }
 

@@ -4,6 +4,17 @@ ghost use Rattle.std.specs.Prelude.{◌≡◌};
 use crate::room::Sight;
 use std::sync::atomic::{AtomicBool, AtomicU64, Ordering};
 
+/// What was noted of a connection until now, that counts for what it brought.
+#[derive(Clone, Copy)]
+pub struct Noted {
+    /// A message with a valid signature came on it.
+    pub is_trusted: bool,
+    /// All that came was answered by something that went out.
+    pub was_answered: bool,
+    /// How many octets that came were answered one by one.
+    pub answered: u64,
+}
+
 /// What is known of the connection at a place, for all who look, without a lock.
 #[derive(Drop)]
 pub struct Presence {
@@ -94,19 +105,18 @@ impl Presence {
         self.is_answered.store(true, Ordering::SeqCst);
     }
 
-    /// Takes the note that all that came on it was answered: whether it was since this was taken last.
-    pub fn take_all_answered(&self) -> bool {
-        self.is_answered.swap(false, Ordering::SeqCst)
-    }
-
     /// Notes octets that came on it, are answered and no longer kept, as those of a ping.
     pub fn answer_octets(&self, count: u64) {
         let _before = self.answered.fetch_add(count, Ordering::SeqCst);
     }
 
-    /// How many octets that came on it were answered so since this was taken last.
-    pub fn take_answered(&self) -> u64 {
-        self.answered.swap(0, Ordering::SeqCst)
+    /// Takes what was noted since this was taken last: of what was answered it is not told again.
+    pub fn take_noted(&self) -> Noted {
+        Noted {
+            is_trusted: self.is_trusted.load(Ordering::SeqCst),
+            was_answered: self.is_answered.swap(false, Ordering::SeqCst),
+            answered: self.answered.swap(0, Ordering::SeqCst),
+        }
     }
 
     /// What is seen of the place, where a connection is there or isn't.

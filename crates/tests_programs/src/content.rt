@@ -143,6 +143,14 @@ fn stamp_in(reply: &Opened, seen: &str) -> Stamp {
     }
 }
 
+/// The date of the message of these frames.
+pub(crate) fn date_of(alloc: Global, frames: Vec<Vec<u8>>) -> Result<String> {
+    match opened(alloc, frames) {
+        Ok(reply) => Ok(String::from_str(alloc, field(&reply, "date"))?),
+        Err(error) => Err(error),
+    }
+}
+
 /// What the header of the message of these frames tells, whose session is then the one that was seen before.
 pub(crate) fn stamp_of(alloc: Global, frames: Vec<Vec<u8>>, seen: &mut String) -> Result<Stamp> {
     match opened(alloc, frames) {

@@ -10,6 +10,9 @@ use zmtp_peer::{Peer, PeerEvent, PeerFault, Role};
 /// How long a read waits.
 const PATIENCE_MILLISECONDS: u64 = 5;
 
+/// How long a write waits.
+const WRITE_SECONDS: u64 = 10;
+
 /// The reads that wait for what has to come.
 pub(crate) const READS: usize = 4_000;
 
@@ -29,6 +32,7 @@ fn is_late(error: &Error) -> bool {
 /// Sets how long a read waits, and sends what a frontend in this role and of this minor version sends first.
 fn begin(alloc: Global, stream: &TcpStream, role: Role, minor: u8) -> Result<()> {
     stream.set_read_timeout(Some(Duration::from_millis(PATIENCE_MILLISECONDS)))?;
+    stream.set_write_timeout(Some(Duration::from_secs(WRITE_SECONDS)))?;
     let opening = opening_as(alloc, role, minor)?;
     let mut writer = stream;
     writer.write_all(&opening)
@@ -62,6 +66,16 @@ impl Frontend {
     pub fn write(&self, octets: &[u8]) -> Result<()> {
         let mut writer = &self.stream;
         writer.write_all(octets)
+    }
+
+    /// Writes octets a number of times, and tells whether the kernel ends the connection meanwhile.
+    pub fn is_ended_by(&self, octets: &[u8], times: usize) -> bool {
+        for _ in 0..times {
+            if let Err(error) = self.write(octets) {
+                return !is_late(&error);
+            }
+        }
+        false
     }
 
     /// Takes in what an event tells.

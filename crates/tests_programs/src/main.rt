@@ -5,7 +5,8 @@
 //! ends once a shutdown was asked for, with all its threads. Whatever connects to a kernel does so in turn by ZMTP 3.0 and by 3.1. The rows stand in
 //! the file `stdin`, the rows with their answers in the file `stdout`, in the form of `tests_rows`. A block of `3.0` or `3.1` has a kernel
 //! of its own and frontends of that version, one of `reach` has frontends of 3.1 and a kernel that listens at all addresses, one of `brief` has
-//! frontends of 3.1 and a kernel of which an owner who is silent for 200 milliseconds makes room, and the rows of any other block need no kernel. What
+//! frontends of 3.1 and a kernel of which an owner who is silent for 200 milliseconds makes room, one of `hasty` such frontends and a kernel of which
+//! handshakes and messages take a second at most and whose silent subscribers stay for 300 milliseconds, and the rows of any other block need no kernel. What
 //! may stand in them is said by `with_kernel` and by `without_kernel`.
 #![tactic(auto)]
 
@@ -38,17 +39,27 @@ const BRIEF: Times = Times {
     ..Times::USUAL
 };
 
+/// A kernel whose handshakes and messages take a second at most, and where who is silent for 300 milliseconds on a socket without a key makes room.
+const HASTY: Times = Times {
+    handshake: 1_000,
+    message: 1_000,
+    silence: 300,
+    ..Times::USUAL
+};
+
 fn main(rt: HostRuntime) -> anyhow::Result<()> {
     let alloc = rt.alloc();
     let text = io::read_to_string(alloc, rt.stdin())?;
     let mut sheet = Sheet::new(alloc);
+    // The session of the last message that was looked at for it, whichever kernel sent it.
+    let mut seen = String::new(alloc);
     for block in blocks(&text).split("\n\n") {
         if let Some(site) = begin(&rt, block, &mut sheet) {
             // The kernel runs on a thread of its own, beside its frontends.
             let (ran, ()) = thread::join(
                 &rt,
                 || run_kernel(&rt, alloc, site.times, &["janus-kernel", &site.path]),
-                || with_kernel::tell(&rt, &site, block, &mut sheet),
+                || with_kernel::tell(&rt, &site, block, &mut seen, &mut sheet),
             );
             with_kernel::end(&rt, &site, &ran, &mut sheet);
         }
@@ -82,6 +93,7 @@ where
         "3.0" => make_site(rt, LOOPBACK, 0, Times::USUAL, sheet),
         "3.1" => make_site(rt, LOOPBACK, 1, Times::USUAL, sheet),
         "brief" => make_site(rt, LOOPBACK, 1, BRIEF, sheet),
+        "hasty" => make_site(rt, LOOPBACK, 1, HASTY, sheet),
         "reach" => make_site(rt, "0.0.0.0", 1, Times::USUAL, sheet),
         "every" => make_site(rt, "*", 1, Times::USUAL, sheet),
         _ => {

@@ -74,6 +74,21 @@ where
     }
 }
 
+/// Whether the kernel closes a stream, whatever comes on it before.
+pub(crate) fn lapses(stream: &TcpStream) -> Result<bool> {
+    stream.set_read_timeout(Some(Duration::from_secs(PATIENCE_SECONDS)))?;
+    let mut room = [0u8; 4096];
+    let mut reader = stream;
+    for _ in 0..READS {
+        match reader.read(&mut room) {
+            Ok(0) => return Ok(true),
+            Ok(_) => {}
+            Err(error) => return Ok(error.kind() == ErrorKind::ConnectionReset),
+        }
+    }
+    Ok(false)
+}
+
 /// Adds what comes next on a stream.
 fn push_next(stream: &TcpStream, octets: &mut Vec<u8>) -> Result<()> {
     let mut room = [0u8; 4096];

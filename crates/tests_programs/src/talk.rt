@@ -1,6 +1,6 @@
 //! What frontends of one kernel do. Each of them is named by its place in the list of those that are connected, the first of them is 1.
 use crate::content::{
-    KEY, Stamp, beginning_of, content_of, is_status, request, stamp_of, topic_of,
+    KEY, Stamp, beginning_of, content_of, date_of, is_status, request, stamp_of, topic_of,
 };
 use crate::frontend::{Frontend, READS};
 use crate::octets::with_zeros;
@@ -13,6 +13,9 @@ const ANOTHER_KEY: &str = "another key";
 
 /// The type of a request that asks for a shutdown.
 const SHUTDOWN: &str = "shutdown_request";
+
+/// The reads that take more than a second where nothing comes.
+const READS_OF_A_SECOND: u32 = 220;
 
 /// So often the kernel is asked for something, until it is seen.
 const ASKINGS: u32 = 1_000;
@@ -113,6 +116,28 @@ pub(crate) fn reply(alloc: Global, frontends: &mut [Frontend], word: &str) -> Re
     content_of(alloc, at(frontends, word)?.frames()?)
 }
 
+/// The beginning of the content of the next reply.
+pub(crate) fn begins(alloc: Global, frontends: &mut [Frontend], word: &str) -> Result<String> {
+    beginning_of(alloc, at(frontends, word)?.frames()?)
+}
+
+/// Asks what the kernel is: the date of the reply.
+fn dated(alloc: Global, frontend: &mut Frontend) -> Result<String> {
+    send(alloc, frontend, KEY, "kernel_info_request", "{}")?;
+    date_of(alloc, frontend.frames()?)
+}
+
+/// Asks twice what the kernel is, a second apart: whether the replies have different dates.
+pub(crate) fn dates(alloc: Global, frontends: &mut [Frontend], word: &str) -> Result<bool> {
+    let frontend = at(frontends, word)?;
+    let first = dated(alloc, frontend)?;
+    for _ in 0..READS_OF_A_SECOND {
+        let _none = frontend.next_frames()?;
+    }
+    let second = dated(alloc, frontend)?;
+    Ok(first.as_str() != second.as_str())
+}
+
 /// Asks what the kernel is, and hears the reply.
 pub(crate) fn ask(alloc: Global, frontend: &mut Frontend) -> Result<()> {
     send(alloc, frontend, KEY, "kernel_info_request", "{}")?;
@@ -201,6 +226,14 @@ pub(crate) fn interrupted(alloc: Global, frontends: &mut [Frontend], row: &str) 
         }
     }
     Err(ErrorKind::TimedOut.into())
+}
+
+/// Asks a number of times what the kernel is, and hears nothing: whether the kernel ends the connection meanwhile.
+pub(crate) fn flood(alloc: Global, frontends: &mut [Frontend], row: &str) -> Result<bool> {
+    let (word, times) = cut(row);
+    let frontend = at(frontends, word)?;
+    let octets = request(alloc, KEY, "kernel_info_request", "{}")?;
+    Ok(frontend.is_ended_by(&octets, number(times)))
 }
 
 /// Asks for an interrupt, and hears the reply.

@@ -9,24 +9,26 @@
 //! `ready` (a frontend, and how many reads it waits) tells whether the kernel is ready there, `silent` the same whether nothing comes. `leave` (a
 //! frontend) and `clear` disconnect one, and all. `write` (a frontend, and octets) and `press` (a frontend, a number of zeros, and octets before
 //! them) write octets, the latter as far as they are taken. `send` (a frontend, a type and a content) sends a request. `reply` gives the content of
-//! the next message, `topic` its topic, `skip` the next topic that isn't the status, and `out` whether all that is left is the status. `ask` asks
-//! what the kernel is and hears the reply, `asks` does so on each connection that there is, and gives how many there are, and `stamp` gives what the
-//! header of the reply tells, and whether it is of the session of the `stamp` before. `heard` (a frontend, and a subscriber) asks so until the
-//! subscriber hears of it, and `interrupt` (a frontend, and another) has the other ask for interrupts until the frontend is answered, and gives the
-//! beginning of that content. `end` tells whether the kernel closes a connection, `either` whether one of two.
+//! the next message, `begins` its beginning, `topic` its topic, `skip` the next topic that isn't the status, and `out` whether all that is left is the
+//! status. `ask` asks what the kernel is and hears the reply, `asks` does so on each connection that there is, and gives how many there are, and `stamp`
+//! gives what the header of the reply tells, and whether it is of the session of the `stamp` before, in this block or an earlier one. `dates` (a frontend)
+//! tells whether two replies, a second apart, have different dates. `heard` (a frontend, and a subscriber) asks so until the subscriber hears of it, and
+//! `interrupt` (a frontend, and another) has the other ask for interrupts until the frontend is answered, and gives the beginning of that content. `flood`
+//! (a frontend, and a number) asks so often what the kernel is, hears nothing, and tells whether the kernel closes the connection meanwhile. `end` tells
+//! whether the kernel closes a connection, `either` whether one of two.
 //!
 //! `hold` (a number) opens that many connections to each socket on which nothing is said, and gives how many there are. `stream` (a socket, a role,
 //! and that of the kernel's end) opens a stream, and gives how many there are, where what such an end sends first comes back. `echo` (a stream, a
 //! number, octets, and others) gives how often the others come back where the octets are written that often, and `until` (a stream, and a text)
-//! whether the text comes. `part` closes the last stream.
+//! whether the text comes, and `lapse` (a stream) whether the kernel closes it. `part` closes the last stream.
 use crate::frontend::{Frontend, READS};
 use crate::programs::{Ran, ask};
 use crate::site::{Site, await_port, connect};
-use crate::streams::{echoes, opened, read_to};
+use crate::streams::{echoes, lapses, opened, read_to};
 use crate::talk;
 use crate::talk::{
-    asked, asked_on_each, clear, ends, hear_out, heard, interrupted, leave, one_ends, place, press,
-    ready, reply, say, silent, skip, stamped, topic, write,
+    asked, asked_on_each, begins, clear, dates, ends, flood, hear_out, heard, interrupted, leave,
+    one_ends, place, press, ready, reply, say, silent, skip, stamped, topic, write,
 };
 use crate::told::told;
 use std::alloc::Global;
@@ -49,12 +51,10 @@ struct Connections<'a> {
     site: &'a Site,
     frontends: Vec<Frontend>,
     streams: Vec<TcpStream>,
-    /// The session of the last message that was looked at for it.
-    session: String,
 }
 
-/// Writes the calls of a block before this kernel, with their answers.
-pub(crate) fn tell<R>(rt: &R, site: &Site, block: &str, sheet: &mut Sheet)
+/// Writes the calls of a block before this kernel, with their answers. What was seen is the session of the last message that was looked at for it.
+pub(crate) fn tell<R>(rt: &R, site: &Site, block: &str, seen: &mut String, sheet: &mut Sheet)
 where
     R: Net<Listener = TcpListener, Stream = TcpStream> + Files + Clock,
 {
@@ -63,9 +63,8 @@ where
         site,
         frontends: Vec::new(sheet.alloc()),
         streams: Vec::new(sheet.alloc()),
-        session: String::new(sheet.alloc()),
     };
-    tell_calls(rt, &mut connections, calls, sheet);
+    tell_calls(rt, &mut connections, calls, seen, sheet);
 }
 
 /// Ends a block: writes what the kernel wrote, and its status, and that its connection file is removed.
@@ -78,20 +77,32 @@ pub(crate) fn end<R: Files>(rt: &R, site: &Site, ran: &Ran, sheet: &mut Sheet) {
 }
 
 /// Writes calls with their answers.
-fn tell_calls<R>(rt: &R, connections: &mut Connections<'_>, calls: &str, sheet: &mut Sheet)
+fn tell_calls<R>(
+    rt: &R,
+    connections: &mut Connections<'_>,
+    calls: &str,
+    seen: &mut String,
+    sheet: &mut Sheet,
+)
 where
     R: Net<Listener = TcpListener, Stream = TcpStream> + Files + Clock,
 {
     for call in calls.lines() {
         sheet.write(call);
         sheet.write(": ");
-        answer(rt, connections, call, sheet);
+        answer(rt, connections, call, seen, sheet);
         sheet.write("\n");
     }
 }
 
 /// Writes the answer to a call.
-fn answer<R>(rt: &R, connections: &mut Connections<'_>, call: &str, sheet: &mut Sheet)
+fn answer<R>(
+    rt: &R,
+    connections: &mut Connections<'_>,
+    call: &str,
+    seen: &mut String,
+    sheet: &mut Sheet,
+)
 where
     R: Net<Listener = TcpListener, Stream = TcpStream> + Files + Clock,
 {
@@ -103,6 +114,10 @@ where
         "shutdown" => told(shutdown(rt, alloc, connections.site), sheet),
         "open" | "fill" | "sign" | "hold" | "stream" => {
             told(connected(rt, alloc, connections, word, rest), sheet);
+        }
+        "stamp" => {
+            let stamp = stamped(alloc, &mut connections.frontends, seen, rest);
+            told(stamp, sheet);
         }
         _ => answer_within(connections, word, rest, sheet),
     }
@@ -145,15 +160,7 @@ fn answer_within(connections: &mut Connections<'_>, word: &str, rest: &str, shee
         "echo" => told(echo(alloc, &connections.streams, rest), sheet),
         "until" => told(until(alloc, &connections.streams, rest), sheet),
         "part" => sheet.show(&part(&mut connections.streams)),
-        "stamp" => {
-            let stamp = stamped(
-                alloc,
-                &mut connections.frontends,
-                &mut connections.session,
-                rest,
-            );
-            told(stamp, sheet);
-        }
+        "lapse" => told(lapse(&connections.streams, rest), sheet),
         _ => answer_talk(&mut connections.frontends, word, rest, sheet),
     }
 }
@@ -178,6 +185,8 @@ fn answer_heard(frontends: &mut [Frontend], word: &str, rest: &str, sheet: &mut 
     let alloc = sheet.alloc();
     match word {
         "reply" => told(reply(alloc, frontends, rest), sheet),
+        "begins" => told(begins(alloc, frontends, rest), sheet),
+        "dates" => told(dates(alloc, frontends, rest), sheet),
         "topic" => told(topic(alloc, frontends, rest), sheet),
         "skip" => told(skip(alloc, frontends, rest), sheet),
         "out" => told(hear_out(frontends, rest), sheet),
@@ -185,6 +194,7 @@ fn answer_heard(frontends: &mut [Frontend], word: &str, rest: &str, sheet: &mut 
         "asks" => told(asked_on_each(alloc, frontends), sheet),
         "heard" => told(heard(alloc, frontends, rest), sheet),
         "interrupt" => told(interrupted(alloc, frontends, rest), sheet),
+        "flood" => told(flood(alloc, frontends, rest), sheet),
         "end" => told(ends(frontends, rest), sheet),
         _ => told(one_ends(frontends, rest), sheet),
     }
@@ -337,6 +347,14 @@ fn until(alloc: Global, streams: &[TcpStream], row: &str) -> Result<bool> {
     let stream = stream_at(streams, word)?;
     let mut octets = Vec::new(alloc);
     read_to(stream, &mut octets, text.as_bytes())
+}
+
+/// Whether the kernel closes a stream.
+fn lapse(streams: &[TcpStream], word: &str) -> Result<bool> {
+    match stream_at(streams, word) {
+        Ok(stream) => lapses(stream),
+        Err(error) => Err(error),
+    }
 }
 
 /// Closes the last stream: how many there are then.

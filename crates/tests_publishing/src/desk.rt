@@ -108,7 +108,7 @@ fn sit_down<W: Ledger, L: HistoryName, R: Wait + Clock>(
     requires first { first.bell ≡ hall.now }
     requires second { second.bell ≡ hall.now }
 {
-    match Bulletin::new(sheet.alloc()) {
+    match Bulletin::new(sheet.alloc(), 1) {
         Ok(bulletin) => sit_at(rt, hall, &bulletin, first, second, calls, sheet),
         Err(_) => sheet.refuse(),
     }

@@ -10,6 +10,7 @@
 #![tactic(auto)]
 
 mod desk;
+mod line;
 mod notices;
 mod pinging;
 mod subscriber;

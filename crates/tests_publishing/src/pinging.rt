@@ -1,5 +1,5 @@
 //! A writer whose peer sends something while a message goes out to it.
-use kernel_iopub::{Bulletin, Subscriber, Unwatched, hear};
+use kernel_iopub::{Bulletin, Signals, Subscriber, Unwatched, hear};
 use std::io;
 use std::io::{ErrorKind, Write};
 use std::sync::ledger::Ledger;
@@ -7,9 +7,10 @@ use std::sync::{Mutex, Wait};
 
 /// What is written to a subscriber that takes an octet at each write, and sends octets once it has a number of them.
 #[derive(Drop)]
-pub(crate) struct Pinging<'r, 'b, 'c, 's, L: Ledger, R> {
+pub(crate) struct Pinging<'r, 'b, 'i, 'c, 's, L: Ledger, R> {
     pub rt: &'r R,
     pub bulletin: &'b Bulletin,
+    pub signals: &'i Signals,
     pub shared: &'c Mutex<Subscriber<L>>,
     pub written: Vec<u8>,
     /// The number of octets that it has as it sends.
@@ -18,13 +19,14 @@ pub(crate) struct Pinging<'r, 'b, 'c, 's, L: Ledger, R> {
     pub sent: &'s [u8],
 }
 
-impl<L: Ledger, R: Wait> Write for Pinging<'_, '_, '_, '_, L, R> {
+impl<L: Ledger, R: Wait> Write for Pinging<'_, '_, '_, '_, '_, L, R> {
     fn write(&mut self, buf: &[u8]) -> io::Result<usize> {
         if self.written.len() == self.at {
             let mut reader = self.sent;
             let heard = hear(
                 self.rt,
                 self.bulletin,
+                self.signals,
                 self.shared,
                 &mut reader,
                 &mut Unwatched,

@@ -1,15 +1,19 @@
 //! Rows of a subscriber's connection. `publish` (a topic, a number of octets behind it, and how often) publishes broadcasts. `hear` (octets) has the
 //! reading half hear all that comes, and gives how that ends. `speak` has the writing half write to a subscriber that falls silent: how that ends,
 //! and what is written; `amid` (a number, and octets) the same where the octets come from the subscriber once it has this number of octets of what is
-//! written, of which it takes one at a time. `ready` (octets) is `hear`, and gives what the watcher of the reading half was told; `answers` (a number) has
-//! the writing half write to a subscriber that takes this number of octets and then fails, and gives what its watcher was told. `limits` gives how many prefixes, and how many octets of them, a connection may subscribe to.
+//! written, of which it takes one at a time. `over` has the writing half write on a connection that can be hung up on: how that ends, and whether it
+//! was hung up on. `ready` (octets) is `hear`, and gives what the watcher of the reading half was told; `answers` (a number) has
+//! the writing half write to a subscriber that takes this number of octets and then fails, and gives what its watcher was told. `limits` gives how many
+//! prefixes, and how many octets of them, a connection may subscribe to.
 ghost use Rattle.std.specs.Prelude.{◌≡◌, ◌<◌};
 
+use crate::line::Line;
 use crate::notices::{Notebook, Taking};
 use crate::pinging::Pinging;
 use kernel_board::Broadcast;
 use kernel_iopub::{
-    Bulletin, PREFIX_LIMIT, PREFIX_OCTET_LIMIT, Subscriber, SubscriberFault, Unwatched, hear, speak,
+    Bulletin, PREFIX_LIMIT, PREFIX_OCTET_LIMIT, Signals, Subscriber, SubscriberFault, Unwatched,
+    hear, speak, speak_and_hang_up,
 };
 use std::alloc::{AllocError, Global};
 use std::marker::Brand;
@@ -34,6 +38,7 @@ fn tell_owned<R: Wait>(rt: &R, calls: String, sheet: &mut Sheet) {
 #[derive(Drop)]
 struct Connected<L: Ledger> {
     bulletin: Bulletin,
+    signals: Signals,
     shared: Mutex<Subscriber<L>>,
     share: Share<L>,
     ghost whole: { share.parts ≡ 1 },
@@ -43,11 +48,12 @@ struct Connected<L: Ledger> {
 fn tell_in<L: Ledger, R: Wait>(rt: &R, blank: Blank, calls: String, sheet: &mut Sheet)
     requires { (blank.name ≡ L.name) × (blank.parts ≡ L.parts) × (blank.parts ≡ 1) }
 {
-    match Bulletin::new(sheet.alloc()) {
+    match Bulletin::new(sheet.alloc(), 1) {
         Ok(bulletin) => {
             let (subscriber, share) = Subscriber::<L>::new(sheet.alloc(), blank);
             let mut connected = Connected {
                 bulletin,
+                signals: Signals::new(),
                 shared: Mutex::new(subscriber),
                 share,
             };
@@ -84,6 +90,7 @@ fn answer<L: Ledger, R: Wait>(rt: &R, connected: &mut Connected<L>, call: &str, 
         "hear" => hear_row(rt, connected, rest, sheet),
         "speak" => speak_out(rt, connected, sheet),
         "amid" => amid(rt, connected, rest, sheet),
+        "over" => tell_over(rt, connected, sheet),
         "ready" => tell_ready(rt, connected, rest, sheet),
         "answers" => tell_answers(rt, connected, rest, sheet),
         _ => limits(sheet),
@@ -130,6 +137,7 @@ fn hear_row<L: Ledger, R: Wait>(rt: &R, connected: &Connected<L>, row: &str, she
             let ended = hear(
                 rt,
                 &connected.bulletin,
+                &connected.signals,
                 &connected.shared,
                 &mut reader,
                 &mut Unwatched,
@@ -158,6 +166,7 @@ fn speak_out<L: Ledger, R: Wait>(rt: &R, connected: &mut Connected<L>, sheet: &m
     let mut written: Vec<u8> = Vec::new(alloc);
     let Connected {
         bulletin,
+        signals,
         shared,
         share,
     } = connected;
@@ -165,6 +174,7 @@ fn speak_out<L: Ledger, R: Wait>(rt: &R, connected: &mut Connected<L>, sheet: &m
         rt,
         alloc,
         bulletin,
+        signals,
         shared,
         share,
         &mut written,
@@ -180,11 +190,21 @@ fn amid<L: Ledger, R: Wait>(rt: &R, connected: &mut Connected<L>, row: &str, she
     let (at, row) = cut(row);
     let Connected {
         bulletin,
+        signals,
         shared,
         share,
     } = connected;
     match octets_of(sheet.alloc(), row) {
-        Ok(octets) => speak_amid(rt, bulletin, shared, share, number(at), &octets, sheet),
+        Ok(octets) => speak_amid(
+            rt,
+            bulletin,
+            signals,
+            shared,
+            share,
+            number(at),
+            &octets,
+            sheet,
+        ),
         Err(_) => sheet.refuse(),
     }
 }
@@ -193,6 +213,7 @@ fn amid<L: Ledger, R: Wait>(rt: &R, connected: &mut Connected<L>, row: &str, she
 fn speak_amid<L: Ledger, R: Wait>(
     rt: &R,
     bulletin: &Bulletin,
+    signals: &Signals,
     shared: &Mutex<Subscriber<L>>,
     share: &mut Share<L>,
     at: usize,
@@ -206,6 +227,7 @@ fn speak_amid<L: Ledger, R: Wait>(
     let mut writer = Pinging {
         rt,
         bulletin,
+        signals,
         shared,
         written: Vec::new(alloc),
         at,
@@ -215,12 +237,40 @@ fn speak_amid<L: Ledger, R: Wait>(
         rt,
         alloc,
         bulletin,
+        signals,
         shared,
         share,
         &mut writer,
         &mut Unwatched,
     );
     tell_spoken(ended, &writer.written, sheet);
+}
+
+/// Has the writing half write on a line, and writes how that ends, and whether the line was hung up on.
+fn tell_over<L: Ledger, R: Wait>(rt: &R, connected: &mut Connected<L>, sheet: &mut Sheet)
+    requires { L.parts ≡ 1 }
+{
+    let alloc = sheet.alloc();
+    let mut line = Line { is_over: false };
+    let Connected {
+        bulletin,
+        signals,
+        shared,
+        share,
+    } = connected;
+    let ended = speak_and_hang_up(
+        rt,
+        alloc,
+        bulletin,
+        signals,
+        shared,
+        share,
+        &mut line,
+        &mut Unwatched,
+    );
+    tell_ended(ended, sheet);
+    sheet.write(" ");
+    sheet.show(&line.is_over);
 }
 
 /// Has the reading half hear the octets of a row, and writes what its watcher was told.
@@ -232,6 +282,7 @@ fn tell_ready<L: Ledger, R: Wait>(rt: &R, connected: &Connected<L>, row: &str, s
             let ended = hear(
                 rt,
                 &connected.bulletin,
+                &connected.signals,
                 &connected.shared,
                 &mut reader,
                 &mut notebook,
@@ -257,6 +308,7 @@ fn tell_answers<L: Ledger, R: Wait>(
     let mut notebook = Notebook::new(alloc);
     let Connected {
         bulletin,
+        signals,
         shared,
         share,
     } = connected;
@@ -264,6 +316,7 @@ fn tell_answers<L: Ledger, R: Wait>(
         rt,
         alloc,
         bulletin,
+        signals,
         shared,
         share,
         &mut writer,

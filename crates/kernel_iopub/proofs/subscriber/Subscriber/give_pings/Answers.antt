@@ -21,6 +21,8 @@ invariant_of-self g c =
           subst (λ (n : ℕ). HasAsked before.peer n (bodies_of c.replace.new.dest.items)) (sym count)
           (subst (λ (items : List (Vec ℕ)). HasAsked before.peer (before.taken.total + length waiting) (bodies_of items)) (sym none)
           (asked_all before.peer before.taken.total waiting (before.asked whole)));
+      few_prefixes = before.few_prefixes;
+      short_prefixes = before.short_prefixes;
     }
 
 -- the share has the number from which they are

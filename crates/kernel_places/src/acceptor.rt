@@ -1,4 +1,4 @@
-//! The usher of a socket: it accepts connections, and has others make room where all places are taken.
+//! The acceptor of a socket: it accepts connections, and has others make room where all places are taken.
 use crate::door::Door;
 use crate::places::{Listeners, PLACES, Place};
 use crate::service::Service;
@@ -12,20 +12,20 @@ use std::sync::ledger::Ledger;
 use std::thread;
 use std::time::{Clock, Duration};
 
-/// How long the usher rests where no connection could be accepted.
+/// How long the acceptor rests where no connection could be accepted.
 const REST_MILLISECONDS: u64 = 20;
 
 /// How long a connection waits for a place before a further one has to make room.
 const WAIT_MILLISECONDS: u64 = 10;
 
 /// The next connection of a socket, with its number. `None` where none could be accepted, after a rest: no descriptor may be free for
-/// a while, and the usher is not to spin.
+/// a while, and the acceptor is not to spin.
 fn accept<W: Ledger, L: HistoryName, S: Ledger, R: Wait + Clock>(
     rt: &R,
     service: &Service<W, L, S>,
     listener: &Listener,
 ) -> Option<(TcpStream, u64)> {
-    let Ok(stream) = listener.accept() else {
+    let Ok(stream) = listener.accept(service.times.message) else {
         if !service.ending.is_set() {
             thread::sleep(rt, Duration::from_millis(REST_MILLISECONDS));
         }
@@ -54,7 +54,7 @@ fn see_in<R: Wait + Clock>(
 }
 
 /// Accepts the connections of a socket until all is to end, and then closes its door. No connection is accepted before all threads stand.
-pub(crate) fn usher<W: Ledger, L: HistoryName, S: Ledger, R: Wait + Clock>(
+pub(crate) fn accept_all<W: Ledger, L: HistoryName, S: Ledger, R: Wait + Clock>(
     rt: &R,
     service: &Service<W, L, S>,
     listeners: &Listeners,
