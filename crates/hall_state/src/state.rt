@@ -216,8 +216,8 @@ impl<W: Ledger, L: HistoryName> State<W, L> {
         let place = kernel.minutes().len();
         let number = kernel.post(pass.lane(), job)?;
         follow(history, kernel);
-        let wishes = note_wishes(notes, mem::replace(wishes, Vec::new(*alloc)));
-        let room = mem::replace(room, Vec::new(*alloc));
+        let wishes = note_wishes(notes, taken(*alloc, wishes));
+        let room = taken(*alloc, room);
         pending_results.push_reserved(PendingResult::new(place, wishes, room));
         pass.count(book);
         Ok(number)
@@ -489,6 +489,13 @@ impl<W: Ledger, L: HistoryName> State<W, L> {
         let State { kernel, .. } = self;
         kernel.discard();
     }
+}
+
+/// All that stands in a list, which is empty then.
+fn taken<T>(alloc: Global, from: &mut Vec<T>) -> Vec<T>
+    ensures { result ≡ from.old }
+{
+    mem::replace(from, Vec::new(alloc))
 }
 
 /// Why a post is refused for which there is no memory.

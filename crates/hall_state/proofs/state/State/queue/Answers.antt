@@ -42,24 +42,24 @@ invariant_of-self-2 g c =
           subst (λ (l : List Entry). AreBeside old.settled l (wished_in c.note_wishes-wishes.new.notes) c.push_reserved.new.self.items)
           (sym (ap (λ (m : Machine). m.minutes) is))
           (subst (λ (w : List (List WishOf)). AreBeside old.settled next.minutes w c.push_reserved.new.self.items) (sym c.note_wishes-wishes.ensures.noted)
-          (subst (λ (es : List PendingResult). AreBeside old.settled next.minutes (wished_in old.notes ++ c.args.wishes.items ∷ []) es) (sym items)
+          (subst (λ (es : List PendingResult). AreBeside old.settled next.minutes (wished_in old.notes ++ c.taken.result.items ∷ []) es) (sym items)
           (beside_posted old.settled old.kernel.machine.minutes (wished_in old.notes) old.pending_results.items c.lane.result (request_of c.args.job)
-          c.args.wishes.items
+          c.taken.result.items
           c.new.result (no_more_end old.kernel.machine c.show_legal.ensures.minutes) own a))));
       results = ∥∥₁_map old.results (λ a.
           subst (λ (w : List (List WishOf)). AreSettled old.settled c.post.new.self.machine w old.under_way) (sym c.note_wishes-wishes.ensures.noted)
-          (results_posted old.settled old.kernel.machine c.post.new.self.machine (wished_in old.notes) c.args.wishes.items entry old.under_way
+          (results_posted old.settled old.kernel.machine c.post.new.self.machine (wished_in old.notes) c.taken.result.items entry old.under_way
           (ap (λ (m : Machine). m.minutes) is) refl (ap (λ (m : Machine). m.state) is) low a));
     }
 
 pub returns-clause-pending_result : goal.returns-clause-pending_result
 returns-clause-pending_result g c =
     let e = c.new.result in
-    let given = ap (λ v. v.items) c.note_wishes-wishes.ensures.wishes in
+    let given = ap (λ v. v.items) (c.note_wishes-wishes.ensures.wishes ∙ c.taken.ensures) in
     let place : length c.minutes-place.result.now ≡ length c.args.self.now.kernel.machine.minutes = sym (length-map c.minutes-place.result.now entry_of)
     ∙ ap length c.minutes-place.ensures.entries in (
       e,
-      subst (λ (n : ℕ). IsNewPending n c.args.wishes.items e) place
+      subst (λ (n : ℕ). IsNewPending n c.args.wishes.now.items e) place
           (subst (λ (w : List WishOf). IsNewPending (length c.minutes-place.result.now) w e) given c.new.ensures),
       c.push_reserved.ensures.items ∙ ap (λ es. es ++ e ∷ []) c.reserve.ensures.items,
     )
