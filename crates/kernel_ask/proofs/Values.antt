@@ -1,5 +1,5 @@
 -- The value of an expression from those of its parts.
-use Rattle.std.proofs.Common.{◌≡◌, ℤ, neg_ℤ, Bool, true, false, List, refl, ap, ◌∙◌, sym}
+use Rattle.std.proofs.Common.{◌≡◌, ℤ, neg_ℤ, Bool, true, false, List, refl, ap, ◌∙◌}
 use Rattle.janus_meaning.specs.Fault.{Fault, Res, Fine, Bad, Broken, and_then}
 use Rattle.janus_meaning.specs.Word.{Operator, wrap, bit, nonzero, operate}
 use Rattle.janus_meaning.specs.Syntax.{Name, Exp, Var, At, Empty, Top, Negate, Binary, And, Or}
