@@ -10,7 +10,7 @@ use Rattle.janus_machine.specs.Mirrored.{opposite_direction}
 use Rattle.janus_machine.specs.Nested.{caller_way}
 use Rattle.janus_machine.specs.Whereabouts.{faces_inverse}
 use Rattle.steps_walk.specs.Standing.{way_outside}
-use Rattle.steps_walk.proofs.Sights.{get_left, get_last, turned}
+use Rattle.steps_walk.proofs.Lists.{get_left, get_last, turned}
 
 get_reversed : (cs : List Call) (k : ℕ) (c : Call) → k < length cs → slice_get (reverse cs) (length cs - suc k) ≡ Some c → slice_get cs k ≡ Some c
 get_reversed [] k c l e = absurd (omega arith)

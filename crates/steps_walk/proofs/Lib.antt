@@ -1,4 +1,6 @@
 pub mod FacingOn
+pub mod Lists
+pub mod Options
 pub mod Bodies
 pub mod Standing
 pub mod Levels

@@ -1,9 +1,9 @@
 -- The bodies in which open calls run are met.
-use Rattle.std.proofs.Common.{◌≡◌, ℕ, zero, suc, ◌+◌, ◌-◌, ◌<◌, ◌≤◌, List, [], ◌∷◌, ◌++◌, length, reverse, Bool, true, false, leb, ◌⊎◌, inl, inr, refl, ap, ◌∙◌, sym, subst, arith}
-use Rattle.std.specs.Prelude.{All, Option, None, Some, Result, Ok, Err, OnOk, slice_get, unwrap_or}
+use Rattle.std.proofs.Common.{◌≡◌, ℕ, zero, suc, ◌+◌, ◌-◌, ◌<◌, ◌≤◌, List, [], ◌∷◌, ◌++◌, length, reverse, Bool, true, false, leb, ◌⊎◌, inl, inr, refl}
+use Rattle.std.proofs.Common.{ap, ◌∙◌, sym, subst, arith}
+use Rattle.std.specs.Prelude.{All, Option, None, Some, slice_get, unwrap_or}
 use Rattle.std.proofs.lemmas.Bool.Decides.{leb_tells}
-use Rattle.std.proofs.lemmas.List.{reverse-append}
-use Rattle.std.proofs.lemmas.List.Elements.{All-append, All-cons, All-nil, All-head, All-tail, All-get_or}
+use Rattle.std.proofs.lemmas.List.Elements.{All-cons, All-nil, All-get_or}
 use Rattle.std.proofs.lemmas.Option.{slice_get_within, get_or_from_slice_get}
 use Rattle.janus_meaning.specs.Fault.{Fine, Bad, Broken}
 use Rattle.janus_meaning.specs.Syntax.{Name, Proc}
@@ -12,6 +12,7 @@ use Rattle.janus_meaning.proofs.Stores.{same_name_self, same_name_true}
 use Rattle.janus_names.specs.Numbers.{IsNumbered, HaveOneNumber}
 use Rattle.janus_slots.specs.Slots.{slot, number_in, procedure_in, procedures_in}
 use Rattle.janus_slots.specs.Law.{AreListed}
+use Rattle.janus_slots.proofs.Names.{slot_number}
 use Rattle.janus_machine.specs.FrameCalls.{Caller}
 use Rattle.janus_machine.specs.declared.linked_code.LinkedCode.{LinkedCode}
 use Rattle.janus_machine.specs.declared.linked_procedure.LinkedProcedure.{LinkedProcedure}
@@ -32,6 +33,7 @@ use Rattle.steps_walk.specs.declared.walk.Walk.{Walk}
 use Rattle.steps_walk.specs.Bodies.{procedures_over}
 use Rattle.steps_walk.specs.Walk.{runner_of, program_of, tree_of, bodies_of, calls_in, IsWalking}
 use Rattle.steps_walk.specs.Standing.{IsCalledAt, HasBody, IsMetAt, IsLevelMet, IsMetHere, AreMet}
+use Rattle.steps_walk.proofs.Lists.{all_turned, there_still, there_last}
 use Rattle.steps_walk.proofs.Standing.{number_is, began_over}
 
 -- ---- the name of a number that a call runs
@@ -42,9 +44,6 @@ pub record IsNamed (es : List Name) (ps : List Proc) (n : ℕ) : Type 0 where
   pub numbered : IsNumbered es n name
   pub procedure : Proc
   pub found : find name ps ≡ Fine procedure
-
-slot_same : (m n : ℕ) → slot m ≡ slot n → m ≡ n
-slot_same m n e = cc
 
 found_over : (f : Name) (p q : Proc) (ps : List Proc) → find f ps ≡ Fine q → (r : Proc) × (find f (p ∷ ps) ≡ Fine r)
 found_over f p q ps e = by (same_name f p.name) refl
@@ -65,7 +64,7 @@ named es one (p ∷ ps) h n q e = by (named es one ps h.1 n q) (same_name (slot 
         IsNamed es (p ∷ ps) n
     by under true s =
         let k = h.0.0 in
-        let same : n ≡ k = slot_same n k (same_name_true (slot n) (number_in es p.name) s ∙ number_is es k p.name h.0.1 one) in
+        let same : n ≡ k = slot_number n k (same_name_true (slot n) (number_in es p.name) s ∙ number_is es k p.name h.0.1 one) in
         record {
           name = p.name;
           numbered = subst (λ m. IsNumbered es m p.name) (sym same) h.0.1;
@@ -86,12 +85,6 @@ all_run : (t : Procedures) (b : LinkedCode) (d : Direction) (cs : List Call) (hs
 all_run t b d [] hs h = All-nil (Runs t)
 all_run t b d (c ∷ cs) [] h = absurd h
 all_run t b d (c ∷ cs) (k ∷ hs) h = All-cons (Runs t) c cs (h.0.body, h.0.there) (all_run t b (caller_way c.uncalled d) cs hs h.1)
-
-all_turned : {A : Type 0} (P : A → Type 0) (xs : List A) → All P xs → All P (reverse xs)
-all_turned P [] h = h
-all_turned P (x ∷ xs) h =
-    subst (All P) (sym (reverse-append (x ∷ []) xs))
-    (All-append P (reverse xs) (x ∷ []) (all_turned P xs (All-tail P x xs h)) (All-cons P x [] (All-head P x xs h) (All-nil P)))
 
 module _ {L : Type 0} (w : Walk L) (walking : IsWalking w) where
   -- the i-th open call, the outermost being 0, runs a body
@@ -173,15 +166,6 @@ module _ {L : Type 0} (w : Walk L) where
 
 -- ---- one body more
 
-there_still : {A : Type 0} (xs ys : List A) (k : ℕ) (x : A) → slice_get xs k ≡ Some x → slice_get (xs ++ ys) k ≡ Some x
-there_still [] ys k x e = absurd (let l = slice_get_within [] k x e in omega (arith, l))
-there_still (y ∷ xs) ys zero x e = e
-there_still (y ∷ xs) ys (suc k) x e = there_still xs ys k x e
-
-there_last : {A : Type 0} (xs : List A) (x : A) → slice_get (xs ++ x ∷ []) (length xs) ≡ Some x
-there_last [] x = refl
-there_last (y ∷ xs) x = there_last xs x
-
 module _ {L : Type 0} (old new : Walk L) where
   pub met_before : (more : List Body) → bodies_of new ≡ bodies_of old ++ more → (number : ℕ) → IsMetAt old number → IsMetAt new number
   met_before more e number met = (
@@ -215,7 +199,3 @@ module _ {L : Type 0} (old new : Walk L) where
           let at_i = subst (λ k. slice_get (reverse (calls_of (runner_of old).cursor)) k ≡ Some c) z at in
           let call : of.call ≡ c = ap (λ (o : Option Call). unwrap_or o c) (sym of.there ∙ at_i) in
           subst (IsMetAt new) (of.procedure ∙ ap (λ (x : Call). x.procedure) call) met
-
-pub on_ok : {A E : Type 0} (r : Result A E) (P Q : Type 0) → (P → Q) → OnOk r P → OnOk r Q
-on_ok (Ok a) P Q f h = f h
-on_ok (Err e) P Q f h = h

@@ -1,53 +1,20 @@
 -- The slot of a name among those in sight.
-use Rattle.std.proofs.Common.{◌≡◌, ℕ, zero, suc, ◌+◌, ◌-◌, ◌<◌, ◌≤◌, List, [], ◌∷◌, ◌++◌, length, map, drop, reverse, get_or, Bool, true, false, cond, refl}
+use Rattle.std.proofs.Common.{◌≡◌, ℕ, suc, ◌+◌, ◌-◌, ◌<◌, ◌≤◌, List, [], ◌∷◌, ◌++◌, length, map, drop, reverse, get_or, Bool, true, false, cond, refl}
 use Rattle.std.proofs.Common.{ap, ◌∙◌, sym, arith, inl, inr}
-use Rattle.std.specs.Prelude.{slice_get, Option, Some, None, IfSome, unwrap_or}
-use Rattle.std.proofs.lemmas.Bool.{cases_lt}
-use Rattle.std.proofs.lemmas.List.{length-map, length-append, length-reverse, reverse-append, reverse-reverse}
-use Rattle.std.proofs.lemmas.Option.{slice_get-get_or, slice_get_within}
-use Rattle.std.proofs.Math.Seq.{get_or-append_seam}
+use Rattle.std.specs.Prelude.{slice_get, Option, Some, None, IfSome, unwrap_or, nat_eq}
+use Rattle.std.specs.Option.{option_eq}
+use Rattle.std.proofs.lemmas.Bool.{cases_lt, eq-eqb, eqb-true}
+use Rattle.std.proofs.lemmas.List.{length-map, length-append, length-reverse, reverse-reverse}
+use Rattle.std.proofs.lemmas.Option.{slice_get_within}
 use Rattle.janus_meaning.specs.Syntax.{Name}
 use Rattle.janus_meaning.specs.Store.{same_name}
 use Rattle.janus_meaning.proofs.Stores.{same_name_self, same_name_true}
 use Rattle.janus_names.specs.Numbers.{IsNumbered, IsUnmet, HaveOneNumber}
 use Rattle.janus_slots.specs.Slots.{slot, slot_in, no_slot}
+use Rattle.janus_slots.proofs.Names.{slot_number}
 use Rattle.janus_places.specs.Table.{slot_of}
 use Rattle.steps_walk.proofs.Bodies.{false_unless}
-
--- ---- lists
-
-pub get_left : {A : Type 0} (xs ys : List A) (i : ℕ) → i < length xs → slice_get (xs ++ ys) i ≡ slice_get xs i
-get_left [] ys i l = absurd (omega arith)
-get_left (x ∷ xs) ys zero l = refl
-get_left (x ∷ xs) ys (suc i) l = get_left xs ys i (omega arith)
-
--- the last of those in the other order
-pub get_last : {A : Type 0} (xs : List A) (x : A) → slice_get (reverse xs ++ x ∷ []) (length xs) ≡ Some x
-get_last xs x =
-    let size : length (reverse xs) ≡ length xs = length-reverse xs in
-    let more : length (reverse xs ++ x ∷ []) ≡ length (reverse xs) + 1 = length-append (reverse xs) (x ∷ []) in
-    slice_get-get_or (reverse xs ++ x ∷ []) (length xs) x (omega (arith, size, more))
-    ∙ ap (λ n. Some (get_or (reverse xs ++ x ∷ []) n x)) (sym size)
-    ∙ ap Some (get_or-append_seam (reverse xs) x [] x)
-
-pub turned : {A : Type 0} (x : A) (xs : List A) → reverse (x ∷ xs) ≡ reverse xs ++ x ∷ []
-turned x xs = reverse-append (x ∷ []) xs
-
-drop_at : {A : Type 0} (xs : List A) (i : ℕ) (x : A) → i < length xs → get_or xs i x ≡ x → drop i xs ≡ x ∷ drop (suc i) xs
-drop_at [] i x l e = absurd (omega arith)
-drop_at (y ∷ xs) zero x l e = ap (λ z. z ∷ xs) e
-drop_at (y ∷ xs) (suc i) x l e = drop_at xs i x (omega arith) e
-
-length_drop : {A : Type 0} (xs : List A) (i : ℕ) → length (drop i xs) ≡ length xs - i
-length_drop xs zero = omega arith
-length_drop [] (suc i) = omega arith
-length_drop (x ∷ xs) (suc i) = let h = length_drop xs i in omega (arith, h)
-
-drop_none : {A : Type 0} (xs : List A) (i : ℕ) → length xs ≤ i → drop i xs ≡ []
-drop_none [] zero l = refl
-drop_none [] (suc i) l = refl
-drop_none (x ∷ xs) zero l = absurd (omega arith)
-drop_none (x ∷ xs) (suc i) l = drop_none xs i (omega arith)
+use Rattle.steps_walk.proofs.Lists.{get_left, get_last, turned, drop_at, length_drop, drop_none}
 
 -- ---- a name in a row of which the first stands on top
 
@@ -149,10 +116,7 @@ none_in_table names x none =
 
 -- ---- locals above others
 
-slot_number : (m n : ℕ) → slot m ≡ slot n → m ≡ n
-slot_number m n e = cc
-
-no_number : {A : Type 0} (n : ℕ) → slot n ≡ no_slot → A
+pub no_number : {A : Type 0} (n : ℕ) → slot n ≡ no_slot → A
 no_number n e = absurd (cc)
 
 pub slot_above : (xs g : List Name) (x : Name) (b : ℕ) → slot b ≡ slot_in xs x → slot (length g + b) ≡ slot_in (xs ++ g) x
@@ -195,3 +159,15 @@ pub of_number : (names : List Name) (x : Name) (r : Option ℕ) → IfSome r (λ
     slot_of r ≡ slot_in (reverse names) x
 of_number names x None met unmet one = none_in_table names x (unmet refl)
 of_number names x (Some k) met unmet one = slot_in_table names x k met one
+
+-- whether that slot was found
+pub is_slot : (r : Option ℕ) (k : ℕ) → option_eq nat_eq r (Some k) ≡ same_name (slot_of r) (slot k)
+is_slot None k = sym (false_unless no_slot (slot k) (λ e. no_number k (sym e)))
+is_slot (Some j) k = by (nat_eq j k) refl
+  where
+    differ : true ≡ false → ⊥
+    differ e = cc
+
+    by : (b : Bool) → nat_eq j k ≡ b → nat_eq j k ≡ same_name (slot j) (slot k)
+    by true e = e ∙ sym (ap (λ n. same_name (slot n) (slot k)) (eqb-true j k e) ∙ same_name_self (slot k))
+    by false e = e ∙ sym (false_unless (slot j) (slot k) (λ s. differ (sym (eq-eqb j k (slot_number j k s)) ∙ e)))

@@ -13,13 +13,9 @@ use Rattle.janus_memory.specs.declared.value.ValueView.{ValueView}
 use Rattle.janus_memory.specs.declared.value.ValueView.TheVariants as views
 use Rattle.janus_memory.specs.Values.{shown}
 use Rattle.janus_slots.specs.Slots.{slot, slot_in, no_slot}
+use Rattle.janus_slots.proofs.Names.{slot_number}
 use Rattle.steps_walk.specs.Values.{sighted, value_or_lent}
-
-slot_number : (m n : ℕ) → slot m ≡ slot n → m ≡ n
-slot_number m n e = cc
-
-no_number : {A : Type 0} (n : ℕ) → slot n ≡ no_slot → A
-no_number n e = absurd (cc)
+use Rattle.steps_walk.proofs.Sights.{no_number}
 
 -- a name in sight has the value in its slot
 pub look_there : (s : Store) (g : List Name) (x : Name) (k : ℕ) → slot k ≡ slot_in g x →

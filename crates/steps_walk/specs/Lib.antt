@@ -11,3 +11,5 @@ pub use Rattle.kernel_runner.specs.Runner
 -- Of kernel_machine, given again.
 pub use Rattle.kernel_machine.specs.declared.progress
 pub use Rattle.kernel_runner.specs.declared.runner
+-- Of janus_slots, given again.
+pub use Rattle.janus_slots.specs.Slots

@@ -8,8 +8,8 @@ use Rattle.steps_walk.specs.declared.sight.Base.{Base}
 use Rattle.steps_walk.specs.declared.sight.Base.TheVariants.{Declared, Parameters}
 use Rattle.steps_walk.specs.declared.sight.Sight.{Sight}
 use Rattle.steps_walk.specs.declared.walk.Walk.{Walk}
-use Rattle.steps_walk.specs.Walk.{runner_of, bodies_of}
-use Rattle.steps_walk.specs.Standing.{IsTableAt}
+use Rattle.steps_walk.specs.Walk.{runner_of, bodies_of, calls_in}
+use Rattle.steps_walk.specs.Standing.{IsTableAt, IsHere, IsCodeAt}
 
 -- the names in sight in a whole code, the newest first
 abbrev pub base_of : Base → List Name
@@ -40,3 +40,10 @@ pub record IsSightAt {L : Type 0} (w : Walk L) (level : Level) (s : Sight) : Typ
   pub table : IsTableAt w level.body s.table.now
   pub at : s.at ≡ level.at
   pub base : base_of s.base ≡ base_at w level.body
+
+-- the sight is that of the innermost level of a walk
+pub record IsSightHere {L : Type 0} (w : Walk L) (s : Sight) : Type 0 where
+  pub level : Level
+  pub here : IsHere w level
+  pub code : IsCodeAt w (calls_in w) level.body
+  pub of : IsSightAt w level s

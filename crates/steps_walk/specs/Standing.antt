@@ -1,7 +1,6 @@
 -- What is told of where a walk stands.
-use Rattle.std.specs.Prelude.{◌≡◌, ℕ, zero, suc, ◌-◌, ◌≤◌, List, [], ◌∷◌, reverse, true, false, Option, None, Some, slice_get}
+use Rattle.std.specs.Prelude.{◌≡◌, ℕ, zero, suc, ◌-◌, ◌≤◌, ◌<◌, List, [], ◌∷◌, reverse, true, false, Option, None, Some, slice_get}
 use Rattle.janus_meaning.specs.Syntax.{Name}
-use Rattle.janus_names.specs.Numbers.{IsNumbered}
 use Rattle.janus_linear.specs.declared.code.Order.TheVariants.{Straight}
 use Rattle.janus_linear.specs.Layout.{place_at}
 use Rattle.janus_machine.specs.declared.cursor.Call.{Call}
@@ -87,14 +86,18 @@ abbrev pub node_at : {L : Type 0} → Walk L → Option ℕ → Option ℕ
 node_at w None = None
 node_at w (Some k) = node_in (slice_get (bodies_of w) k)
 
--- the name of the procedure of that body
-abbrev pub IsNameIn : List Name → Option Body → Name → Type 0
-IsNameIn entries None name = ⊥
-IsNameIn entries (Some body) name = IsNumbered entries body.number name
+-- the name of the procedure of that body: the one of its number
+abbrev pub name_in : List Name → Option Body → Option Name
+name_in entries None = None
+name_in entries (Some body) = slice_get entries body.number
 
-abbrev pub IsNameAt : {L : Type 0} → Walk L → Option ℕ → Name → Type 0
-IsNameAt w None name = ⊥
-IsNameAt w (Some k) name = IsNameIn (runner_of w).entries (slice_get (bodies_of w) k) name
+-- the cell's own code has none
+abbrev pub name_at : {L : Type 0} → Walk L → Option ℕ → Option Name
+name_at w None = None
+name_at w (Some k) = name_in (runner_of w).entries (slice_get (bodies_of w) k)
+
+abbrev pub name_of : {L : Type 0} → Walk L → Level → Option Name
+name_of w level = name_at w level.body
 
 -- the table of that code
 abbrev pub IsTableIn : Option Body → Table → Type 0
@@ -159,3 +162,23 @@ pub record TellsPlace {L : Type 0} (w : Walk L) (found : Level × Spot) : Type 0
   pub there : HasTable w → is_outside w ≡ true → (at : Place) → Is (runner_of w) (Inside (program_of w) at false) →
       IsThere (runner_of w) (program_of w) at found.1.part found.1.span
   pub called : IsWalking w → is_outside w ≡ false → IsThereInCall w found.0 found.1.part found.1.span
+
+-- That is told of the innermost level of a walk, with the cell in whose text it stands.
+pub record TellsStand {L : Type 0} (w : Walk L) (found : Level × Spot) : Type 0 where
+  pub tells : TellsPlace w found
+  pub code : IsCodeAt w (calls_in w) found.0.body
+  pub node : found.0.node ≡ node_at w found.0.body
+
+-- ---- each level
+
+-- That is told of the i-th level, the outermost being 0: the innermost stands where the cursor does, and each other one where the i-th open call stands.
+pub record TellsLevel {L : Type 0} (w : Walk L) (i : ℕ) (level : Level) : Type 0 where
+  pub here : i ≡ calls_in w → IsHere w level
+  pub call : i < calls_in w → IsPlaceOf w i level.at
+  pub faces : level.inverse ≡ faces_inverse (way_at w i)
+  pub code : IsCodeAt w i level.body
+  pub node : level.node ≡ node_at w level.body
+
+-- this stands there in the text
+abbrev pub IsSpotAt : {L : Type 0} → Walk L → Level → Spot → Type 0
+IsSpotAt w level spot = (t : Table) × IsTableAt w level.body t × TellsSpot t level.at spot

@@ -3,7 +3,7 @@ use Rattle.std.specs.Prelude.{◌≡◌, ℤ, Bool, false, List, [], ◌∷◌, 
 use Rattle.std.specs.Borrow.{Bor}
 use Rattle.janus_meaning.specs.Fault.{Res, Fine, Bad, Broken}
 use Rattle.janus_meaning.specs.Syntax.{Name}
-use Rattle.janus_meaning.specs.Store.{Store, Bare, Slot, Val, Lent}
+use Rattle.janus_meaning.specs.Store.{Store, Bare, Slot, Val, Lent, look}
 use Rattle.janus_meaning.specs.World.{listed}
 use Rattle.janus_meaning.specs.Value.{value}
 use Rattle.janus_meaning.specs.Word.{nonzero}
@@ -16,12 +16,10 @@ use Rattle.janus_memory.specs.Values.{shown}
 use Rattle.janus_evaluation.specs.Results.{fault_of}
 use Rattle.steps_walk.specs.declared.evaluation.NoValue.{NoValue}
 use Rattle.steps_walk.specs.declared.evaluation.NoValue.TheVariants.{Unknown, Kind, Fault}
-use Rattle.steps_walk.specs.declared.level.Level.{Level}
 use Rattle.steps_walk.specs.declared.sight.Sight.{Sight}
 use Rattle.steps_walk.specs.declared.walk.Walk.{Walk}
-use Rattle.steps_walk.specs.Walk.{calls_in, slots_in}
-use Rattle.steps_walk.specs.Standing.{IsHere, IsCodeAt}
-use Rattle.steps_walk.specs.Sights.{AreInSight, IsSightAt}
+use Rattle.steps_walk.specs.Walk.{slots_in}
+use Rattle.steps_walk.specs.Sights.{AreInSight, IsSightHere}
 
 -- what stands in a slot; nothing to be read where there is none
 abbrev pub value_or_lent : Option (Name × Val) → Val
@@ -63,11 +61,14 @@ abbrev pub holds_as : Res ℤ → Bool
 holds_as (Fine n) = nonzero n
 holds_as (Bad fault) = false
 
--- whether an expression holds over the names that are in sight at the innermost level of a walk
-pub record TellsHolding {L : Type 0} (exp : Exp) (w : Walk L) (holds : Bool) : Type 0 where
-  pub level : Level
-  pub here : IsHere w level
-  pub code : IsCodeAt w (calls_in w) level.body
+-- the value of a name, by the names that are in sight at the innermost level of a walk
+pub record IsValueHere {L : Type 0} (w : Walk L) (name : Name) (v : Res Val) : Type 0 where
   pub sight : Sight
-  pub of : IsSightAt w level sight
+  pub of : IsSightHere w sight
+  pub is : (g : List Name) → AreInSight sight g → v ≡ look name (sighted (slots_in w) g)
+
+-- whether an expression holds over those names
+pub record TellsHolding {L : Type 0} (exp : Exp) (w : Walk L) (holds : Bool) : Type 0 where
+  pub sight : Sight
+  pub of : IsSightHere w sight
   pub is : (g : List Name) → AreInSight sight g → holds ≡ holds_as (value (exp_of exp) (sighted (slots_in w) g))

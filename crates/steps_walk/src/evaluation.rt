@@ -32,7 +32,7 @@ pub enum NoValue {
 
 /// The value of a name, if it is in sight.
 #[tactic(auto, using(crate::proofs::Values::unknown, crate::proofs::Values::lent_value, crate::proofs::Values::no_value))]
-fn value_of<'a, L: Ledger>(
+pub fn value_of<'a, L: Ledger>(
     walk: &'a Walk<L>,
     sight: &Sight<'_>,
     name: &str,
@@ -215,10 +215,7 @@ pub fn is_holding<L: Ledger>(walk: &Walk<L>, exp: &Exp) -> bool
     requires met { IsMetHere walk.now }
     ensures { TellsHolding exp.now walk.now result }
 {
-    let Some(level) = walk.level(walk.open_calls()) else {
-        unreachable!()
-    };
-    let Some(sight) = walk.sight(&level) else {
+    let Some(sight) = walk.sight_here() else {
         unreachable!()
     };
     is_true(number_of(walk, &sight, exp))

@@ -33,7 +33,9 @@ pub struct Spot {
 impl<L: Ledger> Walk<L> {
     ghost use Rattle.janus_places.specs.Table.{places_in};
     ghost use Rattle.steps_walk.specs.Walk.{calls_in, IsWalking};
-    ghost use Rattle.steps_walk.specs.Standing.{IsHere, IsCodeAt, IsCalledAt, IsTableAt, IsPlaceOf, IsNameAt, TellsSpot, TellsPlace, node_at, way_at};
+    ghost use Rattle.std.specs.Option.{MatchOption};
+    ghost use Rattle.std.specs.Prelude.{None, Some};
+    ghost use Rattle.steps_walk.specs.Standing.{IsHere, IsCodeAt, IsCalledAt, IsTableAt, IsPlaceOf, TellsSpot, TellsPlace, name_of, node_at, way_at};
     ghost use Rattle.steps_walk.specs.Standing.{IsLevelMet, IsMetHere};
 
     /// How many calls are open.
@@ -75,6 +77,7 @@ impl<L: Ledger> Walk<L> {
         ensures tells { IfSome result (TellsPlace self.now) }
         ensures here { IfSome result (λ told. IsHere self.now told.0) }
         ensures code { IfSome result (λ told. IsCodeAt self.now (calls_in self.now) told.0.body) }
+        ensures node { IfSome result (λ told. told.0.node ≡ node_at self.now told.0.body) }
         ensures met { IsWalking self.now → IsMetHere self.now → IsSome result }
     {
         let level = self.level(self.open_calls())?;
@@ -140,9 +143,9 @@ impl<L: Ledger> Walk<L> {
         }
     }
 
-    /// The name of the procedure in which a level stands.
+    /// The name of the procedure in which a level stands; none in the cell's own code.
     pub fn procedure_name(&self, level: &Level) -> Option<&str>
-        ensures { IfSome result (λ name. IsNameAt self.now level.now.body name.now) }
+        ensures { MatchOption result (name_of self.now level.now ≡ None) (λ name. name_of self.now level.now ≡ Some name.now) }
     {
         let Some(body) = self.met.get(level.body?) else {
             return None;

@@ -12,10 +12,10 @@
 //! - `stand` tells the place in the innermost code, which way that runs, and which part of the text stands there: in the cell's own code at the place to which
 //!   the steps have led, and in a call in the text of the body that runs. `level` tells the place and the way of each open call in its caller's code, and
 //!   `spot` what stands at such a place in the table of that code.
-//! - `sight` has the names that are in sight there, each with its slot, and `value` lends the value in a slot of the innermost frame; `number_of` is the value
-//!   of an expression over these names.
-//! - Whatever is told is so. Once `meet_here` has succeeded, `stand`, `level` and `sight` do answer for the innermost code, and once `meet_calls` has, `level`
-//!   does for each open call: none is left out.
+//! - `sight_here` has the names that are in sight there, each with its slot, and `value` lends the value in a slot of the innermost frame; `value_of` is the
+//!   value of one of these names, and `number_of` that of an expression over them.
+//! - Whatever is told is so. Once `meet_here` has succeeded, `stand`, `level` and `sight_here` do answer for the innermost code, and once `meet_calls` has,
+//!   `level` does for each open call: none is left out.
 //!
 //! The modules, in the order in which a reader needs them: `turning` (steps back, after which a runner faces on), `body` (the bodies of procedures in the texts
 //! of their cells), `walk` (the open cell, its steps, and the bodies that are met), `level` (where it stands, in the cell and in the open calls), `sight` (the
@@ -35,7 +35,7 @@ mod sight;
 mod turning;
 mod walk;
 
-pub use crate::evaluation::{NoValue, is_holding, number_of};
+pub use crate::evaluation::{NoValue, is_holding, number_of, value_of};
 pub use crate::level::{Level, Spot};
 pub use crate::sight::Sight;
 pub use crate::walk::Walk;

@@ -143,9 +143,9 @@ fn add_parameters<'a>(all: &mut Vec<&'a str>, names: &'a [String]) -> Result<(),
 
 impl<L: Ledger> Walk<L> {
     ghost use Rattle.steps_walk.specs.Walk.{slots_in, calls_in, IsWalking};
-    ghost use Rattle.steps_walk.specs.Standing.{IsHere, IsCodeAt, IsTableAt};
+    ghost use Rattle.steps_walk.specs.Standing.{IsHere, IsCodeAt, IsTableAt, IsMetHere};
     ghost use Rattle.janus_places.specs.declared.table.Table.{Table as TheTable};
-    ghost use Rattle.steps_walk.specs.Sights.{IsSightAt, base_of, base_at};
+    ghost use Rattle.steps_walk.specs.Sights.{IsSightAt, IsSightHere, base_of, base_at};
 
     /// The names in sight at the innermost level, whose values the walk lends.
     pub fn sight(&self, level: &Level) -> Option<Sight<'_>>
@@ -164,6 +164,16 @@ impl<L: Ledger> Walk<L> {
             table,
             at: level.at,
         })
+    }
+
+    /// The names in sight at the innermost level. None if the body there wasn't met.
+    pub fn sight_here(&self) -> Option<Sight<'_>>
+        ensures is { IfSome result (IsSightHere self.now) }
+        ensures met { IsWalking self.now → IsMetHere self.now → IsSome result }
+    {
+        let level = self.level(self.open_calls())?;
+        let sight = self.sight(&level)?;
+        Some(sight)
     }
 
     /// The names that are in sight in a whole code.

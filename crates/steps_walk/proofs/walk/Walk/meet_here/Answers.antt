@@ -4,7 +4,8 @@ use Rattle.janus_machine.specs.Whereabouts.{IsCallOf}
 use Rattle.kernel_runner.specs.declared.runner.Runner.{Runner}
 use Rattle.steps_walk.specs.Walk.{runner_of, calls_in}
 use Rattle.steps_walk.specs.Standing.{IsMetAt, IsMetHere, HasBody}
-use Rattle.steps_walk.proofs.MetBodies.{on_ok, met_here, call_runs}
+use Rattle.steps_walk.proofs.MetBodies.{met_here, call_runs}
+use Rattle.steps_walk.proofs.Options.{on_ok}
 use Rattle.steps_walk.proofs.walk.Walk.meet_here.Goals as goal
 
 pub returns-clause-met : goal.returns-clause-met
