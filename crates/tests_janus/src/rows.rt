@@ -1,10 +1,8 @@
 //! Rows of whole statements, laid over the cells of a frame, in which the names `x`, `y`, `a` and `s` are in sight, and inside of a local `z` too.
 //!
-//! A call is how many of the names are in sight, and behind `|` statements, or none: three without blocks, or one alone, as `statements` says. It is told how
-//! many instructions they are, how many of these are taken elsewhere, which are calls and the end, how many cells a frame needs, and how many frames may
-//! be opened.
+//! A call is how many of the names are in sight, and behind `|` statements, or none, whose code is that of `statements`. It is told how many instructions
+//! they are, how many of these are taken elsewhere, which are calls and the end, how many cells a frame needs, and how many frames may be opened.
 use crate::statements::code_of_text;
-use janus_code::{Block, Code};
 use janus_linear::{Order, link};
 use janus_row::code::{Instruction, Op};
 use janus_row_laying::row::{LaidRow, lay};
@@ -20,24 +18,11 @@ pub(crate) fn answer(call: &str, sheet: &mut Sheet) {
     }
 }
 
-/// The statements of a text, laid over so many names.
+/// The statements of a text, laid over so many names, five at most.
 fn row_of(alloc: Global, names: usize, text: &str) -> Result<LaidRow, AllocError> {
-    let code = if text.is_empty() {
-        no_code(alloc)
-    } else {
-        code_of_text(alloc, text)?
-    };
+    let code = code_of_text(alloc, names, text)?;
     let linear = link(alloc, code, Order::Straight)?;
     lay(alloc, &linear, if names < 5 { names as u32 } else { 5 })
-}
-
-/// Code without statements.
-fn no_code(alloc: Global) -> Code {
-    Code {
-        statements: Vec::new(alloc),
-        members: Vec::new(alloc),
-        body: Block { start: 0, end: 0 },
-    }
 }
 
 /// What is told of a row.
