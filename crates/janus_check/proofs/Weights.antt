@@ -1,5 +1,5 @@
 -- How heavy trees are: each block of a statement weighs less than it, and each statement less than its block.
-use Rattle.std.proofs.Common.{◌≡◌, ◌<◌, ◌+◌, length, get_or, ℕ, zero, suc, List, [], ◌∷◌, Vec, Global, ap, ◌∙◌, arith}
+use Rattle.std.proofs.Common.{◌≡◌, ◌<◌, ◌+◌, length, get_or, ℕ, zero, suc, List, [], ◌∷◌, Vec, Box, Global, ap, ◌∙◌, arith}
 use Rattle.janus_meaning.specs.Syntax.{Stm, Blk, Skip, Set, SetAt, Push, Pop, Swap, If, From, LocalInt, LocalStack, Call, Uncall, Nil, Cons}
 use Rattle.janus_syntax.specs.declared.tree.Stm as code_stm
 use Rattle.janus_syntax.specs.declared.tree.Name as code_name
@@ -32,15 +32,15 @@ one_lighter (r ∷ ss) zero s lt e = let same : stm_weight (stm_of r) ≡ stm_we
 one_lighter (r ∷ ss) (suc i) s lt e = let ih : stm_weight (stm_of s) < block_weight (block_of ss) = one_lighter ss i s (omega arith) e in omega arith
 
 -- the blocks of an if, of a loop and of locals
-pub if_lighter : (s : code_stm.Stm) (a b : code_exp.Exp) (v w : Vec code_stm.Stm Global) → s ≡ code_stm.If a v w b →
+pub if_lighter : (s : code_stm.Stm) (a b : Box code_exp.Exp Global) (v w : Vec code_stm.Stm Global) → s ≡ code_stm.If a v w b →
     (block_weight (block_of v.items) < stm_weight (stm_of s)) × (block_weight (block_of w.items) < stm_weight (stm_of s))
 if_lighter s a b v w e = let weight = ap stm_weight (ap stm_of e ∙ ap plain_stm (view_if a b v w)) in (omega (arith, weight), omega (arith, weight))
 
-pub loop_lighter : (s : code_stm.Stm) (a b : code_exp.Exp) (v w : Vec code_stm.Stm Global) → s ≡ code_stm.Loop a v w b →
+pub loop_lighter : (s : code_stm.Stm) (a b : Box code_exp.Exp Global) (v w : Vec code_stm.Stm Global) → s ≡ code_stm.Loop a v w b →
     (block_weight (block_of v.items) < stm_weight (stm_of s)) × (block_weight (block_of w.items) < stm_weight (stm_of s))
 loop_lighter s a b v w e = let weight = ap stm_weight (ap stm_of e ∙ ap plain_stm (view_loop a b v w)) in (omega (arith, weight), omega (arith, weight))
 
-pub local_int_lighter : (s : code_stm.Stm) (x y : code_name.Name) (a b : code_exp.Exp) (v : Vec code_stm.Stm Global) → s ≡ code_stm.LocalInt x a v y b →
+pub local_int_lighter : (s : code_stm.Stm) (x y : code_name.Name) (a b : Box code_exp.Exp Global) (v : Vec code_stm.Stm Global) → s ≡ code_stm.LocalInt x a v y b →
     block_weight (block_of v.items) < stm_weight (stm_of s)
 local_int_lighter s x y a b v e = let weight = ap stm_weight (ap stm_of e ∙ ap plain_stm (view_local_int x y a b v)) in omega (arith, weight)
 

@@ -1,5 +1,5 @@
 -- The inverse of a parser's block, and of its tree without the places.
-use Rattle.std.proofs.Common.{◌≡◌, Vec, Global, ℕ, suc, ◌-◌, ◌<◌, ◌≤◌, List, [], ◌∷◌, ◌++◌, length, get_or, drop, drop-cons, refl, ap, ◌∙◌, sym, arith}
+use Rattle.std.proofs.Common.{◌≡◌, Vec, Box, Global, ℕ, suc, ◌-◌, ◌<◌, ◌≤◌, List, [], ◌∷◌, ◌++◌, length, get_or, drop, drop-cons, refl, ap, ◌∙◌, sym, arith}
 use Rattle.janus_meaning.specs.Syntax as tree
 use Rattle.janus_meaning.specs.Word.{opposite}
 use Rattle.janus_syntax.specs.View.{name_of, text_of, plain_exp, plain_stm, plain_block, block_of, update_of}
@@ -105,26 +105,26 @@ inverse_block_is rs ss h = ap plain_block h ∙ turned_plain (block_view ss) Emp
 
 -- ---- statements with blocks, made from their vectors
 
-pub if_turned : (a b : code_exp.Exp) (v w x y : Vec code_stm.Stm Global) → block_view x.items ≡ turned (block_view v.items) Empty →
-    block_view y.items ≡ turned (block_view w.items) Empty → If (exp_view b) (block_view x.items) (block_view y.items) (exp_view a) ≡ inverse_stm
+pub if_turned : (a b : Box code_exp.Exp Global) (v w x y : Vec code_stm.Stm Global) → block_view x.items ≡ turned (block_view v.items) Empty →
+    block_view y.items ≡ turned (block_view w.items) Empty → If (exp_view b.value) (block_view x.items) (block_view y.items) (exp_view a.value) ≡ inverse_stm
     (stm_view (code_stm.If a v w b))
 if_turned a b v w x y g h =
-    ap (λ s. If (exp_view b) s (block_view y.items) (exp_view a)) g
-    ∙ ap (λ s. If (exp_view b) (turned (block_view v.items) Empty) s (exp_view a)) h
+    ap (λ s. If (exp_view b.value) s (block_view y.items) (exp_view a.value)) g
+    ∙ ap (λ s. If (exp_view b.value) (turned (block_view v.items) Empty) s (exp_view a.value)) h
     ∙ ap inverse_stm (sym (view_if a b v w))
 
-pub loop_turned : (a b : code_exp.Exp) (v w x y : Vec code_stm.Stm Global) → block_view x.items ≡ turned (block_view v.items) Empty →
-    block_view y.items ≡ turned (block_view w.items) Empty → Loop (exp_view b) (block_view x.items) (block_view y.items) (exp_view a) ≡ inverse_stm
+pub loop_turned : (a b : Box code_exp.Exp Global) (v w x y : Vec code_stm.Stm Global) → block_view x.items ≡ turned (block_view v.items) Empty →
+    block_view y.items ≡ turned (block_view w.items) Empty → Loop (exp_view b.value) (block_view x.items) (block_view y.items) (exp_view a.value) ≡ inverse_stm
     (stm_view (code_stm.Loop a v w b))
 loop_turned a b v w x y g h =
-    ap (λ s. Loop (exp_view b) s (block_view y.items) (exp_view a)) g
-    ∙ ap (λ s. Loop (exp_view b) (turned (block_view v.items) Empty) s (exp_view a)) h
+    ap (λ s. Loop (exp_view b.value) s (block_view y.items) (exp_view a.value)) g
+    ∙ ap (λ s. Loop (exp_view b.value) (turned (block_view v.items) Empty) s (exp_view a.value)) h
     ∙ ap inverse_stm (sym (view_loop a b v w))
 
-pub local_int_turned : (m n : code_name.Name) (a b : code_exp.Exp) (v w : Vec code_stm.Stm Global) → block_view w.items ≡ turned (block_view v.items) Empty →
-    LocalInt (name_view m) (exp_view b) (block_view w.items) (name_view n) (exp_view a) ≡ inverse_stm (stm_view (code_stm.LocalInt m a v n b))
+pub local_int_turned : (m n : code_name.Name) (a b : Box code_exp.Exp Global) (v w : Vec code_stm.Stm Global) → block_view w.items ≡ turned (block_view v.items) Empty →
+    LocalInt (name_view m) (exp_view b.value) (block_view w.items) (name_view n) (exp_view a.value) ≡ inverse_stm (stm_view (code_stm.LocalInt m a v n b))
 local_int_turned m n a b v w g =
-    ap (λ z. LocalInt (name_view m) (exp_view b) z (name_view n) (exp_view a)) g
+    ap (λ z. LocalInt (name_view m) (exp_view b.value) z (name_view n) (exp_view a.value)) g
     ∙ ap inverse_stm (sym (view_local_int m n a b v))
 
 pub local_stack_turned : (m n : code_name.Name) (v w : Vec code_stm.Stm Global) → block_view w.items ≡ turned (block_view v.items) Empty →

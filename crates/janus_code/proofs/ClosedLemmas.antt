@@ -1,5 +1,5 @@
 -- Closed statements, made from their vectors.
-use Rattle.std.proofs.Common.{◌≡◌, Vec, Global, ℕ, ◌+◌, ◌<◌, List, [], ◌∷◌, ◌++◌, length, get_or, take, refl, ap, ◌∙◌, sym}
+use Rattle.std.proofs.Common.{◌≡◌, Vec, Box, Global, ℕ, ◌+◌, ◌<◌, List, [], ◌∷◌, ◌++◌, length, get_or, take, refl, ap, ◌∙◌, sym}
 use Rattle.std.proofs.lemmas.List.{take_more}
 use Rattle.janus_syntax.specs.declared.tree.Name as code_name
 use Rattle.janus_syntax.specs.declared.tree.Exp as code_exp
@@ -27,26 +27,26 @@ one_more b xs ys i r d lt h e f =
 
 -- ---- statements with blocks, made from their vectors
 
-pub if_closed : (a b : code_exp.Exp) (v w x y : Vec code_stm.Stm Global) → block_view x.items ≡ closed_block (block_view v.items) →
-    block_view y.items ≡ closed_block (block_view w.items) → If (exp_view a) (block_view x.items) (block_view y.items) (exp_view b) ≡ closed_stm
+pub if_closed : (a b : Box code_exp.Exp Global) (v w x y : Vec code_stm.Stm Global) → block_view x.items ≡ closed_block (block_view v.items) →
+    block_view y.items ≡ closed_block (block_view w.items) → If (exp_view a.value) (block_view x.items) (block_view y.items) (exp_view b.value) ≡ closed_stm
     (stm_view (code_stm.If a v w b))
 if_closed a b v w x y g h =
-    ap (λ s. If (exp_view a) s (block_view y.items) (exp_view b)) g
-    ∙ ap (λ s. If (exp_view a) (closed_block (block_view v.items)) s (exp_view b)) h
+    ap (λ s. If (exp_view a.value) s (block_view y.items) (exp_view b.value)) g
+    ∙ ap (λ s. If (exp_view a.value) (closed_block (block_view v.items)) s (exp_view b.value)) h
     ∙ ap closed_stm (sym (view_if a b v w))
 
-pub loop_closed : (a b : code_exp.Exp) (v w x y : Vec code_stm.Stm Global) → block_view x.items ≡ closed_block (block_view v.items) →
-    block_view y.items ≡ closed_block (block_view w.items) → Loop (exp_view a) (block_view x.items) (block_view y.items) (exp_view b) ≡ closed_stm
+pub loop_closed : (a b : Box code_exp.Exp Global) (v w x y : Vec code_stm.Stm Global) → block_view x.items ≡ closed_block (block_view v.items) →
+    block_view y.items ≡ closed_block (block_view w.items) → Loop (exp_view a.value) (block_view x.items) (block_view y.items) (exp_view b.value) ≡ closed_stm
     (stm_view (code_stm.Loop a v w b))
 loop_closed a b v w x y g h =
-    ap (λ s. Loop (exp_view a) s (block_view y.items) (exp_view b)) g
-    ∙ ap (λ s. Loop (exp_view a) (closed_block (block_view v.items)) s (exp_view b)) h
+    ap (λ s. Loop (exp_view a.value) s (block_view y.items) (exp_view b.value)) g
+    ∙ ap (λ s. Loop (exp_view a.value) (closed_block (block_view v.items)) s (exp_view b.value)) h
     ∙ ap closed_stm (sym (view_loop a b v w))
 
-pub local_int_closed : (m n : code_name.Name) (a b : code_exp.Exp) (v w : Vec code_stm.Stm Global) → block_view w.items ≡ closed_block (block_view v.items) →
-    LocalInt (name_view m) (exp_view a) (block_view w.items) (name_view m) (exp_view b) ≡ closed_stm (stm_view (code_stm.LocalInt m a v n b))
+pub local_int_closed : (m n : code_name.Name) (a b : Box code_exp.Exp Global) (v w : Vec code_stm.Stm Global) → block_view w.items ≡ closed_block (block_view v.items) →
+    LocalInt (name_view m) (exp_view a.value) (block_view w.items) (name_view m) (exp_view b.value) ≡ closed_stm (stm_view (code_stm.LocalInt m a v n b))
 local_int_closed m n a b v w g =
-    ap (λ z. LocalInt (name_view m) (exp_view a) z (name_view m) (exp_view b)) g
+    ap (λ z. LocalInt (name_view m) (exp_view a.value) z (name_view m) (exp_view b.value)) g
     ∙ ap closed_stm (sym (view_local_int m n a b v))
 
 pub local_stack_closed : (m n : code_name.Name) (v w : Vec code_stm.Stm Global) → block_view w.items ≡ closed_block (block_view v.items) →

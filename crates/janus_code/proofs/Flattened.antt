@@ -1,5 +1,5 @@
 -- Flat statements with blocks.
-use Rattle.std.proofs.Common.{◌≡◌, ◌<◌, ◌≤◌, ◌+◌, ◌⊎◌, ⊎_elim, inl, inr, ℕ, arith, length, get_or, [], ◌∷◌, ◌++◌, List, Vec, Global, ap, ◌∙◌, sym, subst}
+use Rattle.std.proofs.Common.{◌≡◌, ◌<◌, ◌≤◌, ◌+◌, ◌⊎◌, ⊎_elim, inl, inr, ℕ, arith, length, get_or, [], ◌∷◌, ◌++◌, List, Vec, Box, Global, ap, ◌∙◌, sym, subst}
 use Rattle.std.specs.Prelude.{IfOk, Result, Ok, Err, slice_get, Some}
 use Rattle.std.proofs.Math.ListN.{get_or-append}
 use Rattle.std.proofs.Math.Seq.{get_or-append_seam}
@@ -33,7 +33,7 @@ pub record Parts (es : List Name) (g : Shape) (s : code_stm.Stm) (ss ts : List c
   pub first_lighter : block_weight (block_of ss) < stm_weight (stm_of s)
   pub second_lighter : block_weight (block_of ts) < stm_weight (stm_of s)
 
-pub if_parts : (es : List Name) (g : Shape) (s : code_stm.Stm) (a b : code_exp.Exp) (v w : Vec code_stm.Stm Global) → s ≡ code_stm.If a v w b →
+pub if_parts : (es : List Name) (g : Shape) (s : code_stm.Stm) (a b : Box code_exp.Exp Global) (v w : Vec code_stm.Stm Global) → s ≡ code_stm.If a v w b →
     SeesStm es g (stm_of s) → Parts es g s v.items w.items
 if_parts es g s a b v w e h =
     let is = ap stm_of e ∙ ap plain_stm (view_if a b v w) in
@@ -41,7 +41,7 @@ if_parts es g s a b v w e h =
     let lighter = if_lighter s a b v w e in
     record { first = seen.1; second = seen.2; first_lighter = lighter.0; second_lighter = lighter.1 }
 
-pub loop_parts : (es : List Name) (g : Shape) (s : code_stm.Stm) (a b : code_exp.Exp) (v w : Vec code_stm.Stm Global) → s ≡ code_stm.Loop a v w b →
+pub loop_parts : (es : List Name) (g : Shape) (s : code_stm.Stm) (a b : Box code_exp.Exp Global) (v w : Vec code_stm.Stm Global) → s ≡ code_stm.Loop a v w b →
     SeesStm es g (stm_of s) → Parts es g s v.items w.items
 loop_parts es g s a b v w e h =
     let is = ap stm_of e ∙ ap plain_stm (view_loop a b v w) in
@@ -53,7 +53,7 @@ pub record Part (es : List Name) (g : Shape) (s : code_stm.Stm) (ss : List code_
   pub block : SeesBlk es g (block_of ss)
   pub lighter : block_weight (block_of ss) < stm_weight (stm_of s)
 
-pub local_int_part : (es : List Name) (g : Shape) (s : code_stm.Stm) (x y : code_name.Name) (a b : code_exp.Exp) (v : Vec code_stm.Stm Global) →
+pub local_int_part : (es : List Name) (g : Shape) (s : code_stm.Stm) (x y : code_name.Name) (a b : Box code_exp.Exp Global) (v : Vec code_stm.Stm Global) →
     s ≡ code_stm.LocalInt x a v y b → SeesStm es g (stm_of s) → Part es ((name_of x, tree.ANumber) ∷ g) s v.items
 local_int_part es g s x y a b v e h =
     let is = ap stm_of e ∙ ap plain_stm (view_local_int x y a b v) in
@@ -68,15 +68,15 @@ local_stack_part es g s x y v e h =
     record { block = seen; lighter = local_stack_lighter s x y v e }
 
 -- each with slots in place of names, where the names of g are in sight
-pub local_int_flat : (es g xs : List Name) (x y : code_name.Name) (a b : code_exp.Exp) (z : Name) (f h : flat_exp.FlatExp)
-    (v : Vec code_stm.Stm Global) (s : tree.Blk) → z ≡ slot (length g) → exp_of xs f ≡ exp_in g (plain a) → exp_of xs h ≡ exp_in g (plain b) →
+pub local_int_flat : (es g xs : List Name) (x y : code_name.Name) (a b : Box code_exp.Exp Global) (z : Name) (f h : flat_exp.FlatExp)
+    (v : Vec code_stm.Stm Global) (s : tree.Blk) → z ≡ slot (length g) → exp_of xs f ≡ exp_in g (plain a.value) → exp_of xs h ≡ exp_in g (plain b.value) →
     s ≡ block_in es (name_of x ∷ g) (block_of v.items) →
     tree.LocalInt z (exp_of xs f) s (exp_of xs h) ≡ stm_in es g (stm_of (code_stm.LocalInt x a v y b))
 local_int_flat es g xs x y a b z f h v s n i j k =
     ap (λ z. tree.LocalInt z (exp_of xs f) s (exp_of xs h)) n
     ∙ ap (λ e. tree.LocalInt (slot (length g)) e s (exp_of xs h)) i
-    ∙ ap (tree.LocalInt (slot (length g)) (exp_in g (plain a)) s) j
-    ∙ ap (λ s. tree.LocalInt (slot (length g)) (exp_in g (plain a)) s (exp_in g (plain b))) k
+    ∙ ap (tree.LocalInt (slot (length g)) (exp_in g (plain a.value)) s) j
+    ∙ ap (λ s. tree.LocalInt (slot (length g)) (exp_in g (plain a.value)) s (exp_in g (plain b.value))) k
     ∙ ap (λ c. stm_in es g (plain_stm c)) (sym (view_local_int x y a b v))
 
 pub local_stack_flat : (es g : List Name) (x y : code_name.Name) (z : Name) (v : Vec code_stm.Stm Global) (s : tree.Blk) → z ≡ slot (length g) →
@@ -84,24 +84,24 @@ pub local_stack_flat : (es g : List Name) (x y : code_name.Name) (z : Name) (v :
 local_stack_flat es g x y z v s n j =
     ap (λ z. tree.LocalStack z s) n ∙ ap (tree.LocalStack (slot (length g))) j ∙ ap (λ c. stm_in es g (plain_stm c)) (sym (view_local_stack x y v))
 
-pub if_flat : (es g xs : List Name) (a b : code_exp.Exp) (f h : flat_exp.FlatExp) (v w : Vec code_stm.Stm Global) (s t : tree.Blk) →
-    exp_of xs f ≡ exp_in g (plain a) → exp_of xs h ≡ exp_in g (plain b) → s ≡ block_in es g (block_of v.items) → t ≡ block_in es g (block_of w.items) →
+pub if_flat : (es g xs : List Name) (a b : Box code_exp.Exp Global) (f h : flat_exp.FlatExp) (v w : Vec code_stm.Stm Global) (s t : tree.Blk) →
+    exp_of xs f ≡ exp_in g (plain a.value) → exp_of xs h ≡ exp_in g (plain b.value) → s ≡ block_in es g (block_of v.items) → t ≡ block_in es g (block_of w.items) →
     tree.If (exp_of xs f) s t (exp_of xs h) ≡ stm_in es g (stm_of (code_stm.If a v w b))
 if_flat es g xs a b f h v w s t i j k l =
     ap (λ e. tree.If e s t (exp_of xs h)) i
-    ∙ ap (tree.If (exp_in g (plain a)) s t) j
-    ∙ ap (λ s. tree.If (exp_in g (plain a)) s t (exp_in g (plain b))) k
-    ∙ ap (λ t. tree.If (exp_in g (plain a)) (block_in es g (block_of v.items)) t (exp_in g (plain b))) l
+    ∙ ap (tree.If (exp_in g (plain a.value)) s t) j
+    ∙ ap (λ s. tree.If (exp_in g (plain a.value)) s t (exp_in g (plain b.value))) k
+    ∙ ap (λ t. tree.If (exp_in g (plain a.value)) (block_in es g (block_of v.items)) t (exp_in g (plain b.value))) l
     ∙ ap (λ c. stm_in es g (plain_stm c)) (sym (view_if a b v w))
 
-pub loop_flat : (es g xs : List Name) (a b : code_exp.Exp) (f h : flat_exp.FlatExp) (v w : Vec code_stm.Stm Global) (s t : tree.Blk) →
-    exp_of xs f ≡ exp_in g (plain a) → exp_of xs h ≡ exp_in g (plain b) → s ≡ block_in es g (block_of v.items) → t ≡ block_in es g (block_of w.items) →
+pub loop_flat : (es g xs : List Name) (a b : Box code_exp.Exp Global) (f h : flat_exp.FlatExp) (v w : Vec code_stm.Stm Global) (s t : tree.Blk) →
+    exp_of xs f ≡ exp_in g (plain a.value) → exp_of xs h ≡ exp_in g (plain b.value) → s ≡ block_in es g (block_of v.items) → t ≡ block_in es g (block_of w.items) →
     tree.From (exp_of xs f) s t (exp_of xs h) ≡ stm_in es g (stm_of (code_stm.Loop a v w b))
 loop_flat es g xs a b f h v w s t i j k l =
     ap (λ e. tree.From e s t (exp_of xs h)) i
-    ∙ ap (tree.From (exp_in g (plain a)) s t) j
-    ∙ ap (λ s. tree.From (exp_in g (plain a)) s t (exp_in g (plain b))) k
-    ∙ ap (λ t. tree.From (exp_in g (plain a)) (block_in es g (block_of v.items)) t (exp_in g (plain b))) l
+    ∙ ap (tree.From (exp_in g (plain a.value)) s t) j
+    ∙ ap (λ s. tree.From (exp_in g (plain a.value)) s t (exp_in g (plain b.value))) k
+    ∙ ap (λ t. tree.From (exp_in g (plain a.value)) (block_in es g (block_of v.items)) t (exp_in g (plain b.value))) l
     ∙ ap (λ c. stm_in es g (plain_stm c)) (sym (view_loop a b v w))
 
 -- ---- one more statement in the row of a block

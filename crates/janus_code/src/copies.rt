@@ -88,11 +88,15 @@ pub(crate) fn two_names(first: &Name, second: &Name) -> Result<(Name, Name), All
     both(first.copy()?, second.copy())
 }
 
-/// The same two expressions in memory of their own.
-pub(crate) fn two_exps(alloc: Global, first: &Exp, second: &Exp) -> Result<(Exp, Exp), AllocError>
-    ensures { IfOk result (λ x. (exp_view x.0 ≡ exp_view first.now) × (exp_view x.1 ≡ exp_view second.now)) }
+/// The same two expressions, each in a box of its own.
+pub(crate) fn two_exps(
+    alloc: Global,
+    first: &Exp,
+    second: &Exp,
+) -> Result<(Box<Exp>, Box<Exp>), AllocError>
+    ensures { IfOk result (λ x. (exp_view x.0.value ≡ exp_view first.now) × (exp_view x.1.value ≡ exp_view second.now)) }
 {
-    both(first.copy(alloc)?, second.copy(alloc))
+    both(first.boxed_copy(alloc)?, second.boxed_copy(alloc))
 }
 
 /// The procedure's name and the arguments of a call in memory of their own.

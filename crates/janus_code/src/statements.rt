@@ -17,7 +17,7 @@ pub(crate) fn assign_of(
 ) -> Result<Stm, AllocError>
     ensures { IfOk result (λ s. stm_view s ≡ Assign (name_view name.now) update (exp_view exp.now)) }
 {
-    let (name, exp) = both(name.copy()?, exp.copy(alloc))?;
+    let (name, exp) = both(name.copy()?, exp.boxed_copy(alloc))?;
     Ok(Stm::Assign(name, update, exp))
 }
 

@@ -3,9 +3,9 @@
 //! To the layer above it promises that `invert_code` gives code that stands for the inverse of a code's block, in which each name keeps
 //! its number. A statement's inverse has its number, and the members of each block stand backward. Want of memory is its one refusal.
 //!
-//! Flat code is that of `janus_code`, whose names are passed on with all that its public fields have and its calls take: `invert` there is the inverse of a tree. The inverse of
-//! a statement is that of Yokoyama and Glück (2007), "A reversible programming language and its invertible self-interpreter", in the
-//! definitions of `janus_meaning`.
+//! Flat code is that of `janus_code`, whose names are passed on with what its public fields have and its calls take, but for `Span`, which `janus_syntax`
+//! names, and `Sight`, which `janus_check` names; `invert` there is the inverse of a tree. The inverse of a statement is that of Yokoyama and Glück (2007),
+//! "A reversible programming language and its invertible self-interpreter", in the definitions of `janus_meaning`.
 #![tactic(auto)]
 
 ghost use Rattle.janus_invert.specs.InvertedBlock.{InvertedStandsForInverse};

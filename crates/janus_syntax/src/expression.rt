@@ -222,3 +222,16 @@ pub(crate) fn whole_expression(
     let (exp, _, rest) = expression(alloc, tokens, WEAKEST, depth, 0)?;
     Ok((exp, rest))
 }
+
+/// A whole expression at the front, in a box, and the tokens behind it, with `depth` constructs open before it.
+pub(crate) fn boxed_expression(
+    alloc: Global,
+    tokens: Tokens,
+    depth: usize,
+) -> Result<(Box<Exp>, Tokens), Problem>
+    requires { depth ≤ depth_limit }
+    ensures { Reads (λ x. IsPart Whole depth (exp_view x.0.value) (views tokens.now) (views x.1.now)) (FailsPart Whole depth (views tokens.now)) result }
+{
+    let (exp, rest) = whole_expression(alloc, tokens, depth)?;
+    Ok((Box::new(alloc, exp)?, rest))
+}

@@ -13,7 +13,7 @@ ghost use Rattle.janus_syntax.specs.Statements.{FailsLocalInt, IsLocalStack, Fai
 ghost use Rattle.janus_syntax.specs.Statements.{IsStackHead, AreStatements, IsOptional, FailsOptional, IsBehindTarget, FailsBehindTarget};
 
 use crate::call::call;
-use crate::expression::{DEPTH_LIMIT, whole_expression};
+use crate::expression::{DEPTH_LIMIT, boxed_expression};
 use crate::fault::What;
 use crate::item::{
     behind_delocal, behind_keyword, behind_sign, keyword_at, name, sign_at, update,
@@ -156,16 +156,16 @@ fn assignment(
 {
     let Some(rest) = sign_at(Sign::OpenIndex, tokens) else {
         let (update, rest) = update(tokens)?;
-        let (exp, rest) = whole_expression(alloc, rest, depth)?;
+        let (exp, rest) = boxed_expression(alloc, rest, depth)?;
         return Ok((Stm::Assign(name, update, exp), rest));
     };
     if depth == DEPTH_LIMIT {
         return Err(Problem::TooNested { left: tokens.len() });
     }
-    let (index, rest) = whole_expression(alloc, rest, depth + 1)?;
+    let (index, rest) = boxed_expression(alloc, rest, depth + 1)?;
     let (index, rest) = both(index, behind_sign(Sign::CloseIndex, rest))?;
     let (index, (update, rest)) = both(index, update(rest))?;
-    let (index, (exp, rest)) = both(index, whole_expression(alloc, rest, depth))?;
+    let (index, (exp, rest)) = both(index, boxed_expression(alloc, rest, depth))?;
     Ok((Stm::AssignElement(name, index, update, exp), rest))
 }
 
@@ -175,7 +175,7 @@ fn behind_if(alloc: Global, tokens: Tokens, depth: usize) -> Result<(Stm, Tokens
     requires { depth ≤ depth_limit }
     ensures { Reads (λ x. IsIf depth (stm_view x.0) (views tokens.now) (views x.1.now)) (FailsIf depth (views tokens.now)) result }
 {
-    let (test, rest) = whole_expression(alloc, tokens, depth)?;
+    let (test, rest) = boxed_expression(alloc, tokens, depth)?;
     let (test, rest) = both(test, behind_keyword(Keyword::Then, rest))?;
     let (test, (then_part, rest)) = both(test, body(alloc, rest, depth))?;
     let (test, (else_part, rest)) = both(test, optional_body(alloc, Keyword::Else, rest, depth))?;
@@ -185,18 +185,18 @@ fn behind_if(alloc: Global, tokens: Tokens, depth: usize) -> Result<(Stm, Tokens
 /// An `if` of this test and these parts, behind them, and the tokens behind it.
 fn end_of_if(
     alloc: Global,
-    test: Exp,
+    test: Box<Exp>,
     then_part: Vec<Stm>,
     else_part: Vec<Stm>,
     tokens: Tokens,
     depth: usize,
 ) -> Result<(Stm, Tokens), Problem>
     requires { depth ≤ depth_limit }
-    ensures { (from : List AToken) → IsIfBegun depth (exp_view test) (block_view then_part.items) (block_view else_part.items) from (views tokens.now) →
+    ensures { (from : List AToken) → IsIfBegun depth (exp_view test.value) (block_view then_part.items) (block_view else_part.items) from (views tokens.now) →
         Reads (λ x. IsIf depth (stm_view x.0) from (views x.1.now)) (FailsIf depth from) result }
 {
     let (test, rest) = both(test, behind_keyword(Keyword::Fi, tokens))?;
-    let (test, (assertion, rest)) = both(test, whole_expression(alloc, rest, depth))?;
+    let (test, (assertion, rest)) = both(test, boxed_expression(alloc, rest, depth))?;
     Ok((Stm::If(test, then_part, else_part, assertion), rest))
 }
 
@@ -206,7 +206,7 @@ fn behind_from(alloc: Global, tokens: Tokens, depth: usize) -> Result<(Stm, Toke
     requires { depth ≤ depth_limit }
     ensures { Reads (λ x. IsLoop depth (stm_view x.0) (views tokens.now) (views x.1.now)) (FailsLoop depth (views tokens.now)) result }
 {
-    let (assertion, rest) = whole_expression(alloc, tokens, depth)?;
+    let (assertion, rest) = boxed_expression(alloc, tokens, depth)?;
     let (assertion, (do_part, rest)) = both(
         assertion,
         optional_body(alloc, Keyword::Do, rest, depth),
@@ -221,7 +221,7 @@ fn behind_from(alloc: Global, tokens: Tokens, depth: usize) -> Result<(Stm, Toke
 /// A loop of this assertion and these parts, behind them, and the tokens behind it.
 fn end_of_loop(
     alloc: Global,
-    assertion: Exp,
+    assertion: Box<Exp>,
     do_part: Vec<Stm>,
     loop_part: Vec<Stm>,
     tokens: Tokens,
@@ -229,11 +229,11 @@ fn end_of_loop(
 ) -> Result<(Stm, Tokens), Problem>
     requires { depth ≤ depth_limit }
     ensures { (from : List AToken) →
-        IsLoopBegun depth (exp_view assertion) (block_view do_part.items) (block_view loop_part.items) from (views tokens.now) →
+        IsLoopBegun depth (exp_view assertion.value) (block_view do_part.items) (block_view loop_part.items) from (views tokens.now) →
         Reads (λ x. IsLoop depth (stm_view x.0) from (views x.1.now)) (FailsLoop depth from) result }
 {
     let (assertion, rest) = both(assertion, behind_keyword(Keyword::Until, tokens))?;
-    let (assertion, (test, rest)) = both(assertion, whole_expression(alloc, rest, depth))?;
+    let (assertion, (test, rest)) = both(assertion, boxed_expression(alloc, rest, depth))?;
     Ok((Stm::Loop(assertion, do_part, loop_part, test), rest))
 }
 
@@ -269,13 +269,17 @@ fn local_int(alloc: Global, tokens: Tokens, depth: usize) -> Result<(Stm, Tokens
 }
 
 /// The name of a local number and what it begins with, and the tokens behind them.
-fn head_of_int(alloc: Global, tokens: Tokens, depth: usize) -> Result<(Name, Exp, Tokens), Problem>
+fn head_of_int(
+    alloc: Global,
+    tokens: Tokens,
+    depth: usize,
+) -> Result<(Name, Box<Exp>, Tokens), Problem>
     requires { depth ≤ depth_limit }
-    ensures { Reads (λ x. IsIntHead depth (name_view x.0) (exp_view x.1) (views tokens.now) (views x.2.now)) (FailsLocalInt depth (views tokens.now)) result }
+    ensures { Reads (λ x. IsIntHead depth (name_view x.0) (exp_view x.1.value) (views tokens.now) (views x.2.now)) (FailsLocalInt depth (views tokens.now)) result }
 {
     let (name, rest) = name(alloc, tokens)?;
     let rest = behind_sign(Sign::Equals, rest)?;
-    let (exp, rest) = whole_expression(alloc, rest, depth)?;
+    let (exp, rest) = boxed_expression(alloc, rest, depth)?;
     Ok((name, exp, rest))
 }
 
@@ -283,18 +287,18 @@ fn head_of_int(alloc: Global, tokens: Tokens, depth: usize) -> Result<(Name, Exp
 fn end_of_int(
     alloc: Global,
     name: Name,
-    exp: Exp,
+    exp: Box<Exp>,
     statements: Vec<Stm>,
     tokens: Tokens,
     depth: usize,
 ) -> Result<(Stm, Tokens), Problem>
     requires { depth ≤ depth_limit }
-    ensures { (from start : List AToken) → IsIntHead depth (name_view name) (exp_view exp) from start →
+    ensures { (from start : List AToken) → IsIntHead depth (name_view name) (exp_view exp.value) from start →
         IsPart Body depth (block_view statements.items) start (views tokens.now) →
         Reads (λ x. IsLocalInt depth (stm_view x.0) from (views x.1.now)) (FailsLocalInt depth from) result }
 {
     let (exp, (again, rest)) = both(exp, behind_delocal(alloc, LocalKind::Int, &name, tokens))?;
-    let (exp, (test, rest)) = both(exp, whole_expression(alloc, rest, depth))?;
+    let (exp, (test, rest)) = both(exp, boxed_expression(alloc, rest, depth))?;
     Ok((Stm::LocalInt(name, exp, statements, again, test), rest))
 }
 

@@ -95,9 +95,9 @@ impl Exp {
         }
     }
 
-    /// The copy of a part.
+    /// The same in a box of its own; an error for want of memory.
     #[cycle(copy)]
-    fn boxed_copy(&self, alloc: Global) -> Result<Box<Exp>, AllocError>
+    pub fn boxed_copy(&self, alloc: Global) -> Result<Box<Exp>, AllocError>
         ensures { IfOk result (λ copy. exp_view copy.value ≡ exp_view self.now) }
     {
         let copy = self.copy(alloc)?;
@@ -125,9 +125,9 @@ pub enum LocalKind {
 pub enum Stm {
     Skip,
     /// A variable, and what it is changed by.
-    Assign(Name, Update, Exp),
+    Assign(Name, Update, Box<Exp>),
     /// An array, the index of the element, and what that is changed by.
-    AssignElement(Name, Exp, Update, Exp),
+    AssignElement(Name, Box<Exp>, Update, Box<Exp>),
     /// A variable, whose number goes onto the stack.
     Push(Name, Name),
     /// A variable, which takes the newest value of the stack.
@@ -135,12 +135,12 @@ pub enum Stm {
     /// Two variables, whose numbers are exchanged.
     Swap(Name, Name),
     /// The first test, the parts after `then` and `else`, and the test after `fi`.
-    If(Exp, Vec<Stm>, Vec<Stm>, Exp),
+    If(Box<Exp>, Vec<Stm>, Vec<Stm>, Box<Exp>),
     /// The test after `from`, the parts after `do` and `loop`, and the test after `until`.
-    Loop(Exp, Vec<Stm>, Vec<Stm>, Exp),
+    Loop(Box<Exp>, Vec<Stm>, Vec<Stm>, Box<Exp>),
     /// A local number: its name, what it begins with, the statements in which it stands, the same name behind `delocal`, and
     /// what it ends with.
-    LocalInt(Name, Exp, Vec<Stm>, Name, Exp),
+    LocalInt(Name, Box<Exp>, Vec<Stm>, Name, Box<Exp>),
     /// A local stack, empty at both ends: its name, the statements in which it stands, and the same name behind `delocal`.
     LocalStack(Name, Vec<Stm>, Name),
     /// A call: the procedure's name, and the arguments.

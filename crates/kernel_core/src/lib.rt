@@ -15,8 +15,8 @@
 //!
 //! Values, cells, procedures and refusals, which its calls take, answer and lend, can be named through this crate: it gives their types again, with
 //! `SymbolTable`, `Kind` and `check_exp` for `DeclaredNames`, what an `OpenCell` holds, down to its store and its tree, and what the calls of a `Store` and of
-//! a `Tree` take, lend and answer. A kernel itself lends no store. What can't be named through it, since `kernel_loader` doesn't give it again: `LinkedCode`
-//! of a `Program` and a `Book`, `LinkedProcedure` of `Procedures`, `OpenCall` of a `Cursor`, all of `janus_machine`; and what a `Row` and a `Stop` consist of.
+//! a `Tree` take, lend and answer. A kernel itself lends no store. What can't be named through it is what a `Row` and a `Stop` consist of: `janus_row` and
+//! `janus_linear` name it.
 //!
 //! It has the queue, the minutes and the counter; the tree, the store and the open job are `kernel_history`'s. The names of these crates and
 //! of `kernel_machine` and `machine_laws` are passed on, types and laws here and definitions in specs/, so that layers above cite this crate alone:
@@ -40,9 +40,10 @@ pub use janus_syntax::{
     SyntaxFault, Token, TokenKind, Update, What,
 };
 pub use kernel_history::{
-    Args, Book, CountedStore, Cursor, DeclaredNames, EndedCell, HistoryTree, Kind, Names, Node,
-    OpenCell, Procedures, Program, RoomFault, Route, Row, RowSliced, Runner, StackView, Stop,
-    Store, SymbolTable, Tally, Tree, TreeFault, ValueView, View, cell_names, check_exp,
+    Args, Book, CountedStore, Cursor, DeclaredNames, EndedCell, HistoryTree, Kind, LinkedCode,
+    LinkedProcedure, Names, Node, OpenCall, OpenCell, Procedures, Program, RoomFault, Route, Row,
+    RowSliced, Runner, StackView, Stop, Store, SymbolTable, Tally, Tree, TreeFault, ValueView,
+    View, cell_names, check_exp,
 };
 pub use kernel_machine::{
     Begun, CellText, CheckFault, Event, Extent, Fault, Job, MINUTES_LIMIT, Outcome, Phase,

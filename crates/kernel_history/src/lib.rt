@@ -53,6 +53,6 @@ pub use janus_check::{Kind, SymbolTable, cell_names, check_exp};
 pub use janus_row::Stop;
 pub use janus_row::slice::Sliced as RowSliced;
 pub use kernel_loader::{
-    Args, Book, CountedStore, Cursor, DeclaredNames, Names, Procedures, Program, RoomFault, Row,
-    Runner, StackView, Store, Tally, ValueView,
+    Args, Book, CountedStore, Cursor, DeclaredNames, LinkedCode, LinkedProcedure, Names, OpenCall,
+    Procedures, Program, RoomFault, Row, Runner, StackView, Store, Tally, ValueView,
 };

@@ -30,6 +30,6 @@ mod tables;
 pub use crate::loader::load;
 pub use crate::sight::DeclaredNames;
 pub use kernel_runner::{
-    Args, Book, CountedStore, Cursor, Names, Procedures, Program, RoomFault, Row, Runner,
-    StackView, Store, Tally, ValueView, slice,
+    Args, Book, CountedStore, Cursor, LinkedCode, LinkedProcedure, Names, OpenCall, Procedures,
+    Program, RoomFault, Row, Runner, StackView, Store, Tally, ValueView, slice,
 };

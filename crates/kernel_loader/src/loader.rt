@@ -44,7 +44,7 @@ struct Made {
 
 /// Loads a cell's text over the names that the runner's store declares and the procedures in effect: its program, or why the text is refused. A fault of
 /// the text is told before one of the check. The names of its procedures come into the table behind the others, and their bodies are kept behind the
-/// others; all else stays, and all where the text is refused. No name is copied, and nothing is looked at of earlier cells but what is in effect.
+/// others. The store stays, and with it what the runner shows; where the text is refused, the table and the bodies that are kept stay too.
 pub fn load<L: Ledger>(
     alloc: Global,
     text: &str,

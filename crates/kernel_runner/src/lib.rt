@@ -11,8 +11,8 @@
 //! The definitions are in specs/: `Program` (the cell that a program is), `Declarable` (what a store has room for) and `Runner` (the model of a
 //! runner, and what each call does to it).
 //!
-//! It gives the names of `janus_machine` again that the loader and the history cite: its books, cursors, procedures and stores, and its
-//! slices.
+//! It gives the names of `janus_machine` again that the loader and the history cite: its books, cursors, procedures and stores, with what these
+//! consist of, and its slices.
 //!
 //! A step makes two writes of the store at most. `enter` has no answer for want of memory where the cell declares nothing.
 #![tactic(auto)]
@@ -23,6 +23,6 @@ mod runner;
 pub use crate::program::Program;
 pub use crate::runner::Runner;
 pub use janus_machine::{
-    Args, Book, CountedStore, Cursor, LinkedCode, LinkedProcedure, Names, Procedures, RoomFault,
-    Row, StackView, Store, Tally, ValueView, slice,
+    Args, Book, CountedStore, Cursor, LinkedCode, LinkedProcedure, Names, OpenCall, Procedures,
+    RoomFault, Row, StackView, Store, Tally, ValueView, slice,
 };

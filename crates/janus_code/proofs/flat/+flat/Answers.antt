@@ -47,11 +47,11 @@ flat_statement-returns-in_ok-test-in-If-clause-tree g t c =
     if_ok c.add-in-If.result (λ n h.
     h all_slots ∙ if_flat c.args.entries.now (names_of (in_sight c.args.sight.now)) all_slots c.in-If.test c.in-If.last c.in_ok-test-in-If.test
     c.in_ok-test-in-If.last c.in-If.then_part c.in-If.else_part _ _
-    c.in_ok-test-in-If.ensures.trees.0 c.in_ok-test-in-If.ensures.trees.1
+    (rw c.deref-in-If-3.ensures at c.in_ok-test-in-If.ensures.trees.0) (rw c.deref-in-If-4.ensures at c.in_ok-test-in-If.ensures.trees.1)
     (kept.0 ∙ c.in_ok-then_part-in-If.ensures.block ∙ ap (λ ss. block_in c.args.entries.now (names_of (in_sight c.args.sight.now)) (block_of ss))
-    c.deref.ensures.value)
-    (c.in_ok-else_part-in-If.ensures.block ∙ ap (λ ss. block_in c.args.entries.now (names_of (in_sight c.args.sight.now)) (block_of ss))
     c.deref-in-If.ensures.value)
+    (c.in_ok-else_part-in-If.ensures.block ∙ ap (λ ss. block_in c.args.entries.now (names_of (in_sight c.args.sight.now)) (block_of ss))
+    c.deref-in-If-2.ensures.value)
     ∙ ap (λ s. stm_in c.args.entries.now (names_of (in_sight c.args.sight.now)) (stm_of s)) (sym c.in-If.is)) c.add-in-If.ensures.tree
 
 pub flat_statement-returns-in_ok-entry-in-Loop-clause-tree : goal.flat_statement-returns-in_ok-entry-in-Loop-clause-tree
@@ -63,7 +63,7 @@ flat_statement-returns-in_ok-entry-in-Loop-clause-tree g t c =
     if_ok c.add-in-Loop.result (λ n h.
     h all_slots ∙ loop_flat c.args.entries.now (names_of (in_sight c.args.sight.now)) all_slots c.in-Loop.entry c.in-Loop.exit c.in_ok-entry-in-Loop.entry
     c.in_ok-entry-in-Loop.exit c.in-Loop.do_part c.in-Loop.loop_part _ _
-    c.in_ok-entry-in-Loop.ensures.trees.0 c.in_ok-entry-in-Loop.ensures.trees.1
+    (rw c.deref-in-Loop-3.ensures at c.in_ok-entry-in-Loop.ensures.trees.0) (rw c.deref-in-Loop-4.ensures at c.in_ok-entry-in-Loop.ensures.trees.1)
     (kept.0 ∙ c.in_ok-do_part-in-Loop.ensures.block ∙ ap (λ ss. block_in c.args.entries.now (names_of (in_sight c.args.sight.now)) (block_of ss))
     c.deref-in-Loop.ensures.value)
     (c.in_ok-loop_part-in-Loop.ensures.block ∙ ap (λ ss. block_in c.args.entries.now (names_of (in_sight c.args.sight.now)) (block_of ss))
@@ -118,7 +118,7 @@ pub flat_statement-flat_block-requires : goal.flat_statement-flat_block-requires
 flat_statement-flat_block-requires g t c κs within =
     let parts = if_parts c.args.entries.now (in_sight c.args.sight.now) c.args.statement.now c.in-If.test c.in-If.last c.in-If.then_part c.in-If.else_part
     c.in-If.is c.requires.seen in
-    let same = c.deref.ensures.value in (
+    let same = c.deref-in-If.ensures.value in (
       omega (arith, c.decreases, parts.first_lighter, ap (λ ss. block_weight (block_of ss)) same),
       (
         within,
@@ -133,7 +133,7 @@ pub flat_statement-flat_block-requires-in-If : goal.flat_statement-flat_block-re
 flat_statement-flat_block-requires-in-If g t c κs within =
     let parts = if_parts c.args.entries.now (in_sight c.args.sight.now) c.args.statement.now c.in-If.test c.in-If.last c.in-If.then_part c.in-If.else_part
     c.in-If.is c.requires.seen in
-    let same = c.deref-in-If.ensures.value in (
+    let same = c.deref-in-If-2.ensures.value in (
       omega (arith, c.decreases, parts.second_lighter, ap (λ ss. block_weight (block_of ss)) same),
       (
         within,
@@ -254,7 +254,8 @@ flat_statement-returns-in_ok-first-in-LocalInt-clause-tree g t c =
     if_ok c.add-in-LocalInt.result (λ n h.
     h all_slots ∙ local_int_flat c.args.entries.now g all_slots c.in-LocalInt.name c.in-LocalInt.field-3 c.in-LocalInt.first c.in-LocalInt.last
     _ c.in_ok-first-in-LocalInt.first c.in_ok-first-in-LocalInt.last c.in-LocalInt.block _
-    c.in_ok-symbol-in-LocalInt.ensures.name c.in_ok-first-in-LocalInt.ensures.trees.0 c.in_ok-first-in-LocalInt.ensures.trees.1
+    c.in_ok-symbol-in-LocalInt.ensures.name (rw c.deref-in-LocalInt-2.ensures at c.in_ok-first-in-LocalInt.ensures.trees.0)
+    (rw c.deref-in-LocalInt-3.ensures at c.in_ok-first-in-LocalInt.ensures.trees.1)
     (c.in_ok-block-in-LocalInt.ensures.block
     ∙ ap (λ (h : Shape). block_in c.args.entries.now (names_of h) (block_of c.deref-in-LocalInt.result.now)) c.local-inside.ensures.names
     ∙ ap (λ ss. block_in c.args.entries.now (name_of c.in-LocalInt.name ∷ g) (block_of ss))
@@ -384,7 +385,7 @@ flat_block-returns-clause-width g t c =
 pub flat_statement-returns-in_ok-test-in-If-clause-width : goal.flat_statement-returns-in_ok-test-in-If-clause-width
 flat_statement-returns-in_ok-test-in-If-clause-width g t c =
     let most = open_if c.args.statement.now c.in-If.test c.in-If.last c.in-If.then_part c.in-If.else_part
-    c.deref.result.now c.deref-in-If.result.now c.in-If.is c.deref.ensures.value c.deref-in-If.ensures.value in
+    c.deref-in-If.result.now c.deref-in-If-2.result.now c.in-If.is c.deref-in-If.ensures.value c.deref-in-If-2.ensures.value in
     always_ok c.add-in-If.result (λ n.
     omega (arith, most, c.in_ok-then_part-in-If.ensures.width, c.in_ok-else_part-in-If.ensures.width, c.add-in-If.ensures.width))
 

@@ -46,30 +46,31 @@ add_branch-returns-clause-adds t c = λ xs s e f g h.
 pub add_inner-returns-in_ok-add_branch-in-If-clause-adds : goal.add_inner-returns-in_ok-add_branch-in-If-clause-adds
 add_inner-returns-in_ok-add_branch-in-If-clause-adds t c =
     let x = c.in-If in
-    let s = tree.If (exp_view x.test) (block_view x.then_part.items) (block_view x.else_part.items) (exp_view x.last) in
+    let s = tree.If (exp_view x.test.value) (block_view x.then_part.items) (block_view x.else_part.items) (exp_view x.last.value) in
     on_ok c.add_branch-in-If.result (λ second xs h.
-    let one = rw c.deref.ensures.value at (c.in_ok-add_branch-in-If.ensures.adds xs s refl (ap Some c.span_of.ensures) (ap Some c.span_of-in-If.ensures) h) in
-    let two = rw c.deref-in-If.ensures.value at
-    (second xs s refl (ap Some c.span_of.ensures) (ap Some c.span_of-in-If.ensures) (still c.args.locals xs one h)) in
+    let first = ap Some (rw c.deref.ensures at c.span_of.ensures) in
+    let last = ap Some (rw c.deref-in-If.ensures at c.span_of-in-If.ensures) in
+    let one = rw c.deref-in-If-2.ensures.value at (c.in_ok-add_branch-in-If.ensures.adds xs s refl first last h) in
+    let two = rw c.deref-in-If-3.ensures.value at (second xs s refl first last (still c.args.locals xs one h)) in
     subst (λ k. Adds c.args.table.now c.add_branch-in-If.new.table (inner_spots xs k))
     (sym (ap stm_view x.is ∙ view_if x.test x.last x.then_part x.else_part)) (both one two)) c.add_branch-in-If.ensures.adds
 
 pub add_inner-returns-in_ok-add_branch-in-Loop-clause-adds : goal.add_inner-returns-in_ok-add_branch-in-Loop-clause-adds
 add_inner-returns-in_ok-add_branch-in-Loop-clause-adds t c =
     let x = c.in-Loop in
-    let s = tree.Loop (exp_view x.entry) (block_view x.do_part.items) (block_view x.loop_part.items) (exp_view x.exit) in
-    let entry = ap Some c.span_of-in-Loop.ensures in
-    let exit = ap Some c.span_of-in-Loop-2.ensures in
+    let s = tree.Loop (exp_view x.entry.value) (block_view x.do_part.items) (block_view x.loop_part.items) (exp_view x.exit.value) in
+    let entry = ap Some (rw c.deref-in-Loop.ensures at c.span_of-in-Loop.ensures) in
+    let exit = ap Some (rw c.deref-in-Loop-2.ensures at c.span_of-in-Loop-2.ensures) in
     on_ok c.add_branch-in-Loop-2.result (λ second xs h.
-    let one = rw c.deref-in-Loop.ensures.value at (c.in_ok-add_branch-in-Loop.ensures.adds xs s refl entry exit h) in
-    let two = rw c.deref-in-Loop-2.ensures.value at (second xs s refl exit entry (still c.args.locals xs one h)) in
+    let one = rw c.deref-in-Loop-3.ensures.value at (c.in_ok-add_branch-in-Loop.ensures.adds xs s refl entry exit h) in
+    let two = rw c.deref-in-Loop-4.ensures.value at (second xs s refl exit entry (still c.args.locals xs one h)) in
     subst (λ k. Adds c.args.table.now c.add_branch-in-Loop-2.new.table (inner_spots xs k))
     (sym (ap stm_view x.is ∙ view_loop x.entry x.exit x.do_part x.loop_part)) (both one two)) c.add_branch-in-Loop-2.ensures.adds
 
 pub add_inner-returns-in_ok-inner-in-LocalInt-clause-adds : goal.add_inner-returns-in_ok-inner-in-LocalInt-clause-adds
 add_inner-returns-in_ok-inner-in-LocalInt-clause-adds t c =
     let x = c.in-LocalInt in
-    let s = tree.LocalInt (name_view x.name) (exp_view x.field-1) (block_view x.body.items) (name_view x.field-3) (exp_view x.field-4) in
+    let s = tree.LocalInt (name_view x.name) (exp_view x.field-1.value) (block_view x.body.items) (name_view x.field-3) (exp_view x.field-4.value) in
     let same = ap stm_view x.is ∙ view_local_int x.name x.field-3 x.field-1 x.field-4 x.body in
     let opened = c.in_ok-inner-in-LocalInt.ensures in
     on_ok c.add_branch-in-LocalInt.result (λ added xs h.

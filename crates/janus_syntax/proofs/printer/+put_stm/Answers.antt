@@ -10,25 +10,30 @@ pub put_stm-returns-in-AssignElement : goal.put_stm-returns-in-AssignElement
 put_stm-returns-in-AssignElement t c =
     rw c.in-AssignElement.is
     (both c.put_name-in-AssignElement.ensures
-    (both c.put_sign-in-AssignElement.ensures (both c.put_whole-in-AssignElement.ensures (both c.put_sign-in-AssignElement-2.ensures
-    (both (rw c.sign_of_update-in-AssignElement.ensures at c.put_sign-in-AssignElement-3.ensures) c.put_whole-in-AssignElement-2.ensures)))))
+    (both c.put_sign-in-AssignElement.ensures
+    (both (rw c.deref-in-AssignElement.ensures at c.put_whole-in-AssignElement.ensures)
+    (both c.put_sign-in-AssignElement-2.ensures
+    (both (rw c.sign_of_update-in-AssignElement.ensures at c.put_sign-in-AssignElement-3.ensures)
+    (rw c.deref-in-AssignElement-2.ensures at c.put_whole-in-AssignElement-2.ensures))))))
 
 pub put_stm-returns-in-If : goal.put_stm-returns-in-If
 put_stm-returns-in-If t c =
     let x = c.in-If in
     rw x.is
     (subst (λ s. Adds c.args.line.now c.put_test-in-If.new.line (stm_pieces s)) (sym (view_if x.test x.assertion x.then_part x.else_part))
-    (both c.put_test.ensures
-    (both (rw c.deref.ensures.value at c.put_part.ensures) (both (rw c.deref-in-If.ensures.value at c.put_part-in-If.ensures) c.put_test-in-If.ensures))))
+    (both (rw c.deref-in-If.ensures at c.put_test.ensures)
+    (both (rw c.deref-in-If-2.ensures.value at c.put_part.ensures)
+    (both (rw c.deref-in-If-3.ensures.value at c.put_part-in-If.ensures) (rw c.deref-in-If-4.ensures at c.put_test-in-If.ensures)))))
 
 pub put_stm-returns-in-Loop : goal.put_stm-returns-in-Loop
 put_stm-returns-in-Loop t c =
     let x = c.in-Loop in
     rw x.is
     (subst (λ s. Adds c.args.line.now c.put_test-in-Loop-2.new.line (stm_pieces s)) (sym (view_loop x.assertion x.test x.do_part x.loop_part))
-    (both c.put_test-in-Loop.ensures
-    (both (rw c.deref-in-Loop.ensures.value at c.put_part-in-Loop.ensures)
-    (both (rw c.deref-in-Loop-2.ensures.value at c.put_part-in-Loop-2.ensures) c.put_test-in-Loop-2.ensures))))
+    (both (rw c.deref-in-Loop.ensures at c.put_test-in-Loop.ensures)
+    (both (rw c.deref-in-Loop-2.ensures.value at c.put_part-in-Loop.ensures)
+    (both (rw c.deref-in-Loop-3.ensures.value at c.put_part-in-Loop-2.ensures)
+    (rw c.deref-in-Loop-4.ensures at c.put_test-in-Loop-2.ensures)))))
 
 pub put_stm-returns-in-LocalInt : goal.put_stm-returns-in-LocalInt
 put_stm-returns-in-LocalInt t c =
@@ -36,8 +41,9 @@ put_stm-returns-in-LocalInt t c =
     rw x.is
     (subst (λ s. Adds c.args.line.now c.put_whole-in-LocalInt-2.new.line (stm_pieces s)) (sym (view_local_int x.name x.again x.exp x.test x.body))
     (both c.put_binding.ensures
-    (both c.put_whole-in-LocalInt.ensures
-    (both (rw c.deref-in-LocalInt.ensures.value at c.put_block.ensures) (both c.put_binding-in-LocalInt.ensures c.put_whole-in-LocalInt-2.ensures)))))
+    (both (rw c.deref-in-LocalInt.ensures at c.put_whole-in-LocalInt.ensures)
+    (both (rw c.deref-in-LocalInt-2.ensures.value at c.put_block.ensures)
+    (both c.put_binding-in-LocalInt.ensures (rw c.deref-in-LocalInt-3.ensures at c.put_whole-in-LocalInt-2.ensures))))))
 
 pub put_stm-returns-in-LocalStack : goal.put_stm-returns-in-LocalStack
 put_stm-returns-in-LocalStack t c =

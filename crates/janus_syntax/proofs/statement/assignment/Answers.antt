@@ -46,7 +46,7 @@ returns-in_err-index-3 c =
 pub returns-in_err-index-4 : goal.returns-in_err-index-4
 returns-in_err-index-4 c =
     let p = err_from_is_err_and c.from_residual-in_err-index-4.result c.from_residual-in_err-index-4.ensures.1 in
-    rw (p.1, p.2) (passes_on _ _ c.in_err-index-4.field-0.0 (rw c.in_err-index-4.ensures at c.whole_expression-3.ensures)
+    rw (p.1, p.2) (passes_on _ _ c.in_err-index-4.field-0.0 (rw c.in_err-index-4.ensures at c.boxed_expression-3.ensures)
     (λ out f. element_stops_right c.args.depth (omega (arith, c.requires, c.if-depth-eq-DEPTH_LIMIT.false)) (name_view c.args.name)
     out c.in-Some.ensures.found c.in_ok-index.ensures (rw c.in_ok-index-2.ensures.1 at c.behind_sign.ensures)
     (rw c.in_ok-index-3.ensures.1 at c.update-2.ensures) f))
@@ -56,4 +56,4 @@ returns c =
     rw (c.in_ok-index-4.ensures.0, c.in_ok-index-3.ensures.0, c.in_ok-index-2.ensures.0)
     (element_is c.args.depth (omega (arith, c.requires, c.if-depth-eq-DEPTH_LIMIT.false)) (name_view c.args.name) c.in-Some.ensures.found c.in_ok-index.ensures
     (rw c.in_ok-index-2.ensures.1 at c.behind_sign.ensures) (rw c.in_ok-index-3.ensures.1 at c.update-2.ensures)
-    (rw c.in_ok-index-4.ensures.1 at c.whole_expression-3.ensures))
+    (rw c.in_ok-index-4.ensures.1 at c.boxed_expression-3.ensures))

@@ -18,7 +18,7 @@ pub returns-in_err-test-2 : goal.returns-in_err-test-2
 returns-in_err-test-2 c =
     let p = err_from_is_err_and c.from_residual-in_err-test-2.result c.from_residual-in_err-test-2.ensures.1 in
     λ from b. rw (p.1, p.2)
-    (passes_on _ _ c.in_err-test-2.field-0.0 (rw c.in_err-test-2.ensures at c.whole_expression.ensures)
+    (passes_on _ _ c.in_err-test-2.field-0.0 (rw c.in_err-test-2.ensures at c.boxed_expression.ensures)
     (λ out f. if_stops_end c.args.depth c.requires out b.test b.then_keyword b.then_part b.else_part (rw c.in_ok-test.ensures.1 at c.behind_keyword.ensures)
     f))
 
@@ -28,4 +28,4 @@ returns c =
     (sym (view_if c.in_ok-test-2.test c.in_ok-test-2.assertion c.args.then_part c.args.else_part))
     (rw (c.in_ok-test-2.ensures.0, c.in_ok-test.ensures.0)
     (if_is c.args.depth c.requires b.test b.then_keyword b.then_part b.else_part (rw c.in_ok-test.ensures.1 at c.behind_keyword.ensures)
-    (rw c.in_ok-test-2.ensures.1 at c.whole_expression.ensures)))
+    (rw c.in_ok-test-2.ensures.1 at c.boxed_expression.ensures)))

@@ -18,7 +18,7 @@ pub returns-in_err-exp-2 : goal.returns-in_err-exp-2
 returns-in_err-exp-2 c =
     let p = err_from_is_err_and c.from_residual-in_err-exp-2.result c.from_residual-in_err-exp-2.ensures.1 in
     λ from start h b. rw (p.1, p.2)
-    (passes_on _ _ c.in_err-exp-2.field-0.0 (rw c.in_err-exp-2.ensures at c.whole_expression.ensures)
+    (passes_on _ _ c.in_err-exp-2.field-0.0 (rw c.in_err-exp-2.ensures at c.boxed_expression.ensures)
     (λ out f. int_stops_last c.args.depth out h.name h.equals h.first b (rw c.in_ok-exp.ensures.1 at c.behind_delocal.ensures) f))
 
 pub returns : goal.returns
@@ -27,4 +27,4 @@ returns c =
     (sym (view_local_int c.args.name c.in_ok-exp.again c.in_ok-exp-2.exp c.in_ok-exp-2.test c.args.statements))
     (rw (c.in_ok-exp-2.ensures.0, c.in_ok-exp.ensures.0)
     (int_is c.args.depth h.name h.equals h.first b (rw c.in_ok-exp.ensures.1 at c.behind_delocal.ensures)
-    (rw c.in_ok-exp-2.ensures.1 at c.whole_expression.ensures)))
+    (rw c.in_ok-exp-2.ensures.1 at c.boxed_expression.ensures)))

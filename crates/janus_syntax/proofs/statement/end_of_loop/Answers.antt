@@ -18,7 +18,7 @@ pub returns-in_err-assertion-2 : goal.returns-in_err-assertion-2
 returns-in_err-assertion-2 c =
     let p = err_from_is_err_and c.from_residual-in_err-assertion-2.result c.from_residual-in_err-assertion-2.ensures.1 in
     λ from b. rw (p.1, p.2)
-    (passes_on _ _ c.in_err-assertion-2.field-0.0 (rw c.in_err-assertion-2.ensures at c.whole_expression.ensures)
+    (passes_on _ _ c.in_err-assertion-2.field-0.0 (rw c.in_err-assertion-2.ensures at c.boxed_expression.ensures)
     (λ out f. from_stops_end c.args.depth c.requires out b.assertion b.do_part b.loop_part (rw c.in_ok-assertion.ensures.1 at c.behind_keyword.ensures) f))
 
 pub returns : goal.returns
@@ -27,4 +27,4 @@ returns c =
     (sym (view_loop c.in_ok-assertion-2.assertion c.in_ok-assertion-2.test c.args.do_part c.args.loop_part))
     (rw (c.in_ok-assertion-2.ensures.0, c.in_ok-assertion.ensures.0)
     (from_is c.args.depth c.requires b.assertion b.do_part b.loop_part (rw c.in_ok-assertion.ensures.1 at c.behind_keyword.ensures)
-    (rw c.in_ok-assertion-2.ensures.1 at c.whole_expression.ensures)))
+    (rw c.in_ok-assertion-2.ensures.1 at c.boxed_expression.ensures)))
