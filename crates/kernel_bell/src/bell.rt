@@ -10,9 +10,6 @@ use atomic_table::{Seat, Table};
 use std::alloc::{AllocError, Global};
 use std::marker::Model;
 
-/// The ringers' seats of the kernel's bell: one for each connection on shell and on control that is served at once.
-pub const RINGERS: usize = 64;
-
 /// The word with the serial of the job that runs.
 const CURRENT: usize = 0;
 

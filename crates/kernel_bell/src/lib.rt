@@ -21,7 +21,7 @@ mod rule;
 mod seats;
 mod view;
 
-pub use bell::{Bell, RINGERS};
+pub use bell::Bell;
 pub use rule::BellRule;
 pub use seats::{RingerSeat, RunnerSeat};
 pub use view::{RingerView, RunnerView, SeatView};

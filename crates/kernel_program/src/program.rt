@@ -10,7 +10,7 @@ use crate::words::file_of;
 use clap::Error;
 use clap::error::ErrorKind as ClapErrorKind;
 use jupyter_msg::Key;
-use kernel_bell::{Bell, RINGERS};
+use kernel_bell::Bell;
 use kernel_places::{
     ALL_PLACES, Entry, Hall, HistoryName, Kernel, Listeners, NewHistory, Note, PARTS_OF_POSTS,
     PLACES, Seats, Service, Times, serve_all,
@@ -34,8 +34,8 @@ use std::time::Clock;
 /// The status of a program that was shut down, or told its help or its version.
 const DONE: u8 = 0;
 
-/// Each place of shell and of control has a ringer's seat.
-const _: () = prove!(RINGERS == 2 * PLACES);
+/// The ringers' seats of the kernel's bell: one for each place of shell and of control.
+const RINGERS: usize = 2 * PLACES;
 
 /// The name of the kernel's session, drawn from the system's random numbers.
 fn new_session<R: RandomSource>(rt: &R, alloc: Global) -> Result<String, ProgramFault> {

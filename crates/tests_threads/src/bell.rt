@@ -4,8 +4,11 @@
 ghost use Rattle.std.specs.Prelude.{◌≡◌};
 
 use crate::lines::{begin, note};
-use kernel_bell::{Bell, RINGERS, RingerSeat, RunnerSeat};
+use kernel_bell::{Bell, RingerSeat, RunnerSeat};
 use tests_rows::Sheet;
+
+/// The seats of ringers of the bell.
+const RINGERS: usize = 64;
 
 /// The runner, at its bell.
 #[derive(Drop)]
