@@ -41,7 +41,7 @@ fn has_own_value(done: &Done, x: u64, lane: u32) -> bool {
         Some(value) => {
             done.values.len() == 1
                 && value.name.as_str() == "mine"
-                && matches!(value.value, Ok(found) if found as u64 == wanted)
+                && matches!(value.value, Ok(found) if found as i128 == wanted as i128)
         }
         None => false,
     }
