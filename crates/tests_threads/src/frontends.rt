@@ -28,6 +28,8 @@ pub(crate) struct Away<L: HistoryName> {
     pub dones: Vec<Done>,
     /// How many jobs of threads went wrong.
     pub wrong: u64,
+    /// How many answers threads had whose jobs were run for them.
+    pub answers: u64,
     /// Whether memory was refused to a thread.
     pub is_refused: bool,
 }
@@ -39,6 +41,7 @@ impl<L: HistoryName> Away<L> {
             tickets: Vec::new(alloc),
             dones: Vec::new(alloc),
             wrong: 0,
+            answers: 0,
             is_refused: false,
         }
     }
@@ -241,7 +244,7 @@ fn put<T: Drop>(list: &mut Vec<T>, at: usize, value: T, sheet: &mut Sheet) {
 }
 
 /// A wish: a name, and an expression.
-fn wish_of(alloc: Global, text: &str) -> Result<Wish, AllocError> {
+pub(crate) fn wish_of(alloc: Global, text: &str) -> Result<Wish, AllocError> {
     let (name, text) = cut(text);
     let name = String::from_str(alloc, name)?;
     let text = String::from_str(alloc, text)?;

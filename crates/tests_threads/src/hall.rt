@@ -1,7 +1,7 @@
 //! Rows of a hall. A block is a new hall, which its last row ends: `close` closes the hall with what the frontends came away with, and gives how many
 //! minutes it had, or what is missing or untrue; `discard` lets it go. The rows before it are those of `frontends`, and of the runner (`desk`), whose
-//! turns are taken by this thread. Behind a row `beside` the worker takes the turns on a thread of its own, and there are the rows of `posters` and
-//! `gate` too. Behind a row `after`, and at the last row, that thread has ended. It ends by itself once the hall is shut, so a block with a row
+//! turns are taken by this thread. Behind a row `beside` the worker takes the turns on a thread of its own, and there are the rows of `posters`,
+//! `runners` and `gate` too. Behind a row `after`, and at the last row, that thread has ended. It ends by itself once the hall is shut, so a block with a row
 //! `beside` has a row `shut` before it, or behind it and before `after`.
 ghost use Rattle.std.specs.Prelude.{◌≡◌, ◌<◌};
 
@@ -11,6 +11,7 @@ use crate::frontends::Away;
 use crate::gate::{await_held, gate, let_go};
 use crate::lines::{begin, note};
 use crate::posters::posters;
+use crate::runners::runners;
 use kernel_hall::{Entry, Hall, HistoryName, NewHistory, Note};
 use std::marker::Brand;
 use std::sync::atomic::AtomicU64;
@@ -179,6 +180,7 @@ fn answer<W: Ledger + Send + Sync, L: HistoryName + Send + Sync, R: Threads + Wa
         "held" => sheet.write(await_held(word)),
         "free" => sheet.write(let_go(word)),
         "posters" => posters(rt, hall, all, rest, sheet),
+        "runners" => runners(rt, hall, all, rest, sheet),
         _ => {
             let mut away = all.lock(rt);
             frontends::answer(rt, hall, &mut *away, call, sheet);

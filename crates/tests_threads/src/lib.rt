@@ -18,6 +18,7 @@ mod hall;
 mod lines;
 mod posters;
 mod rings;
+mod runners;
 
 use std::sync::Wait;
 use std::thread::Threads;

@@ -16,7 +16,7 @@ const JOB: &str = "cell x += 1";
 
 impl<L: HistoryName> Away<L> {
     /// Counts a job that went wrong.
-    fn note_wrong(&mut self) {
+    pub fn note_wrong(&mut self) {
         self.wrong = self.wrong.saturating_add(1);
     }
 
@@ -29,7 +29,7 @@ impl<L: HistoryName> Away<L> {
     }
 
     /// Takes in why there is no pass: for want of memory, or otherwise than it is to be.
-    fn note_no_pass(&mut self, fault: HallFault) {
+    pub fn note_no_pass(&mut self, fault: HallFault) {
         match fault {
             HallFault::Memory => self.is_refused = true,
             HallFault::NoPass => self.note_wrong(),
@@ -75,7 +75,7 @@ impl<L: HistoryName> Away<L> {
 }
 
 /// The value that a shown text gives for `x`.
-fn value_of_x(shown: &str) -> Option<u64> {
+pub(crate) fn value_of_x(shown: &str) -> Option<u64> {
     let value = shown.strip_prefix("x = ")?;
     value.parse::<u64>().ok()
 }
