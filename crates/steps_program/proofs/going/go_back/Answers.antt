@@ -32,7 +32,7 @@ pub returns-in-Some-clause-goes : goal.returns-in-Some-clause-goes
 returns-in-Some-clause-goes g c = record {
   mid = c.loop.walk;
   passes = c.loop.invariant.passes;
-  last = last_back c.args.goal.now c.loop.walk c.arrived.new.walk c.in-Some.came
+  last = last_back c.args.sources.now c.args.goal.now c.loop.walk c.arrived.new.walk c.in-Some.came
       (led_back c.loop.walk c.back.new.self c.arrived.new.walk c.arrived.ensures.kept 1 (record { moves = c.back.ensures.moves; goes = c.back.ensures.goes }))
       c.in-Some.ensures.some;
   moves = led c.args.walk.now c.back.new.self c.arrived.new.walk c.arrived.ensures.kept
