@@ -1,5 +1,6 @@
 -- The names that a step reads, one after the other.
-use Rattle.std.proofs.Common.{◌≡◌, ◌∙◌, ℕ, suc, ◌+◌, ◌-◌, ◌<◌, ◌≤◌, Bool, true, false, ◌&&◌, List, [], ◌∷◌, ◌++◌, length, drop, get_or, codes, refl, ap, sym, arith}
+use Rattle.std.proofs.Common.{◌≡◌, ◌∙◌, ℕ, suc, ◌+◌, ◌-◌, ◌<◌, ◌≤◌, Bool, true, false, ◌&&◌, List, [], ◌∷◌, ◌++◌, length, drop}
+use Rattle.std.proofs.Common.{get_or, codes, refl, ap, sym, arith}
 use Rattle.std.specs.Prelude.{Option, Some, Err, nat_eq, slice_get, if◌then◌else◌}
 use Rattle.std.specs.Option.{option_eq}
 use Rattle.janus_meaning.specs.Syntax.{Name}
@@ -19,7 +20,7 @@ use Rattle.steps_program.specs.Told.{TellsTokens, read_line, reads_text, stands_
 
 module _ (s : Store) (ts : List Token) (all : List Name) where
   module _ (x : Name) (k : ℕ) (r : Option ℕ) (found : slot_of r ≡ slot_in all x) where
-    line : List ℕ
+    abbrev line : List ℕ
     line = codes "  " ++ ended_line (value_text (x, value_or_lent (slice_get (listed s) k)))
 
     newest : (b : Bool) → option_eq nat_eq r (Some k) ≡ b → same_name (slot_in all x) (slot k) ≡ b

@@ -1,5 +1,6 @@
 -- The names in sight with their values, one after the other.
-use Rattle.std.proofs.Common.{◌≡◌, ℕ, zero, suc, ◌+◌, ◌-◌, ◌<◌, ◌≤◌, List, [], ◌∷◌, ◌++◌, length, take, get_or, refl, ap, ◌∙◌, sym, subst, arith, inl, inr, add-one}
+use Rattle.std.proofs.Common.{◌≡◌, ℕ, zero, suc, ◌+◌, ◌-◌, ◌<◌, ◌≤◌, List, [], ◌∷◌, ◌++◌, length, take, get_or, refl}
+use Rattle.std.proofs.Common.{ap, ◌∙◌, sym, subst, arith, inl, inr, add-one}
 use Rattle.std.specs.Borrow.{Bor}
 use Rattle.std.specs.Prelude.{Option, Some, map, slice_get}
 use Rattle.std.specs.Io.KnownBytes.{Appends}
@@ -18,7 +19,7 @@ use Rattle.steps_walk.specs.Values.{sighted, value_or_lent}
 use Rattle.steps_walk.proofs.Lists.{there_still, there_last}
 
 module _ (s : Store) where
-  value_at : ℕ → Val
+  abbrev value_at : ℕ → Val
   value_at k = value_or_lent (slice_get (listed s) k)
 
   pub many : (g : List Name) → length (listed (sighted s g)) ≡ length g
@@ -73,11 +74,14 @@ module _ (bs : List (Bor (List ℕ))) (names : List Name) (same : map (λ b. b.n
   pub same_size : length names ≡ length bs
   same_size = ap length (sym same) ∙ length-map bs (λ (b : Bor (List ℕ)). b.now)
 
-  -- so many from behind
-  pub name_at : (k : ℕ) (b : Bor (List ℕ)) → k < length bs → b ≡ get_or bs (length bs - 1 - k) b → b.now ≡ get_or names (length names - 1 - k) b.now
-  name_at k b within is =
-      let low : length bs - 1 - k < length bs = omega (arith, within) in
-      ap (λ (x : Bor (List ℕ)). x.now) is
-      ∙ sym (get_or-map (λ (x : Bor (List ℕ)). x.now) bs (length bs - 1 - k) b b.now low)
-      ∙ ap (λ (l : List Name). get_or l (length bs - 1 - k) b.now) same
-      ∙ ap (λ n. get_or names (n - 1 - k) b.now) (sym same_size)
+  -- the one that stands so far from behind
+  module _ (k : ℕ) (d : Bor (List ℕ)) (within : k < length bs) where
+    abbrev pub name : Name
+    name = (get_or bs (length bs - 1 - k) d).now
+
+    pub name_at : name ≡ get_or names (length names - 1 - k) name
+    name_at =
+        let low : length bs - 1 - k < length bs = omega (arith, within) in
+        sym (get_or-map (λ (x : Bor (List ℕ)). x.now) bs (length bs - 1 - k) d name low)
+        ∙ ap (λ (l : List Name). get_or l (length bs - 1 - k) name) same
+        ∙ ap (λ n. get_or names (n - 1 - k) name) (sym same_size)

@@ -1,5 +1,6 @@
 -- Commands of lines that are obeyed one after the other.
-use Rattle.std.proofs.Common.{◌≡◌, ◌∙◌, ◌⊎◌, inl, inr, ℕ, ◌+◌, List, [], ◌∷◌, ◌++◌, length, Bool, true, false, refl, ap, sym, subst, arith, append-nil, length-append}
+use Rattle.std.proofs.Common.{◌≡◌, ◌∙◌, ◌⊎◌, inl, inr, ℕ, ◌+◌, List, [], ◌∷◌, ◌++◌, length, Bool, true, false, refl, ap, sym, subst}
+use Rattle.std.proofs.Common.{arith, append-nil, length-append}
 use Rattle.std.specs.Prelude.{Option, None, Some, Result, Ok, Err, OnOk, OnErr, unwrap_or}
 use Rattle.std.specs.Io.BufRead.{take_through, drop_through}
 use Rattle.std.specs.Io.KnownBytes.{Appends}
@@ -12,7 +13,8 @@ use Rattle.steps_program.specs.declared.talk.Reply.TheVariants.{Place}
 use Rattle.steps_program.specs.Commands.{Quit, asked, asked_of}
 use Rattle.steps_program.specs.Counted.{all_steps}
 use Rattle.steps_program.specs.Told.{Answers}
-use Rattle.steps_program.specs.Transcript.{Serves, Talks, Silent, Further, Talked, Transcribes, Reads, Unread, ReadOn, ReadsTo, ReadsSome, ReadsAll, ReadsLine, IsRead}
+use Rattle.steps_program.specs.Transcript.{Serves, Talks, Silent, Further, Talked, Transcribes}
+use Rattle.steps_program.specs.Transcript.{Reads, Unread, ReadOn, ReadsTo, ReadsSome, ReadsAll, ReadsLine, IsRead}
 use Rattle.steps_program.proofs.Telling.{Goes}
 
 -- a beginning of octets went out, of which this holds
@@ -59,7 +61,8 @@ module _ (lines : List (List ℕ)) (line : List ℕ) (n : ℕ) where
   all_read (Some input) None new none ((rest, reads, e), many) = absurd (cc)
   all_read (Some input) (Some xs) new none ((rest, reads, e), many) = (rest, reads, inl (sym (same_left xs rest e) ∙ none))
 
-  pub quit_read : (input left new : Option (List ℕ)) → asked_of line ≡ Quit → ReadsLine true left new line → ReadsSoFar input left n lines → ReadsAll input lines
+  pub quit_read : (input left new : Option (List ℕ)) → asked_of line ≡ Quit → ReadsLine true left new line → ReadsSoFar input left n lines →
+      ReadsAll input lines
   quit_read None left new quit one h = tt
   quit_read (Some input) None new quit one ((rest, reads, e), many) = absurd (cc)
   quit_read (Some input) (Some xs) new quit (is, left) ((rest, reads, e), many) =

@@ -22,7 +22,8 @@ module _ {E : Type 0} where
   told_some P a b xs (Ok u) p h = tt
   told_some P a b xs (Err e) p h = (xs, p, h)
 
-  pub more : (P Q : List ℕ → Type 0) (a b : Option (List ℕ)) (r : Result (Unit {0}) E) → ((xs : List ℕ) → P xs → Q xs) → OnOk r (Goes P a b) → OnOk r (Goes Q a b)
+  pub more : (P Q : List ℕ → Type 0) (a b : Option (List ℕ)) (r : Result (Unit {0}) E) → ((xs : List ℕ) → P xs → Q xs) →
+      OnOk r (Goes P a b) → OnOk r (Goes Q a b)
   more P Q a b (Ok u) f (xs, p, h) = (xs, f xs p, h)
   more P Q a b (Err e) f h = tt
 

@@ -6,8 +6,8 @@ use Rattle.std.proofs.lemmas.Bool.{lt-ltb, ne_ltb}
 use Rattle.steps_program.specs.Commands.{Asked, asked_by, asked_with, asked_alone, is_space}
 
 -- a space parts them
-pub parted : (line first word : List ℕ) → position_or_len is_space line < length line → first ≡ before_first is_space line → word ≡ trim (after_first is_space line) →
-    asked_with first word ≡ asked_by line
+pub parted : (line first word : List ℕ) → position_or_len is_space line < length line → first ≡ before_first is_space line →
+    word ≡ trim (after_first is_space line) → asked_with first word ≡ asked_by line
 parted line first word l e f =
     ap₂ asked_with e f
     ∙ sym (ap (λ b. if b then asked_with (before_first is_space line) (trim (after_first is_space line)) else asked_alone line)

@@ -14,7 +14,8 @@ returns g c =
     let spot = c.in-Some-spot.spot in
     let from = c.in-Some.ensures in
     let to = c.in-Some-level.ensures in
-    both (TellsCall sources w c.args.i) (g.W.Write.contents c.args.writer.now) (g.W.Write.contents c.send_callee.new.writer) (g.W.Write.contents c.send_caller.new.writer)
+    both (TellsCall sources w c.args.i) (g.W.Write.contents c.args.writer.now) (g.W.Write.contents c.send_callee.new.writer)
+    (g.W.Write.contents c.send_caller.new.writer)
     (callee_text spot.part (name_of w callee)) (caller_text (source_of sources caller.node) spot.span callee.inverse) c.send_caller.result
     (record {
       caller = caller;

@@ -19,5 +19,6 @@ returns g c =
     let sources = c.args.sources.now in
     let some = c.if-open_calls-eq0.false in
     let many = c.open_calls.ensures in
-    more (TellsFirstCalls sources w (calls_in w)) (TellsCalls sources w) (g.W.Write.contents c.args.writer.now) (g.W.Write.contents c.send_each_call.new.writer) c.send_each_call.result
+    more (TellsFirstCalls sources w (calls_in w)) (TellsCalls sources w) (g.W.Write.contents c.args.writer.now)
+    (g.W.Write.contents c.send_each_call.new.writer) c.send_each_call.result
     (λ out h. some_calls sources w (calls_in w) out (λ (none : calls_in w ≡ 0). omega (arith, none, some, many)) h) c.send_each_call.ensures

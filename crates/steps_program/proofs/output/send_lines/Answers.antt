@@ -18,15 +18,16 @@ loop-line-preserved g c =
     let here = c.args.here in
     let all = lines_listed here c.args.first_line (lines_of c.args.text.now) in (
       search rules,
-      one_more here all c.loop-line.number c.loop-line.rest.now (g.W.Write.contents c.args.writer.now) (g.W.Write.contents c.loop-line.writer) c.loop-line.invariant.1
-          (g.W.Write.contents c.send_if_listed.new.writer) c.in-Some.line.now c.in-Some.more.now c.saturating_add-number.result
-          (first_of c.loop-line.rest.now c.in-Some.line.now c.in-Some.more.now cut.0 cut.1 cut.2) c.saturating_add-number.ensures c.in_ok-send_if_listed.ensures,
+      one_more here all c.loop-line.number c.loop-line.rest.now (g.W.Write.contents c.args.writer.now) (g.W.Write.contents c.loop-line.writer)
+          c.loop-line.invariant.1 (g.W.Write.contents c.send_if_listed.new.writer) c.in-Some.line.now c.in-Some.more.now c.saturating_add-number.result
+          (first_of c.loop-line.rest.now c.in-Some.line.now c.in-Some.more.now cut.0 cut.1 cut.2) c.saturating_add-number.ensures
+          c.in_ok-send_if_listed.ensures,
     )
 
 pub returns : goal.returns
 returns g c =
     let here = c.args.here in
     let all = lines_listed here c.args.first_line (lines_of c.args.text.now) in
-    last_one here all c.loop-line.number c.loop-line.rest.now (g.W.Write.contents c.args.writer.now) (g.W.Write.contents c.loop-line.writer) c.loop-line.invariant.1
-    (g.W.Write.contents c.send_if_listed-2.new.writer) c.send_if_listed-2.result (only_one c.loop-line.rest.now c.in_default.ensures.cut)
-    c.send_if_listed-2.ensures
+    last_one here all c.loop-line.number c.loop-line.rest.now (g.W.Write.contents c.args.writer.now) (g.W.Write.contents c.loop-line.writer)
+    c.loop-line.invariant.1 (g.W.Write.contents c.send_if_listed-2.new.writer) c.send_if_listed-2.result
+    (only_one c.loop-line.rest.now c.in_default.ensures.cut) c.send_if_listed-2.ensures

@@ -32,7 +32,8 @@ returns-then-not-some-clause-ok g c =
     let line = string_bytes c.read_line-some.new.line in
     let one = subst (λ b. ReadsLine b left new line) c.if-not-some.true c.in_ok-some.ensures in
     all_said c.args.sources.now c.args.walk.now c.loop.walk (ReadsSoFar input left c.loop.counter) (ReadsAll input)
-    (λ lines h. all_read lines line c.loop.counter input left new one h) (g.W.Write.contents c.args.writer.now) (g.W.Write.contents c.loop.writer) c.loop.invariant.talks
+    (λ lines h. all_read lines line c.loop.counter input left new one h)
+    (g.W.Write.contents c.args.writer.now) (g.W.Write.contents c.loop.writer) c.loop.invariant.talks
 
 pub returns-then-is_quit-clause-ok : goal.returns-then-is_quit-clause-ok
 returns-then-is_quit-clause-ok g c =
@@ -44,7 +45,8 @@ returns-then-is_quit-clause-ok g c =
     let asks = c.read-command.ensures ∙ ap asked_of c.as_str.ensures.value in
     let quit = sym asks ∙ c.is_quit.ensures.0 c.if-is_quit.true in
     all_said c.args.sources.now c.args.walk.now c.loop.walk (ReadsSoFar input left c.loop.counter) (ReadsAll input)
-    (λ lines h. quit_read lines line c.loop.counter input left new quit one h) (g.W.Write.contents c.args.writer.now) (g.W.Write.contents c.loop.writer) c.loop.invariant.talks
+    (λ lines h. quit_read lines line c.loop.counter input left new quit one h)
+    (g.W.Write.contents c.args.writer.now) (g.W.Write.contents c.loop.writer) c.loop.invariant.talks
 
 pub returns-in_err-obey_one-clause-err : goal.returns-in_err-obey_one-clause-err
 returns-in_err-obey_one-clause-err g c =
@@ -57,7 +59,8 @@ returns-in_err-obey_one-clause-err g c =
     one_cut c.args.sources.now c.args.walk.now c.loop.walk c.obey_one.new.walk line c.read-command.result asks
     (ReadsSoFar input left c.loop.counter) (ReadsSome input)
     (λ lines h. some_read input new (c.loop.counter + 1) (lines ++ line ∷ []) (read_on lines line c.loop.counter input left new one h))
-    (g.W.Write.contents c.args.writer.now) (g.W.Write.contents c.loop.writer) (g.W.Write.contents c.obey_one.new.writer) c.loop.invariant.talks c.in_err-obey_one.ensures.err
+    (g.W.Write.contents c.args.writer.now) (g.W.Write.contents c.loop.writer) (g.W.Write.contents c.obey_one.new.writer)
+    c.loop.invariant.talks c.in_err-obey_one.ensures.err
 
 pub loop-preserved : goal.loop-preserved
 loop-preserved g c =
@@ -73,7 +76,8 @@ loop-preserved g c =
       talks = one_more c.args.sources.now c.args.walk.now c.loop.walk c.obey_one.new.walk line c.read-command.result asks
           (ReadsSoFar input left c.loop.counter) (ReadsSoFar input new (c.loop.counter + 1))
           (λ lines h. read_on lines line c.loop.counter input left new one h)
-          (g.W.Write.contents c.args.writer.now) (g.W.Write.contents c.loop.writer) (g.W.Write.contents c.obey_one.new.writer) c.loop.invariant.talks c.in_ok-obey_one.ensures.ok;
+          (g.W.Write.contents c.args.writer.now) (g.W.Write.contents c.loop.writer) (g.W.Write.contents c.obey_one.new.writer)
+          c.loop.invariant.talks c.in_ok-obey_one.ensures.ok;
     }
 
 pub returns-clause-ok : goal.returns-clause-ok
@@ -83,4 +87,5 @@ returns-clause-ok g c =
     let done = c.loop-test.false in
     let low = c.loop.auto.counter-end in
     all_said c.args.sources.now c.args.walk.now c.loop.walk (ReadsSoFar input left c.loop.counter) (ReadsAll input)
-    (λ lines h. many_read lines [] c.loop.counter input left (omega (arith, done, low)) h) (g.W.Write.contents c.args.writer.now) (g.W.Write.contents c.loop.writer) c.loop.invariant.talks
+    (λ lines h. many_read lines [] c.loop.counter input left (omega (arith, done, low)) h)
+    (g.W.Write.contents c.args.writer.now) (g.W.Write.contents c.loop.writer) c.loop.invariant.talks

@@ -11,10 +11,12 @@ returns-in_err-begin_talk-clause-err g c =
 
 pub returns-clause-ok : goal.returns-clause-ok
 returns-clause-ok g c =
-    begun c.args.sources.now c.args.walk.now c.obey_all.new.walk (ReadsAll (g.R.BufRead.Read.remaining c.args.reader.now)) (g.W.Write.contents c.args.writer.now)
-    (g.W.Write.contents c.begin_talk.new.writer) (g.W.Write.contents c.obey_all.new.writer) c.in_ok-begin_talk.ensures.ok c.obey_all.result c.obey_all.ensures.ok
+    begun c.args.sources.now c.args.walk.now c.obey_all.new.walk (ReadsAll (g.R.BufRead.Read.remaining c.args.reader.now))
+    (g.W.Write.contents c.args.writer.now) (g.W.Write.contents c.begin_talk.new.writer) (g.W.Write.contents c.obey_all.new.writer)
+    c.in_ok-begin_talk.ensures.ok c.obey_all.result c.obey_all.ensures.ok
 
 pub returns-clause-err : goal.returns-clause-err
 returns-clause-err g c =
-    begun_some c.args.sources.now c.args.walk.now c.obey_all.new.walk (ReadsSome (g.R.BufRead.Read.remaining c.args.reader.now)) (g.W.Write.contents c.args.writer.now)
-    (g.W.Write.contents c.begin_talk.new.writer) (g.W.Write.contents c.obey_all.new.writer) c.in_ok-begin_talk.ensures.ok c.obey_all.result c.obey_all.ensures.err
+    begun_some c.args.sources.now c.args.walk.now c.obey_all.new.walk (ReadsSome (g.R.BufRead.Read.remaining c.args.reader.now))
+    (g.W.Write.contents c.args.writer.now) (g.W.Write.contents c.begin_talk.new.writer) (g.W.Write.contents c.obey_all.new.writer)
+    c.in_ok-begin_talk.ensures.ok c.obey_all.result c.obey_all.ensures.err
