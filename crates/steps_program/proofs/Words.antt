@@ -2,7 +2,7 @@
 use Rattle.std.proofs.Common.{◌≡◌, ◌∙◌, ℕ, ◌<◌, Bool, nat_lt, List, length, if◌then◌else◌, refl, sym, ap, ap₂, arith, true, false}
 use Rattle.std.specs.List.{position_or_len, before_first, after_first}
 use Rattle.std.specs.Str.{trim}
-use Rattle.std.proofs.lemmas.Bool.{lt-ltb, ne_ltb}
+use Rattle.std.proofs.lemmas.Bool.{lt-ltb}
 use Rattle.steps_program.specs.Commands.{Asked, asked_by, asked_with, asked_alone, is_space}
 
 -- a space parts them

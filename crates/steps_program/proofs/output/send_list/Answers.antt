@@ -22,8 +22,8 @@ returns-in-Some-source_of g c =
           ∙ sym (ap (λ (o : Option Source). source_listed o spot.span) c.in-Some-source_of.ensures),
     ) c.send_lines.ensures
 
-pub returns-in-None-source_of : goal.returns-in-None-source_of
-returns-in-None-source_of g c =
+pub returns-in-None : goal.returns-in-None
+returns-in-None g c =
     let level = c.in-Some.level in
     let spot = c.in-Some.spot in
     let is = c.in-Some.ensures in (
@@ -31,7 +31,7 @@ returns-in-None-source_of g c =
       (
         (level, spot),
         record { tells = is.tells; code = is.code; node = is.node },
-        sym (ap (λ (o : Option Source). source_listed o spot.span) c.in-None-source_of.ensures),
+        sym (ap (λ (o : Option Source). source_listed o spot.span) c.in-None.ensures),
       ),
       appends_none (g.W.Write.contents c.args.writer.now),
     )

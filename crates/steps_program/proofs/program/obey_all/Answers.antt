@@ -10,13 +10,13 @@ pub loop-init : goal.loop-init
 loop-init g c = record {
   walks = c.requires;
   moves = stays c.args.walk.now;
-  talks = ([], ([], none_read (g.R.BufRead.Read.remaining c.args.reader.now), Silent), appends_none (g.W.Write.contents c.args.writer.now));
+  talks = ([], ([], none_read (g.R.Read.remaining c.args.reader.now), Silent), appends_none (g.W.Write.contents c.args.writer.now));
 }
 
 pub returns-in_err-some-clause-err : goal.returns-in_err-some-clause-err
 returns-in_err-some-clause-err g c =
-    let input = g.R.BufRead.Read.remaining c.args.reader.now in
-    let left = g.R.BufRead.Read.remaining c.loop.reader in
+    let input = g.R.Read.remaining c.args.reader.now in
+    let left = g.R.Read.remaining c.loop.reader in
     all_out c.args.sources.now c.args.walk.now c.loop.walk (ReadsSoFar input left c.loop.counter) (ReadsSome input)
     (λ lines h. some_read input left c.loop.counter lines h) (g.W.Write.contents c.args.writer.now) (g.W.Write.contents c.loop.writer) c.loop.invariant.talks
 
@@ -26,9 +26,9 @@ returns-in_err-obey_one-clause-moves g c =
 
 pub returns-then-not-some-clause-ok : goal.returns-then-not-some-clause-ok
 returns-then-not-some-clause-ok g c =
-    let input = g.R.BufRead.Read.remaining c.args.reader.now in
-    let left = g.R.BufRead.Read.remaining c.loop.reader in
-    let new = g.R.BufRead.Read.remaining c.read_line-some.new.reader in
+    let input = g.R.Read.remaining c.args.reader.now in
+    let left = g.R.Read.remaining c.loop.reader in
+    let new = g.R.Read.remaining c.read_line-some.new.reader in
     let line = string_bytes c.read_line-some.new.line in
     let one = subst (λ b. ReadsLine b left new line) c.if-not-some.true c.in_ok-some.ensures in
     all_said c.args.sources.now c.args.walk.now c.loop.walk (ReadsSoFar input left c.loop.counter) (ReadsAll input)
@@ -37,9 +37,9 @@ returns-then-not-some-clause-ok g c =
 
 pub returns-then-is_quit-clause-ok : goal.returns-then-is_quit-clause-ok
 returns-then-is_quit-clause-ok g c =
-    let input = g.R.BufRead.Read.remaining c.args.reader.now in
-    let left = g.R.BufRead.Read.remaining c.loop.reader in
-    let new = g.R.BufRead.Read.remaining c.read_line-some.new.reader in
+    let input = g.R.Read.remaining c.args.reader.now in
+    let left = g.R.Read.remaining c.loop.reader in
+    let new = g.R.Read.remaining c.read_line-some.new.reader in
     let line = string_bytes c.read_line-some.new.line in
     let one = subst (λ b. ReadsLine b left new line) c.if-not-some.false c.in_ok-some.ensures in
     let asks = c.read-command.ensures ∙ ap asked_of c.as_str.ensures.value in
@@ -50,9 +50,9 @@ returns-then-is_quit-clause-ok g c =
 
 pub returns-in_err-obey_one-clause-err : goal.returns-in_err-obey_one-clause-err
 returns-in_err-obey_one-clause-err g c =
-    let input = g.R.BufRead.Read.remaining c.args.reader.now in
-    let left = g.R.BufRead.Read.remaining c.loop.reader in
-    let new = g.R.BufRead.Read.remaining c.read_line-some.new.reader in
+    let input = g.R.Read.remaining c.args.reader.now in
+    let left = g.R.Read.remaining c.loop.reader in
+    let new = g.R.Read.remaining c.read_line-some.new.reader in
     let line = string_bytes c.read_line-some.new.line in
     let one = subst (λ b. ReadsLine b left new line) c.if-not-some.false c.in_ok-some.ensures in
     let asks = c.read-command.ensures ∙ ap asked_of c.as_str.ensures.value in
@@ -64,9 +64,9 @@ returns-in_err-obey_one-clause-err g c =
 
 pub loop-preserved : goal.loop-preserved
 loop-preserved g c =
-    let input = g.R.BufRead.Read.remaining c.args.reader.now in
-    let left = g.R.BufRead.Read.remaining c.loop.reader in
-    let new = g.R.BufRead.Read.remaining c.read_line-some.new.reader in
+    let input = g.R.Read.remaining c.args.reader.now in
+    let left = g.R.Read.remaining c.loop.reader in
+    let new = g.R.Read.remaining c.read_line-some.new.reader in
     let line = string_bytes c.read_line-some.new.line in
     let one = subst (λ b. ReadsLine b left new line) c.if-not-some.false c.in_ok-some.ensures in
     let asks = c.read-command.ensures ∙ ap asked_of c.as_str.ensures.value in
@@ -82,8 +82,8 @@ loop-preserved g c =
 
 pub returns-clause-ok : goal.returns-clause-ok
 returns-clause-ok g c =
-    let input = g.R.BufRead.Read.remaining c.args.reader.now in
-    let left = g.R.BufRead.Read.remaining c.loop.reader in
+    let input = g.R.Read.remaining c.args.reader.now in
+    let left = g.R.Read.remaining c.loop.reader in
     let done = c.loop-test.false in
     let low = c.loop.auto.counter-end in
     all_said c.args.sources.now c.args.walk.now c.loop.walk (ReadsSoFar input left c.loop.counter) (ReadsAll input)

@@ -9,6 +9,6 @@ abbrev pub invariant-loop : goal.invariant-loop
 invariant-loop g l = record {
   walks : IsWalking l.walk;
   moves : Moves l.fn.walk l.walk;
-  talks : Goes (Talked l.fn.sources l.fn.walk l.walk (ReadsSoFar (g.R.BufRead.Read.remaining l.fn.reader) (g.R.BufRead.Read.remaining l.reader) l.counter))
+  talks : Goes (Talked l.fn.sources l.fn.walk l.walk (ReadsSoFar (g.R.Read.remaining l.fn.reader) (g.R.Read.remaining l.reader) l.counter))
       (g.W.Write.contents l.fn.writer) (g.W.Write.contents l.writer);
 }

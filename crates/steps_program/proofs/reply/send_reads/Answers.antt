@@ -27,6 +27,24 @@ returns-in_default-source_of g c =
       appends_none (g.W.Write.contents c.args.writer.now),
     )
 
+pub returns-in_default-span : goal.returns-in_default-span
+returns-in_default-span g c =
+    let s = slots_in c.args.walk.now in
+    let is = c.in-Some.ensures in
+    let spot = c.in-Some.spot in (
+      [],
+      record {
+        told = (c.in-Some.level, spot);
+        stands = record { tells = is.tells; code = is.code; node = is.node };
+        sight = c.in-Some-sight_here.sight;
+        of = c.in-Some-sight_here.ensures.is;
+        is = λ names h.
+            subst (λ (o : Option Source). TellsSpan o spot.span s names []) (sym c.in-Some-source_of.ensures)
+            (subst (λ (o : Option Span). TellsSpan (Some c.in-Some-source_of.source.now) o s names []) (sym c.in_default-span.is) refl);
+      },
+      appends_none (g.W.Write.contents c.args.writer.now),
+    )
+
 pub returns : goal.returns
 returns g c =
     let s = slots_in c.args.walk.now in
