@@ -11,6 +11,11 @@ use Rattle.exact_write.proofs.SendLemmas.{appends_none, appends_join, appends_ke
 abbrev pub Goes : (List ℕ → Type 0) → Option (List ℕ) → Option (List ℕ) → Type 0
 Goes P a b = (out : List ℕ) × P out × Appends a b out
 
+-- what holds where a call failed
+pub failed : {A E P : Type 0} (r : Result A E) → P → OnErr r P
+failed (Ok x) h = tt
+failed (Err e) h = h
+
 module _ {E : Type 0} where
   -- it is a fact of all octets that the call writes
   pub told : (P : List ℕ → Type 0) (a b : Option (List ℕ)) (xs : List ℕ) (r : Result (Unit {0}) E) → P xs → OnOk r (Appends a b xs) → OnOk r (Goes P a b)
