@@ -43,8 +43,8 @@ line_in number first (line ∷ more) = if first == number then Some line else li
 
 -- the first of the sources that is of a node
 abbrev pub source_of : List Source → Option ℕ → Option Source
-source_of [] node = None
-source_of (s ∷ more) node = if option_eq nat_eq s.node node then Some s else source_of more node
+source_of [] sought = None
+source_of (s ∷ more) sought = if option_eq nat_eq s.node sought then Some s else source_of more sought
 
 -- where a part of its text begins
 abbrev pub place_in : Source → Option Span → Option Place
