@@ -1,2 +1,15 @@
+pub mod Lines
+pub mod Sources
+pub mod Stacked
 pub mod Obeying
 pub mod Stopping
+pub mod Telling
+pub mod Sighting
+pub mod Talking
+pub mod Saying
+pub mod Calling
+pub mod Numbers
+pub mod Words
+pub mod Listing
+pub mod Changing
+pub mod Reading

@@ -1,53 +1,85 @@
 -- A command moves the walk in its run, if at all.
-use Rattle.std.proofs.Common.{◌≡◌, inl, inr, ℕ, Bool, true, false, List, sym, subst}
+use Rattle.std.proofs.Common.{◌≡◌, ℕ, Bool, true, false, List, ap, ◌∙◌, sym, subst}
 use Rattle.std.specs.Borrow.{Bor}
 use Rattle.steps_walk.specs.declared.walk.Walk.{Walk}
 use Rattle.steps_walk.specs.Walk.{runner_of, program_of, Moves, KeepsMet}
 use Rattle.steps_walk.specs.runner.Runner.{Runner}
-use Rattle.steps_walk.specs.Runner.{Runs}
+use Rattle.steps_walk.specs.Runner.{Runs, count_of}
 use Rattle.steps_walk.specs.Walking.{StepsBack}
 use Rattle.steps_walk.proofs.Moving.{stays, further}
 use Rattle.steps_program.specs.declared.command.Command.{Command}
 use Rattle.steps_program.specs.declared.command.Command.TheVariants.{Step, Back, Next, Finish, To, BackTo, ToFault, ToEnd, ToStart, Until, BackUntil, Watch}
 use Rattle.steps_program.specs.declared.command.Command.TheVariants.{BackWatch, Show, Where, Calls, Count, Quit, Nothing, Unknown}
 use Rattle.steps_program.specs.declared.command.Command.TheVariants as command
-use Rattle.steps_program.specs.Counted.{GoesOn, GoesBack}
-use Rattle.steps_program.specs.Obeyed.{Obeys, IsLedUntil, IsLedByChange}
+use Rattle.steps_program.specs.declared.going.Came.{Came}
+use Rattle.steps_program.specs.declared.source.Source.{Source}
+use Rattle.steps_program.specs.declared.talk.Reply.{Reply}
+use Rattle.steps_program.specs.declared.talk.Reply.TheVariants as reply
+use Rattle.steps_program.specs.Counted.{GoesOn, GoesBack, ComesBack, came_back}
+use Rattle.steps_program.specs.Obeyed.{Obeys, Comes, IsLedUntil, IsLedByChange}
 
-module _ {L : Type 0} (old new : Walk L) where
+module _ {L : Type 0} (sources : List Source) (old new : Walk L) where
   left : new ≡ old → Moves old new
   left e = subst (λ (w : Walk L). Moves old w) (sym e) (stays old)
 
-  until : (onward : Bool) (text : List ℕ) → IsLedUntil onward text old new → Moves old new
-  until onward text (inl h) = h.2.moves
-  until onward text (inr e) = left e
+  comes : (goes : Came → Type 0) → ((to : Came) → goes to → Moves old new) → (r : Reply) → Comes goes r → Moves old new
+  comes goes f (reply.Came to) h = f to h
+  comes goes f (reply.Refused fault) h = absurd h
+  comes goes f reply.Unknown h = absurd h
+  comes goes f reply.NoMemory h = absurd h
+  comes goes f reply.Names h = absurd h
+  comes goes f reply.Place h = absurd h
+  comes goes f reply.Calls h = absurd h
+  comes goes f reply.Lines h = absurd h
+  comes goes f reply.Count h = absurd h
+  comes goes f reply.Nothing h = absurd h
 
-  change : (onward : Bool) (name : Bor (List ℕ)) → IsLedByChange onward name old new → Moves old new
-  change onward name (inl h) = h.1.moves
-  change onward name (inr e) = left e
+  until : (onward : Bool) (text : List ℕ) (r : Reply) → IsLedUntil sources onward text old new r → Moves old new
+  until onward text (reply.Came to) h = h.2.moves
+  until onward text (reply.Refused fault) h = left h.1
+  until onward text reply.Unknown h = absurd h
+  until onward text reply.NoMemory h = absurd h
+  until onward text reply.Names h = absurd h
+  until onward text reply.Place h = absurd h
+  until onward text reply.Calls h = absurd h
+  until onward text reply.Lines h = absurd h
+  until onward text reply.Count h = absurd h
+  until onward text reply.Nothing h = absurd h
 
-  pub obeyed : (command : Command) → Obeys command old new → Moves old new
-  obeyed (Step n) h = h.moves
-  obeyed (Back n) h = h.moves
-  obeyed Next h = h.moves
-  obeyed Finish h = h.moves
-  obeyed (To line) h = h.moves
-  obeyed (BackTo line) h = h.moves
-  obeyed ToFault h = h.moves
-  obeyed ToEnd h = h.moves
-  obeyed ToStart h = h.moves
-  obeyed (Until text) h = until true text.now h
-  obeyed (BackUntil text) h = until false text.now h
-  obeyed (Watch name) h = change true name h
-  obeyed (BackWatch name) h = change false name h
-  obeyed Show h = left h
-  obeyed Where h = left h
-  obeyed Calls h = left h
-  obeyed command.List h = left h
-  obeyed Count h = left h
-  obeyed Quit h = left h
-  obeyed Nothing h = left h
-  obeyed Unknown h = left h
+  change : (onward : Bool) (name : Bor (List ℕ)) (r : Reply) → IsLedByChange sources onward name old new r → Moves old new
+  change onward name (reply.Came to) h = h.2.moves
+  change onward name (reply.Refused fault) h = absurd h
+  change onward name reply.Unknown h = absurd h
+  change onward name reply.NoMemory h = left h
+  change onward name reply.Names h = absurd h
+  change onward name reply.Place h = absurd h
+  change onward name reply.Calls h = absurd h
+  change onward name reply.Lines h = absurd h
+  change onward name reply.Count h = absurd h
+  change onward name reply.Nothing h = absurd h
+
+  pub obeyed : (command : Command) (r : Reply) → Obeys sources command old new r → Moves old new
+  obeyed (Step n) r h = comes _ (λ to g. g.moves) r h
+  obeyed (Back n) r h = comes _ (λ to g. g.back.moves) r h
+  obeyed Next r h = comes _ (λ to g. g.moves) r h
+  obeyed Finish r h = comes _ (λ to g. g.moves) r h
+  obeyed (To line) r h = comes _ (λ to g. g.moves) r h
+  obeyed (BackTo line) r h = comes _ (λ to g. g.moves) r h
+  obeyed ToFault r h = comes _ (λ to g. g.moves) r h
+  obeyed ToEnd r h = comes _ (λ to g. g.moves) r h
+  obeyed ToStart r h = comes _ (λ to g. g.back.moves) r h
+  obeyed (Until text) r h = until true text.now r h
+  obeyed (BackUntil text) r h = until false text.now r h
+  obeyed (Watch name) r h = change true name r h
+  obeyed (BackWatch name) r h = change false name r h
+  obeyed Show r h = left h.1
+  obeyed Where r h = left h.1
+  obeyed Calls r h = left h.1
+  obeyed command.List r h = left h.1
+  obeyed Count r h = left h.1
+  obeyed Quit r h = left h.1
+  obeyed Nothing r h = left h.1
+  obeyed Unknown r h = left h.1
 
 -- ---- bodies that are met where the walk was led to
 
@@ -55,15 +87,22 @@ module _ {L : Type 0} (a b c : Walk L) (met : KeepsMet b c) where
   pub led : Moves a b → Moves a c
   led h = further a b c h met.moves
 
-  pub led_on : (n : ℕ) → GoesOn n a b → GoesOn n a c
-  led_on n h = record {
+  pub led_on : (n : ℕ) (to : Came) → GoesOn n a b to → GoesOn n a c to
+  led_on n to h = record {
     moves = led h.moves;
     told = h.told;
     runs = subst (λ (r : Runner L). Runs (program_of a) n h.told (runner_of a) r) (sym met.runner) h.runs;
+    led = h.led;
   }
 
   pub led_back : (n : ℕ) → GoesBack n a b → GoesBack n a c
   led_back n h = record {
     moves = led h.moves;
     goes = subst (λ (r : Runner L). StepsBack (program_of a) n (runner_of a) r) (sym met.runner) h.goes;
+  }
+
+  pub come_back : (n : ℕ) (to : Came) → ComesBack n a b to → ComesBack n a c to
+  come_back n to h = record {
+    back = led_back n h.back;
+    led = h.led ∙ ap (λ (r : Runner L). came_back (count_of r)) (sym met.runner);
   }

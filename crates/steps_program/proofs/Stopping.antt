@@ -1,6 +1,5 @@
 -- How far a command goes.
-use Rattle.std.proofs.Common.{◌≡◌, ◌+◌, ◌-◌, Bool, true, false, ap, ◌∙◌, sym, subst}
-use Rattle.std.specs.Prelude.{Option, None, Some, IfSome, IfNone}
+use Rattle.std.proofs.Common.{◌≡◌, ◌-◌, Bool, true, false, List, ap, ◌∙◌, sym, subst}
 use Rattle.steps_walk.specs.progress.Progress.TheVariants.{Went}
 use Rattle.steps_walk.specs.runner.Runner.{Runner}
 use Rattle.steps_walk.specs.Runner.{Runs, count_of}
@@ -9,28 +8,21 @@ use Rattle.steps_walk.specs.Walk.{runner_of, program_of, IsWalking, Moves, Keeps
 use Rattle.steps_program.specs.declared.going.Came.{Came}
 use Rattle.steps_program.specs.declared.going.Came.TheVariants as came
 use Rattle.steps_program.specs.declared.going.Goal.{Goal}
+use Rattle.steps_program.specs.declared.source.Source.{Source}
 use Rattle.steps_program.specs.Counted.{GoesBack}
 use Rattle.steps_program.specs.Going.{Arrives, TakesOne, TakesLast, TakesLastBack}
 use Rattle.steps_program.specs.Obeyed.{Goes, IsLed}
 use Rattle.steps_program.proofs.Obeying.{led}
 
-pub if_some : {A : Type 0} (o : Option A) (P Q : A → Type 0) → ((a : A) → P a → Q a) → IfSome o P → IfSome o Q
-if_some None P Q f h = h
-if_some (Some a) P Q f h = f a h
-
-pub if_none : {A : Type 0} (o : Option A) (P Q : Type 0) → (P → Q) → IfNone o P → IfNone o Q
-if_none None P Q f h = f h
-if_none (Some a) P Q f h = h
-
-module _ {L : Type 0} (goal : Goal) (old new : Walk L) where
-  pub last_on : (to : Came) → TakesOne old new → Arrives goal new to → TakesLast goal old new to
+module _ {L : Type 0} (sources : List Source) (goal : Goal) (old new : Walk L) where
+  pub last_on : (to : Came) → TakesOne old new → Arrives sources goal new to → TakesLast sources goal old new to
   last_on came.There t a = (t, a)
   last_on came.Memory t a = t
   last_on came.End t a = absurd a
   last_on came.Start t a = absurd a
   last_on (came.Fault fault) t a = absurd a
 
-  pub last_back : (to : Came) → GoesBack 1 old new → Arrives goal new to → TakesLastBack goal old new to
+  pub last_back : (to : Came) → GoesBack 1 old new → Arrives sources goal new to → TakesLastBack sources goal old new to
   last_back came.There t a = (t, a)
   last_back came.Memory t a = t
   last_back came.End t a = absurd a
@@ -47,16 +39,12 @@ one_on {L} a b c met moves runs = record {
 -- ---- how many steps are taken
 
 module _ {L : Type 0} (old new : Walk L) (walking : IsWalking old) where
-  pub count_on : TakesOne old new → count_of (runner_of new) ≡ count_of (runner_of old) + 1
-  count_on one =
-      (one.runs walking.stands.at walking.stands.stands).is.counted ∙ ap (λ n. n + 1) (sym walking.stands.stands.counted)
-
   pub count_back : GoesBack 1 old new → count_of (runner_of new) ≡ count_of (runner_of old) - 1
   count_back back = (back.goes walking.stands.at walking.stands.stands).counted ∙ ap (λ n. n - 1) (sym walking.stands.stands.counted)
 
 -- ---- bodies that are met where it has led
 
-pub led_there : {L : Type 0} (onward : Bool) (goal : Goal) (old at new : Walk L) (to : Came) → Goes onward goal old at to → KeepsMet at new →
-    IsLed onward goal old new
-led_there true goal old at new to h met = record { at = at; to = to; goes = h; met = met; moves = led old at new met h.moves }
-led_there false goal old at new to h met = record { at = at; to = to; goes = h; met = met; moves = led old at new met h.moves }
+pub led_there : {L : Type 0} (sources : List Source) (onward : Bool) (goal : Goal) (old at new : Walk L) (to : Came) →
+    Goes sources onward goal old at to → KeepsMet at new → IsLed sources onward goal old new to
+led_there sources true goal old at new to h met = record { at = at; goes = h; met = met; moves = led old at new met h.moves }
+led_there sources false goal old at new to h met = record { at = at; goes = h; met = met; moves = led old at new met h.moves }

@@ -1,18 +1,20 @@
 //! How far a command goes.
-ghost use Rattle.std.specs.Prelude.{IfSome, IfNone, IsTrue, true, false};
+ghost use Rattle.std.specs.Prelude.{◌≡◌, IfSome, IfNone, IfOk, false};
 ghost use Rattle.steps_walk.specs.Walk.{IsWalking, Moves, KeepsMet};
 ghost use Rattle.steps_walk.specs.Standing.{IsMetHere};
-ghost use Rattle.steps_program.specs.Counted.{GoesOn, GoesBack};
-ghost use Rattle.steps_walk.specs.Stops.{TellsStop};
-ghost use Rattle.steps_program.specs.Going.{IsThere, Arrives, TakesOne, TakesLast, GoesTo, GoesBackTo};
+ghost use Rattle.steps_walk.specs.Values.{IsValueHere};
+ghost use Rattle.steps_program.specs.Counted.{GoesOn, GoesBack, ComesBack, came_by as came_by_told, came_back as came_back_to};
+ghost use Rattle.steps_program.specs.Going.{IsThere, TellsOnLine, TellsChange, Arrives, TakesOne, TakesLast, GoesTo, GoesBackTo};
+ghost use Rattle.steps_program.specs.Kept.{value_in};
+ghost use Rattle.steps_program.specs.Places.{line_at as line_at_span, source_of as source_of_node};
 
 use crate::kept::Kept;
 use crate::output::place_of;
 use crate::source::{Source, source_of};
 use cells_program::Fault;
-use std::alloc::Global;
+use std::alloc::{AllocError, Global};
 use std::sync::ledger::Ledger;
-use steps_walk::{Exp, Level, Progress, Spot, ValueView, Walk, is_holding};
+use steps_walk::{Exp, Level, Progress, Spot, Walk, is_holding, value_of};
 
 /// Where a command has led.
 #[derive(Clone, Copy)]
@@ -44,27 +46,57 @@ pub(crate) enum Goal<'a> {
     Changes(&'a str, usize, Kept),
 }
 
-/// The value of a name in sight.
-pub(crate) fn value_of<'a, L: Ledger>(walk: &'a Walk<L>, name: &str) -> Option<ValueView<'a>> {
-    let level = walk.level(walk.open_calls())?;
-    let sight = walk.sight(&level)?;
-    walk.value(sight.slot(name)?)
+/// The value of a name in sight where the walk stands, kept; the only error is want of memory, for it or for the body there.
+pub(crate) fn keep_value<L: Ledger>(
+    alloc: Global,
+    walk: &Walk<L>,
+    name: &str,
+) -> Result<Kept, AllocError>
+    ensures { IfOk result (λ kept. IsValueHere walk.now name.now (value_in kept)) }
+{
+    let Some(sight) = walk.sight_here() else {
+        return Err(AllocError);
+    };
+    let kept = Kept::of(alloc, value_of(walk, &sight, name))?;
+    Ok(kept)
+}
+
+/// Whether so many calls are open, and the value of a name there is another one than was kept.
+fn is_changed<L: Ledger>(walk: &Walk<L>, name: &str, depth: usize, old: &Kept) -> bool
+    requires walking { IsWalking walk.now }
+    requires met { IsMetHere walk.now }
+    ensures { TellsChange name.now depth (value_in old.now) walk.now result }
+{
+    let Some(sight) = walk.sight_here() else {
+        unreachable!()
+    };
+    let is_old = old.is(value_of(walk, &sight, name));
+    if walk.open_calls() != depth {
+        return false;
+    }
+    !is_old
 }
 
 /// Whether a statement or one of its tests comes next, on this line of the file.
 fn is_on_line<L: Ledger>(walk: &Walk<L>, sources: &[Source], line: usize) -> bool
-    ensures { IsTrue result → TellsStop walk.now true }
+    requires walking { IsWalking walk.now }
+    requires met { IsMetHere walk.now }
+    ensures { TellsOnLine sources.now line walk.now result }
 {
-    match walk.stand() {
-        Some((level, spot)) => {
-            spot.is_stop(level.inverse) && line_at(sources, &level, spot) == Some(line)
-        }
-        None => false,
+    let Some((level, spot)) = walk.stand() else {
+        unreachable!()
+    };
+    let here = line_at(sources, &level, spot);
+    if !spot.is_stop(level.inverse) {
+        return false;
     }
+    here == Some(line)
 }
 
 /// The line of the file on which a spot stands.
-fn line_at(sources: &[Source], level: &Level, spot: Spot) -> Option<usize> {
+fn line_at(sources: &[Source], level: &Level, spot: Spot) -> Option<usize>
+    ensures { result ≡ line_at_span (source_of_node sources.now level.now.node) spot.span }
+{
     let source = source_of(sources, level.node)?;
     let place = place_of(source, spot)?;
     Some(place.line)
@@ -74,16 +106,14 @@ fn line_at(sources: &[Source], level: &Level, spot: Spot) -> Option<usize> {
 fn is_there<L: Ledger>(walk: &Walk<L>, sources: &[Source], goal: &Goal<'_>) -> bool
     requires walking { IsWalking walk.now }
     requires met { IsMetHere walk.now }
-    ensures { IsThere goal.now walk.now result }
+    ensures { IsThere sources.now goal.now walk.now result }
 {
     match goal {
         Goal::Next(depth) => walk.open_calls() <= *depth && walk.is_at_stop(),
         Goal::Fewer(depth) => walk.open_calls() < *depth,
         Goal::Line(line) => is_on_line(walk, sources, *line),
         Goal::Holds(exp) => is_holding(walk, *exp),
-        Goal::Changes(name, depth, old) => {
-            walk.open_calls() == *depth && !old.is(value_of(walk, *name))
-        }
+        Goal::Changes(name, depth, old) => is_changed(walk, *name, *depth, old),
     }
 }
 
@@ -96,8 +126,8 @@ fn arrived<L: Ledger>(
 ) -> Option<Came>
     requires { IsWalking walk.old }
     ensures kept { KeepsMet walk.old walk.new }
-    ensures some { IfSome result (Arrives goal.now walk.new) }
-    ensures none { IfNone result (IsThere goal.now walk.new false) }
+    ensures some { IfSome result (Arrives sources.now goal.now walk.new) }
+    ensures none { IfNone result (IsThere sources.now goal.now walk.new false) }
 {
     if walk.meet_here(alloc).is_err() {
         return Some(Came::Memory);
@@ -119,8 +149,8 @@ fn step_on<L: Ledger>(
     requires { IsWalking walk.old }
     ensures walks { IsWalking walk.new }
     ensures moves { Moves walk.old walk.new }
-    ensures some { IfSome result (TakesLast goal.now walk.old walk.new) }
-    ensures none { IfNone result (TakesOne walk.old walk.new × IsThere goal.now walk.new false) }
+    ensures some { IfSome result (TakesLast sources.now goal.now walk.old walk.new) }
+    ensures none { IfNone result (TakesOne walk.old walk.new × IsThere sources.now goal.now walk.new false) }
 {
     match walk.on(1) {
         Progress::Ended(_) => Some(Came::End),
@@ -139,7 +169,7 @@ pub(crate) fn go_on<L: Ledger>(
     requires { IsWalking walk.old }
     ensures walks { IsWalking walk.new }
     ensures moves { Moves walk.old walk.new }
-    ensures goes { GoesTo goal.now walk.old walk.new result }
+    ensures goes { GoesTo sources.now goal.now walk.old walk.new result }
 {
     loop {
         if let Some(came) = step_on(alloc, walk, sources, goal) {
@@ -158,7 +188,7 @@ pub(crate) fn go_back<L: Ledger>(
     requires { IsWalking walk.old }
     ensures walks { IsWalking walk.new }
     ensures moves { Moves walk.old walk.new }
-    ensures goes { GoesBackTo goal.now walk.old walk.new result }
+    ensures goes { GoesBackTo sources.now goal.now walk.old walk.new result }
 {
     for _ in 0..walk.count() {
         walk.back(1);
@@ -170,7 +200,9 @@ pub(crate) fn go_back<L: Ledger>(
 }
 
 /// Where steps on have led, by what they told.
-fn came_by(told: Progress) -> Came {
+fn came_by(told: Progress) -> Came
+    ensures { result ≡ came_by_told told }
+{
     match told {
         Progress::Ended(_) => Came::End,
         Progress::Stopped(_, fault) => Came::Fault(fault),
@@ -182,7 +214,7 @@ fn came_by(told: Progress) -> Came {
 pub(crate) fn steps_on<L: Ledger>(walk: &mut Walk<L>, n: u64) -> Came
     requires { IsWalking walk.old }
     ensures walks { IsWalking walk.new }
-    ensures goes { GoesOn n walk.old walk.new }
+    ensures goes { GoesOn n walk.old walk.new result }
 {
     let told = walk.on(n);
     came_by(told)
@@ -192,13 +224,15 @@ pub(crate) fn steps_on<L: Ledger>(walk: &mut Walk<L>, n: u64) -> Came
 pub(crate) fn steps_back<L: Ledger>(walk: &mut Walk<L>, n: u64) -> Came
     requires { IsWalking walk.old }
     ensures walks { IsWalking walk.new }
-    ensures goes { GoesBack n walk.old walk.new }
+    ensures goes { ComesBack n walk.old walk.new result }
 {
     walk.back(n);
     came_back(walk.count())
 }
 
 /// Where steps back have led, by how many steps are left.
-fn came_back(count: u64) -> Came {
+fn came_back(count: u64) -> Came
+    ensures { result ≡ came_back_to count }
+{
     if count == 0 { Came::Start } else { Came::There }
 }

@@ -1,14 +1,18 @@
 //! The program `janus-steps`, over the text of a file, a reader of commands and a writer: a walk through one cell of the file, step by step, on and back.
 //!
 //! What is promised of it: whatever commands it is given, the walk stands in the run of its one cell from the one world in which that was entered, behind some
-//! number of its steps; `step`, `back`, `to-end`, `to-fault` and `to-start` take just the steps that they name (`Counted`, in specs/); the others go on or back as
-//! far as the first place at which their goal is met, or to the end, a fault or the start (`Going`); what looks at the walk, as a line that is refused, changes
-//! nothing (`Obeyed`). Of the goals, those of `next`, `finish` and `until` are told whole; of a line, that a statement or a test comes next there, and of a
-//! watched name, how many calls are open. Of what it writes nothing is said: that is compared with a model by checks/steps.
+//! number of its steps. `step`, `back`, `to-end`, `to-fault` and `to-start` take just the steps that they name (`Counted`, in specs/). The others go on or back
+//! as far as the first place at which their goal is met, or to the end, a fault or the start (`Going`). What looks at the walk, as a line that is refused,
+//! changes nothing (`Obeyed`). Each answer is what a definition says of the walk behind the command, or that there is no memory for it (`Told`). All that is
+//! written, from where the walk begins, is the answers to the lines that are read (`Transcript`). Where the writer fails, the walk has done what was asked for
+//! last, and a beginning of that went out.
+//!
+//! Not said are which text of the file is walked through, and what is written while the cells before it are run. That is compared with a model by
+//! checks/steps.
 //!
 //! The modules, in the order in which a reader needs them: `source` (the cells of a file), `command` (what a line asks for), `place` (lines and columns),
-//! `output` (what is written), `kept` (a value that is kept), `going` (how far a command goes), `talk` (commands and answers), `program` (all of it over a
-//! file's text).
+//! `kept` (a value that is kept), `going` (how far a command goes), `talk` (commands that are obeyed), `output` (what is written), `reply` (the answers),
+//! `program` (all of it over a file's text).
 #![tactic(auto)]
 
 mod command;
@@ -17,6 +21,7 @@ mod kept;
 mod output;
 mod place;
 mod program;
+mod reply;
 mod source;
 mod talk;
 

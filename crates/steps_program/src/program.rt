@@ -1,13 +1,17 @@
 //! All of it over a file's text.
-ghost use Rattle.std.specs.Prelude.{◌≡◌, ◌<◌, IfOk};
+ghost use Rattle.std.specs.Prelude.{◌≡◌, ◌<◌, ℕ, List, IfOk, OnOk, OnErr, string_bytes};
+ghost use Rattle.std.specs.Io.KnownBytes.{Appends, Keeps};
+ghost use Rattle.exact_write.specs.Sent.{SentSome};
 ghost use Rattle.kernel_machine.specs.LegalState.{IsLegalState};
 ghost use Rattle.steps_walk.specs.Walk.{IsWalking, Moves};
-ghost use Rattle.steps_program.specs.Obeyed.{Obeys};
+ghost use Rattle.steps_program.specs.declared.talk.Reply.TheVariants.{Place};
+ghost use Rattle.steps_program.specs.Told.{Answers};
+ghost use Rattle.steps_program.specs.Transcript.{ReadsAll, ReadsLine, ReadsSome, Serves, Talked, Transcribes};
 
 use crate::command::Command;
-use crate::output::send_where;
+use crate::reply::answer;
 use crate::source::{Source, Stray, count_cells, run_before};
-use crate::talk::obey;
+use crate::talk::{Reply, obey};
 use cells_program::{Begun, CellText, Job, Kernel, WriteFailed, send_outcome, send_post_fault};
 use std::alloc::Global;
 use std::io::{BufRead, Write};
@@ -174,28 +178,55 @@ fn walk_through<L: Ledger, R: BufRead + Drop, W: Write>(
     writer: &mut W,
 ) -> Result<(), RunFault>
     requires { IsWalking walk }
+    ensures ok { OnOk result ((out : List ℕ) × Transcribes sources.now walk (ReadsAll (R.remaining reader.old)) out
+        × Appends (W.contents writer.old) (W.contents writer.new) out) }
+    ensures err { OnErr result ((out : List ℕ) × Transcribes sources.now walk (ReadsSome (R.remaining reader.old)) out
+        × SentSome (W.contents writer.old) (W.contents writer.new) out) }
 {
     let mut walk = walk;
-    let ended = match begin_talk(&walk, sources, writer) {
-        Ok(()) => obey_all(alloc, &mut walk, sources, reader, writer),
-        Err(fault) => Err(fault),
-    };
+    let ended = talk_through(alloc, &mut walk, sources, reader, writer);
     walk.discard();
     ended
 }
 
+/// Tells where the walk begins, and obeys.
+fn talk_through<L: Ledger, R: BufRead + Drop, W: Write>(
+    alloc: Global,
+    walk: &mut Walk<L>,
+    sources: &[Source],
+    reader: &mut R,
+    writer: &mut W,
+) -> Result<(), RunFault>
+    requires { IsWalking walk.old }
+    ensures ok { OnOk result ((out : List ℕ) × Transcribes sources.now walk.old (ReadsAll (R.remaining reader.old)) out
+        × Appends (W.contents writer.old) (W.contents writer.new) out) }
+    ensures err { OnErr result ((out : List ℕ) × Transcribes sources.now walk.old (ReadsSome (R.remaining reader.old)) out
+        × SentSome (W.contents writer.old) (W.contents writer.new) out) }
+{
+    begin_talk(alloc, walk, sources, writer)?;
+    obey_all(alloc, walk, sources, reader, writer)
+}
+
 /// Tells where the walk begins.
 fn begin_talk<L: Ledger, W: Write>(
+    alloc: Global,
     walk: &Walk<L>,
     sources: &[Source],
     writer: &mut W,
-) -> Result<(), RunFault> {
-    send_where(writer, walk, sources)?;
-    flush(writer)
+) -> Result<(), RunFault>
+    ensures ok { OnOk result ((out : List ℕ) × Answers sources.now Place walk.now out × Appends (W.contents writer.old) (W.contents writer.new) out) }
+    ensures err { OnErr result ((out : List ℕ) × Answers sources.now Place walk.now out × SentSome (W.contents writer.old) (W.contents writer.new) out) }
+{
+    match answer(alloc, writer, walk, sources, Reply::Place) {
+        Ok(()) => flush(writer),
+        Err(_) => Err(RunFault::Write),
+    }
 }
 
 /// Writes all that was held back.
-fn flush<W: Write>(writer: &mut W) -> Result<(), RunFault> {
+fn flush<W: Write>(writer: &mut W) -> Result<(), RunFault>
+    ensures { Keeps (W.contents writer.old) (W.contents writer.new) }
+{
     match writer.flush() {
         Ok(()) => Ok(()),
         Err(_) => Err(RunFault::Write),
@@ -213,10 +244,15 @@ fn obey_all<L: Ledger, R: BufRead + Drop, W: Write>(
     requires { IsWalking walk.old }
     ensures walks { IsWalking walk.new }
     ensures moves { Moves walk.old walk.new }
+    ensures ok { OnOk result ((out : List ℕ) × Talked sources.now walk.old walk.new (ReadsAll (R.remaining reader.old)) out
+        × Appends (W.contents writer.old) (W.contents writer.new) out) }
+    ensures err { OnErr result ((out : List ℕ) × Talked sources.now walk.old walk.new (ReadsSome (R.remaining reader.old)) out
+        × SentSome (W.contents writer.old) (W.contents writer.new) out) }
 {
     let mut line = String::new(alloc);
     for _ in 0..u64::MAX {
-        if !read_line(reader, &mut line)? {
+        let some = read_line(reader, &mut line)?;
+        if !some {
             return Ok(());
         }
         let command = Command::read(line.as_str());
@@ -229,7 +265,9 @@ fn obey_all<L: Ledger, R: BufRead + Drop, W: Write>(
 }
 
 /// Reads the next line; none is left where it answers false.
-fn read_line<R: BufRead + Drop>(reader: &mut R, line: &mut String) -> Result<bool, RunFault> {
+fn read_line<R: BufRead + Drop>(reader: &mut R, line: &mut String) -> Result<bool, RunFault>
+    ensures { IfOk result (λ some. ReadsLine some (R.remaining reader.old) (R.remaining reader.new) (string_bytes line.new)) }
+{
     line.clear();
     match reader.read_line(line) {
         Ok(count) => Ok(count > 0),
@@ -247,8 +285,16 @@ fn obey_one<L: Ledger, W: Write>(
 ) -> Result<(), RunFault>
     requires { IsWalking walk.old }
     ensures walks { IsWalking walk.new }
-    ensures obeys { Obeys command.entry walk.old walk.new }
+    ensures moves { Moves walk.old walk.new }
+    ensures ok { OnOk result ((out : List ℕ) × Serves sources.now command.entry walk.old walk.new out
+        × Appends (W.contents writer.old) (W.contents writer.new) out) }
+    // The walk has done what was asked for, also where the answer did not go out whole.
+    ensures err { OnErr result ((out : List ℕ) × Serves sources.now command.entry walk.old walk.new out
+        × SentSome (W.contents writer.old) (W.contents writer.new) out) }
 {
-    obey(alloc, walk, sources, command, writer)?;
-    flush(writer)
+    let reply = obey(alloc, walk, sources, command);
+    match answer(alloc, writer, walk, sources, reply) {
+        Ok(()) => flush(writer),
+        Err(_) => Err(RunFault::Write),
+    }
 }

@@ -1,7 +1,9 @@
 //! The cells of a file: those before the one that is walked through are run, and the lines between them obeyed.
 
-ghost use Rattle.std.specs.Prelude.{◌≡◌, []};
+ghost use Rattle.std.specs.Prelude.{◌≡◌, [], None, Some};
+ghost use Rattle.std.specs.Option.{MatchOption};
 ghost use Rattle.cells_program.specs.State.{Idle};
+ghost use Rattle.steps_program.specs.Places.{source_of as source_of_node};
 
 use cells_program::{
     CellText, Command, Job, Kernel, Outcome, WriteFailed, is_blank, is_command_line, send,
@@ -209,9 +211,12 @@ fn obey_line<L: Ledger, W: Write>(
     Ok(())
 }
 
-/// The source of a cell.
-pub(crate) fn source_of(sources: &[Source], node: Option<usize>) -> Option<&Source> {
-    for source in sources {
+/// The source of the cell of a node; of none, that of the cell that is walked through.
+pub(crate) fn source_of(sources: &[Source], node: Option<usize>) -> Option<&Source>
+    ensures { MatchOption result (source_of_node sources.now node ≡ None) (λ source. source_of_node sources.now node ≡ Some source.now) }
+{
+    for i in 0..sources.len() {
+        let source = &sources[i];
         if source.node == node {
             return Some(source);
         }

@@ -1,5 +1,6 @@
 use Rattle.std.proofs.Common.{refl, arith}
 use Rattle.steps_walk.proofs.Moving.{stays, further}
+use Rattle.steps_program.specs.Counted.{GoesBack}
 use Rattle.steps_program.specs.Going.{BegunBack, FurtherBack}
 use Rattle.steps_program.proofs.Obeying.{led, led_back}
 use Rattle.steps_program.proofs.Stopping.{last_back, count_back}
@@ -22,7 +23,8 @@ loop-preserved g c = record {
       (led_back c.loop.walk c.back.new.self c.arrived.new.walk c.arrived.ensures.kept 1 (record { moves = c.back.ensures.moves; goes = c.back.ensures.goes }))
       c.in_default.ensures.none;
   taken =
-      let led = led_back c.loop.walk c.back.new.self c.arrived.new.walk c.arrived.ensures.kept 1 (record { moves = c.back.ensures.moves; goes = c.back.ensures.goes }) in
+      let back : GoesBack 1 c.loop.walk c.back.new.self = record { moves = c.back.ensures.moves; goes = c.back.ensures.goes } in
+      let led = led_back c.loop.walk c.back.new.self c.arrived.new.walk c.arrived.ensures.kept 1 back in
       let one = count_back c.loop.walk c.arrived.new.walk c.loop.invariant.walks led in
       let before = c.loop.invariant.taken in
       omega (arith, one, before);
@@ -32,7 +34,7 @@ pub returns-in-Some-clause-goes : goal.returns-in-Some-clause-goes
 returns-in-Some-clause-goes g c = record {
   mid = c.loop.walk;
   passes = c.loop.invariant.passes;
-  last = last_back c.args.goal.now c.loop.walk c.arrived.new.walk c.in-Some.came
+  last = last_back c.args.sources.now c.args.goal.now c.loop.walk c.arrived.new.walk c.in-Some.came
       (led_back c.loop.walk c.back.new.self c.arrived.new.walk c.arrived.ensures.kept 1 (record { moves = c.back.ensures.moves; goes = c.back.ensures.goes }))
       c.in-Some.ensures.some;
   moves = led c.args.walk.now c.back.new.self c.arrived.new.walk c.arrived.ensures.kept

@@ -9,6 +9,6 @@ abbrev pub invariant-loop : goal.invariant-loop
 invariant-loop g l = record {
   walks : IsWalking l.walk;
   moves : Moves l.fn.walk l.walk;
-  passes : PassesBack l.fn.goal l.fn.walk l.walk;
+  passes : PassesBack l.fn.sources l.fn.goal l.fn.walk l.walk;
   taken : count_of (runner_of l.walk) ≡ count_of (runner_of l.fn.walk) - l.counter;
 }

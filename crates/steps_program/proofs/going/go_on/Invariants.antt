@@ -6,7 +6,7 @@ use Rattle.steps_program.proofs.going.go_on.Given as goal
 
 -- it still walks, has moved in its run, and the command's goal was met nowhere on the way
 abbrev pub invariant-loop-came : goal.invariant-loop-came
-invariant-loop-came g l = record { walks : IsWalking l.walk; moves : Moves l.fn.walk l.walk; passes : Passes l.fn.goal l.fn.walk l.walk }
+invariant-loop-came g l = record { walks : IsWalking l.walk; moves : Moves l.fn.walk l.walk; passes : Passes l.fn.sources l.fn.goal l.fn.walk l.walk }
 
 -- a `u64` counts the steps
 abbrev pub decreases-loop-came : goal.decreases-loop-came
