@@ -35,7 +35,8 @@ fn accept<W: Ledger, L: HistoryName, S: Ledger, R: Wait + Clock>(
     Some((stream, number))
 }
 
-/// Relieves a place of shell of an orphan, if there is one, and lets one more connection in then. Whether it does. On the other sockets nothing waits for a cell.
+/// Relieves a place of shell of an orphan, if there is one, and lets one more connection in then. Whether it does. On the other sockets nothing waits for a
+/// cell.
 fn relieve<R: Wait>(
     rt: &R,
     connections: &Connections,

@@ -35,6 +35,7 @@ impl Register {
         ensures open { IfOk result (λ r. r.is_closed ≡ false) }
         ensures places { IfOk result (λ r. length r.streams.items ≡ places) }
         ensures empty { IfOk result (λ r. All (λ s. s ≡ None) r.streams.items) }
+        ensures unrelieved { IfOk result (λ r. All (λ was. was ≡ false) r.relieved.items) }
     {
         let mut streams = Vec::with_capacity(alloc, places)?;
         for _ in 0..places {
