@@ -1,6 +1,7 @@
 /* How the acceptors of sockets, their places and the end of the kernel wait: an acceptor, two places and three connections that come, or with -DDOORS=2 two
    acceptors, each with a place and a connection of its own; one who starts and ends all, and a shutdown that any connection may bring. A peer goes away, or
-   stays until it is shut. One connection of a door is served at once, and another one beside it once its place was relieved of it.
+   stays until it is shut. One connection of a door is served at once, and where there is one door another one beside it once its
+   place was relieved of it.
 
    Claims: no invalid end state: once a shutdown came, every thread comes to its end; and `ends`: it does so in the end, under weak fairness.
    Spoiled: the door tells the places nothing as it is closed; or with -DSPOILED=2 connections of the second place are not shut as all ends. */
@@ -69,8 +70,10 @@ proctype Acceptor(byte me; byte d) {
         :: is_awaited -> break
         :: !is_awaited ->
             if                                          /* acceptor::relieve, or Connections::make_room: of whom that is asked, if one is there */
-            :: atomic { DOOR(0) == d && is_served[0] && !is_relieved[0] -> is_relieved[0] = true }; admit(d)
-            :: atomic { DOOR(1) == d && is_served[1] && !is_relieved[1] -> is_relieved[1] = true }; admit(d)
+#if DOORS == 1
+            :: atomic { is_served[0] && !is_relieved[0] -> is_relieved[0] = true }; admit(d)
+            :: atomic { is_served[1] && !is_relieved[1] -> is_relieved[1] = true }; admit(d)
+#endif
             :: DOOR(0) == d && is_served[0] -> has_to_end[0] = true
             :: DOOR(1) == d && is_served[1] -> has_to_end[1] = true
             :: skip
