@@ -1,7 +1,6 @@
 /* How the acceptors of sockets, their places and the end of the kernel wait: an acceptor, two places and three connections that come, or with -DDOORS=2 two
    acceptors, each with a place and a connection of its own; one who starts and ends all, and a shutdown that any connection may bring. A peer goes away, or
-   stays until it is shut. One connection of a door is served at once, and where there is one door another one beside it once its
-   place was relieved of it.
+   stays until it is shut. Where there is one door, one connection is served at once, and another one beside it once its place was relieved of it.
 
    Claims: no invalid end state: once a shutdown came, every thread comes to its end; and `ends`: it does so in the end, under weak fairness.
    Spoiled: the door tells the places nothing as it is closed; or with -DSPOILED=2 connections of the second place are not shut as all ends. */
@@ -19,7 +18,15 @@
 
 byte offered[DOORS], taken[DOORS];                      /* Door::offered, Door::taken */
 bool has_next[DOORS], is_door_closed[DOORS];            /* Door::entrance */
-byte idle[DOORS], free[DOORS];
+byte idle[DOORS];
+#if DOORS == 1
+byte free = 1;
+#define MAY_SERVE   (free > 0)
+#define COUNT_IN    free = free - has
+#else
+#define MAY_SERVE   true        /* a door has one place */
+#define COUNT_IN    skip
+#endif
 byte starting, ending;          /* the places to wait at of the two latches, Latch::setting */
 bool has_started, has_ended;    /* what is under their locks, Latch::set */
 bool is_ending;                 /* Latch::is_set of the end */
@@ -45,9 +52,9 @@ inline close_door(d) {          /* Door::close */
     WAKE_ALL(taken[d])
 }
 
-inline admit(d) {               /* Door::admit */
-    free[d]++;
-    WAKE_ONE(offered[d])
+inline admit() {                /* Door::admit */
+    free++;
+    WAKE_ONE(offered[0])
 }
 
 proctype Acceptor(byte me; byte d) {
@@ -61,7 +68,7 @@ proctype Acceptor(byte me; byte d) {
         :: !is_listening -> goto again
         fi;
         AWAIT(!has_next[d], taken[d], offers = !is_door_closed[d]; has_next[d] = offers;
-            is_awaited = !offers || (idle[d] > 0 && free[d] > 0));
+            is_awaited = !offers || (idle[d] > 0 && MAY_SERVE));
         if                                              /* Door::offer */
         :: !offers -> skip
         :: offers -> WAKE_ONE(offered[d])
@@ -71,8 +78,8 @@ proctype Acceptor(byte me; byte d) {
         :: !is_awaited ->
             if                                          /* acceptor::relieve, or Connections::make_room: of whom that is asked, if one is there */
 #if DOORS == 1
-            :: atomic { is_served[0] && !is_relieved[0] -> is_relieved[0] = true }; admit(d)
-            :: atomic { is_served[1] && !is_relieved[1] -> is_relieved[1] = true }; admit(d)
+            :: atomic { is_served[0] && !is_relieved[0] -> is_relieved[0] = true }; admit()
+            :: atomic { is_served[1] && !is_relieved[1] -> is_relieved[1] = true }; admit()
 #endif
             :: DOOR(0) == d && is_served[0] -> has_to_end[0] = true
             :: DOOR(1) == d && is_served[1] -> has_to_end[1] = true
@@ -92,8 +99,8 @@ proctype Place(byte me) {
     do
     :: true ->
         idle[DOOR(me)]++;                               /* Door::take */
-        AWAIT((has_next[DOOR(me)] && free[DOOR(me)] > 0) || is_door_closed[DOOR(me)], offered[DOOR(me)],
-            idle[DOOR(me)]--; has = has_next[DOOR(me)]; has_next[DOOR(me)] = false; free[DOOR(me)] = free[DOOR(me)] - has);
+        AWAIT((has_next[DOOR(me)] && MAY_SERVE) || is_door_closed[DOOR(me)], offered[DOOR(me)],
+            idle[DOOR(me)]--; has = has_next[DOOR(me)]; has_next[DOOR(me)] = false; COUNT_IN);
         WAKE_ALL(taken[DOOR(me)]);
         if
         :: !has -> break
@@ -124,10 +131,12 @@ proctype Place(byte me) {
             fi;
             stays = false
         fi;
+#if DOORS == 1
         if                                              /* requests::attend_to */
         :: was_relieved -> skip
-        :: !was_relieved -> admit(DOOR(me))
+        :: !was_relieved -> admit()
         fi
+#endif
     od;
     running--
 }
@@ -156,10 +165,6 @@ proctype Console() {
 
 init {
     atomic {
-        free[0] = 1;
-#if DOORS > 1
-        free[1] = 1;
-#endif
         run Starter(4); run Place(0); run Place(1); run Acceptor(2, 0);
 #if DOORS > 1
         run Acceptor(3, 1);
