@@ -1,6 +1,6 @@
 /* How the acceptors of sockets, their places and the end of the kernel wait: an acceptor, two places and three connections that come, or with -DDOORS=2 two
    acceptors, each with a place and a connection of its own; one who starts and ends all, and a shutdown that any connection may bring. A peer goes away, or
-   stays until it is shut.
+   stays until it is shut. Where there is one door, one connection is served at once, and another one beside it once its place was relieved of it.
 
    Claims: no invalid end state: once a shutdown came, every thread comes to its end; and `ends`: it does so in the end, under weak fairness.
    Spoiled: the door tells the places nothing as it is closed; or with -DSPOILED=2 connections of the second place are not shut as all ends. */
@@ -19,6 +19,14 @@
 byte offered[DOORS], taken[DOORS];                      /* Door::offered, Door::taken */
 bool has_next[DOORS], is_door_closed[DOORS];            /* Door::entrance */
 byte idle[DOORS];
+#if DOORS == 1
+byte free = 1;
+#define MAY_SERVE   (free > 0)
+#define COUNT_IN    free = free - has
+#else
+#define MAY_SERVE   true        /* a door has one place */
+#define COUNT_IN    skip
+#endif
 byte starting, ending;          /* the places to wait at of the two latches, Latch::setting */
 bool has_started, has_ended;    /* what is under their locks, Latch::set */
 bool is_ending;                 /* Latch::is_set of the end */
@@ -26,6 +34,7 @@ bool is_listening = true;       /* the listener, until Listeners::close */
 byte come[DOORS];               /* connections that came */
 bool is_served[PLACES];         /* who is in the register of Connections */
 bool has_to_end[PLACES];        /* shut by Connections::make_room, or for reading as all ends */
+bool is_relieved[PLACES];       /* Register::relieved */
 bool is_register_closed;
 byte running = PLACES + DOORS;      /* threads to be joined */
 
@@ -43,6 +52,11 @@ inline close_door(d) {          /* Door::close */
     WAKE_ALL(taken[d])
 }
 
+inline admit() {                /* Door::admit */
+    free++;
+    WAKE_ONE(offered[0])
+}
+
 proctype Acceptor(byte me; byte d) {
     bool offers, is_awaited;
     AWAIT(has_started, starting, skip);                 /* Latch::wait */
@@ -53,7 +67,8 @@ proctype Acceptor(byte me; byte d) {
         :: is_listening && come[d] < CONNECTIONS -> come[d]++         /* acceptor::accept */
         :: !is_listening -> goto again
         fi;
-        AWAIT(!has_next[d], taken[d], offers = !is_door_closed[d]; has_next[d] = offers; is_awaited = !offers || idle[d] > 0);
+        AWAIT(!has_next[d], taken[d], offers = !is_door_closed[d]; has_next[d] = offers;
+            is_awaited = !offers || (idle[d] > 0 && MAY_SERVE));
         if                                              /* Door::offer */
         :: !offers -> skip
         :: offers -> WAKE_ONE(offered[d])
@@ -61,7 +76,11 @@ proctype Acceptor(byte me; byte d) {
         do                                              /* acceptor::see_in */
         :: is_awaited -> break
         :: !is_awaited ->
-            if                                          /* Connections::make_room: a stranger, if one is there */
+            if                                          /* acceptor::relieve, or Connections::make_room: of whom that is asked, if one is there */
+#if DOORS == 1
+            :: atomic { is_served[0] && !is_relieved[0] -> is_relieved[0] = true }; admit()
+            :: atomic { is_served[1] && !is_relieved[1] -> is_relieved[1] = true }; admit()
+#endif
             :: DOOR(0) == d && is_served[0] -> has_to_end[0] = true
             :: DOOR(1) == d && is_served[1] -> has_to_end[1] = true
             :: skip
@@ -76,12 +95,12 @@ again:
 }
 
 proctype Place(byte me) {
-    bool has, stays;
+    bool has, stays, was_relieved;
     do
     :: true ->
         idle[DOOR(me)]++;                               /* Door::take */
-        AWAIT(has_next[DOOR(me)] || is_door_closed[DOOR(me)], offered[DOOR(me)],
-            idle[DOOR(me)]--; has = has_next[DOOR(me)]; has_next[DOOR(me)] = false);
+        AWAIT((has_next[DOOR(me)] && MAY_SERVE) || is_door_closed[DOOR(me)], offered[DOOR(me)],
+            idle[DOOR(me)]--; has = has_next[DOOR(me)]; has_next[DOOR(me)] = false; COUNT_IN);
         WAKE_ALL(taken[DOOR(me)]);
         if
         :: !has -> break
@@ -93,6 +112,7 @@ proctype Place(byte me) {
             :: !is_register_closed -> is_served[me] = true; has_to_end[me] = false
             fi
         };
+        was_relieved = false;
         if
         :: !has -> skip
         :: has ->
@@ -104,13 +124,19 @@ proctype Place(byte me) {
             :: !stays -> skip
             :: has_to_end[me] -> skip
             fi;
-            is_served[me] = false;                      /* Connections::leave */
+            atomic { is_served[me] = false; was_relieved = is_relieved[me]; is_relieved[me] = false };      /* Connections::leave */
             if
             :: !stays -> set_ending()                   /* requests::attend: HallDesk::was_shut */
             :: skip
             fi;
             stays = false
+        fi;
+#if DOORS == 1
+        if                                              /* requests::attend_to */
+        :: was_relieved -> skip
+        :: !was_relieved -> admit()
         fi
+#endif
     od;
     running--
 }
@@ -138,7 +164,7 @@ proctype Console() {
 }
 
 init {
-    atomic { 
+    atomic {
         run Starter(4); run Place(0); run Place(1); run Acceptor(2, 0);
 #if DOORS > 1
         run Acceptor(3, 1);

@@ -15,6 +15,7 @@ use Rattle.kernel_desk.specs.HistoryNames as HistoryName
 use Rattle.kernel_iopub.specs.contracts.bulletin.Bulletin as Bulletin
 use Rattle.kernel_iopub.specs.contracts.signals.Signals as Signals
 use Rattle.kernel_sockets.specs.contracts.connections.Connections as Connections
+use Rattle.kernel_sockets.specs.contracts.hangups.Hangups as Hangups
 use Rattle.kernel_sockets.specs.contracts.listener.Listener as Listener
 use Rattle.kernel_sockets.specs.contracts.shares.Common as Common
 use Rattle.kernel_sockets.specs.contracts.shares.Strangers as Strangers
@@ -41,8 +42,11 @@ Connections-sync = search (crosses, sendable) depth 60 fits 20000
 Listener-sync : IsSync (Listener.the_field).row
 Listener-sync = search (crosses, sendable) depth 60 fits 20000
 
+Hangups-send : IsSend (Hangups.the_field).row
+Hangups-send = search (crosses, sendable) depth 60 fits 20000
+
 pub Listeners-sync : IsSync (Listeners.the_field).row
-Listeners-sync = search (crosses, Listener-sync, sendable) depth 60 fits 20000
+Listeners-sync = search (crosses, Listener-sync, Hangups-send, sendable) depth 60 fits 20000
 
 Latch-sync : IsSync (Latch.the_field).row
 Latch-sync = search (crosses, sendable) depth 60 fits 20000

@@ -1,6 +1,6 @@
 //! The acceptor of a socket: it accepts connections, and has others make room where all places are taken.
 use crate::door::Door;
-use crate::places::{Listeners, PLACES, Place};
+use crate::places::{Listeners, Place, places_of};
 use crate::service::Service;
 use crate::sockets::stays;
 use crate::time::{Times, milliseconds};
@@ -35,18 +35,44 @@ fn accept<W: Ledger, L: HistoryName, S: Ledger, R: Wait + Clock>(
     Some((stream, number))
 }
 
-/// Has connections make room, one after another, until a place of the socket has taken the one that waits at the door.
+/// Relieves a place of shell of an orphan, if there is one, and lets one more connection in then. Whether it does. On the other sockets nothing waits for a
+/// cell.
+fn relieve<R: Wait>(
+    rt: &R,
+    connections: &Connections,
+    listeners: &Listeners,
+    door: &Door,
+    socket: Socket,
+) -> bool {
+    if socket != Socket::Shell {
+        return false;
+    }
+    let mut hangups = listeners.hangups.lock(rt);
+    let first = Place::first(socket).index;
+    let is_relieved = connections.relieve(rt, &mut *hangups, first, places_of(socket));
+    drop(hangups);
+    if is_relieved {
+        door.admit(rt);
+    }
+    is_relieved
+}
+
+/// Has connections make room, one after another, until a place of the socket has taken the one that waits at the door: an orphan, if there is one, and else
+/// one whose time is over.
 fn see_in<R: Wait + Clock>(
     rt: &R,
     connections: &Connections,
+    listeners: &Listeners,
     door: &Door,
     socket: Socket,
     times: Times,
 ) {
-    let first = Place::first(socket).index;
+    let (first, count) = (Place::first(socket).index, places_of(socket));
     for _ in rt.forever() {
-        let now = milliseconds(rt);
-        connections.make_room(rt, first, PLACES, stays(socket, times), now);
+        if !relieve(rt, connections, listeners, door, socket) {
+            let now = milliseconds(rt);
+            connections.make_room(rt, first, count, stays(socket, times), now);
+        }
         if door.wait_until_free(rt, Duration::from_millis(WAIT_MILLISECONDS)) {
             return;
         }
@@ -68,7 +94,8 @@ pub(crate) fn accept_all<W: Ledger, L: HistoryName, S: Ledger, R: Wait + Clock>(
         }
         if let Some((stream, number)) = accept(rt, service, listeners.of(socket)) {
             if !door.offer(rt, stream, number) {
-                see_in(rt, service.connections(socket), door, socket, service.times);
+                let connections = service.connections(socket);
+                see_in(rt, connections, listeners, door, socket, service.times);
             }
         }
     }

@@ -1,9 +1,13 @@
-//! The places at which a kernel serves its connections: 32 for each of the five sockets, each of which takes a connection, serves it to
-//! its end and takes the next; an acceptor for each socket, who accepts the connections; beside them the worker that runs the cells; and how
-//! all of them come to an end.
+//! The places at which a kernel serves its connections: 32 for each of the five sockets, and 32 more for shell. Each takes a connection, serves it to its
+//! end and takes the next. Beside them are an acceptor for each socket, who accepts the connections, and the worker that runs the cells; and all of them
+//! come to an end together.
+//!
+//! A socket serves 32 connections at once. On shell orphans don't count among them: connections whose peer has hung up while their request is under way. If
+//! another connection comes when 32 are served, a place is relieved of an orphan, if there is one (`kernel_sockets::who_is_relieved`). The orphan's job stays
+//! in the queue and its place goes on with it, and the other connection is served at one of the further places.
 //!
 //! How long connections have [`Times`] says. A connection whose handshake takes ten seconds fails, and so does a message that takes ten seconds to be
-//! written. Where all places of a socket are taken and another connection comes, one makes room (`kernel_sockets::who_makes_room`): one whose handshake is
+//! written. Where there is no orphan, one connection makes room (`kernel_sockets::who_makes_room`): one whose handshake is
 //! not over, 200 milliseconds after it was let in. Where there is none, on shell and control it is the one that was let in longest ago of those
 //! on which no signed request came that the kernel serves, if 200 milliseconds ago; on stdin, iopub and the heartbeat, where nothing is
 //! signed, the one that has been silent longest, and for a minute at least: nothing came on it, and it took nothing. Where there is none of these either,
@@ -66,7 +70,7 @@ mod worker;
 mod writer;
 
 pub use kernel_desk::{Comms, Entry, Hall, HistoryName, Kernel, NewHistory, Note, PARTS_OF_POSTS};
-pub use places::{ALL_PLACES, Listeners, PLACES};
+pub use places::{ALL_PLACES, DESKS, Listeners, PLACES};
 pub use service::Service;
 pub use start::{Seats, serve_all};
 pub use time::Times;

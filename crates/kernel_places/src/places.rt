@@ -1,17 +1,34 @@
 //! The places of a socket.
 use kernel_desk::Socket;
-use kernel_sockets::{Listener, Stream};
+use kernel_sockets::{Hangups, Listener, Stream};
 use std::alloc::Global;
 use std::net::TcpStream;
-use std::sync::Arc;
+use std::sync::{Arc, Mutex};
 
-/// The most connections that are served at once on one socket.
+/// The most connections that are served at once on one socket, but for orphans: those whose peer has hung up while their request is under way.
 pub const PLACES: usize = 32;
 
-/// The places that the five sockets have together.
-pub const ALL_PLACES: u64 = 160;
+/// So many more connections of shell are served beside those, where orphans wait for their cells.
+const ORPHANS: usize = 32;
 
-const _: () = prove!(ALL_PLACES == 5 * (PLACES as u64));
+/// The places of shell.
+const SHELL_PLACES: usize = PLACES + ORPHANS;
+
+/// The places of shell and control, each of which has a desk.
+pub const DESKS: usize = SHELL_PLACES + PLACES;
+
+/// The places that the five sockets have together.
+pub const ALL_PLACES: u64 = 192;
+
+const _: () = prove!(ALL_PLACES == (DESKS as u64) + 3 * (PLACES as u64));
+
+/// How many places a socket has.
+pub(crate) fn places_of(socket: Socket) -> usize {
+    match socket {
+        Socket::Shell => SHELL_PLACES,
+        Socket::Iopub | Socket::Stdin | Socket::Control | Socket::Heartbeat => PLACES,
+    }
+}
 
 /// Which place it is: of which socket, and where in the register of its connections. Iopub has a register of its own; the other four share
 /// one.
@@ -26,9 +43,9 @@ impl Place {
     pub fn first(socket: Socket) -> Place {
         let index = match socket {
             Socket::Shell | Socket::Iopub => 0,
-            Socket::Control => PLACES,
-            Socket::Stdin => 2 * PLACES,
-            Socket::Heartbeat => 3 * PLACES,
+            Socket::Control => SHELL_PLACES,
+            Socket::Stdin => SHELL_PLACES + PLACES,
+            Socket::Heartbeat => SHELL_PLACES + 2 * PLACES,
         };
         Place { socket, index }
     }
@@ -42,7 +59,7 @@ impl Place {
     }
 }
 
-/// The five listening sockets.
+/// The five listening sockets, and who tells of the connections that came from them whether their peers have hung up.
 #[derive(Drop)]
 pub struct Listeners {
     pub shell: Listener,
@@ -50,6 +67,7 @@ pub struct Listeners {
     pub stdin: Listener,
     pub control: Listener,
     pub heartbeat: Listener,
+    pub hangups: Mutex<Hangups>,
 }
 
 impl Listeners {

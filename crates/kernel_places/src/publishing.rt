@@ -91,7 +91,7 @@ fn receive<
         return allowance;
     }
     let allowance = supply(rt, service, index, &stream, allowance);
-    service.subscribers.leave(rt, index);
+    let _ = service.subscribers.leave(rt, index);
     allowance
 }
 
@@ -111,5 +111,6 @@ pub(crate) fn attend_subscribers<
             break;
         };
         allowance = receive(rt, service, index, stream, allowance);
+        door.admit(rt);
     }
 }

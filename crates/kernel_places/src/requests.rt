@@ -54,7 +54,7 @@ fn converse<W: Ledger, L: HistoryName, S: Ledger, D: Desk, R: Wait + Clock>(
     reader.end()
 }
 
-/// Takes a connection in, serves it and sees it out. The allowance of the place is given back.
+/// Takes a connection in, serves it and sees it out. The allowance of the place is given back, and whether the place was relieved of the connection.
 fn receive<W: Ledger, L: HistoryName, S: Ledger, D: Desk, R: Wait + Clock>(
     rt: &R,
     service: &Service<W, L, S>,
@@ -63,18 +63,36 @@ fn receive<W: Ledger, L: HistoryName, S: Ledger, D: Desk, R: Wait + Clock>(
     stream: TcpStream,
     number: u64,
     allowance: Allowance<S>,
-) -> Allowance<S> {
+) -> (Allowance<S>, bool) {
     let Some((stream, shared)) = share(service.alloc, stream) else {
-        return allowance;
+        return (allowance, false);
     };
     if !service
         .callers
         .enter(rt, place.index, shared, milliseconds(rt))
     {
-        return allowance;
+        return (allowance, false);
     }
     let allowance = converse(rt, service, desk, place, &stream, number, allowance);
-    service.callers.leave(rt, place.index);
+    let was_relieved = service.callers.leave(rt, place.index);
+    (allowance, was_relieved)
+}
+
+/// Serves the connection that was taken from the door to its end, and lets the next one in, unless the place was relieved of this one: then another one was
+/// let in before. The allowance of the place is given back.
+fn attend_to<W: Ledger, L: HistoryName, S: Ledger, D: Desk, R: Wait + Clock>(
+    rt: &R,
+    service: &Service<W, L, S>,
+    desk: &mut D,
+    place: Place,
+    stream: TcpStream,
+    number: u64,
+    allowance: Allowance<S>,
+) -> Allowance<S> {
+    let (allowance, was_relieved) = receive(rt, service, desk, place, stream, number, allowance);
+    if !was_relieved {
+        service.doors.of(place.socket).admit(rt);
+    }
     allowance
 }
 
@@ -93,7 +111,7 @@ pub(crate) fn attend<W: Ledger, L: HistoryName, S: Ledger, R: Wait + Clock>(
         let Some((stream, number)) = door.take(rt) else {
             break;
         };
-        allowance = receive(rt, service, &mut desk, place, stream, number, allowance);
+        allowance = attend_to(rt, service, &mut desk, place, stream, number, allowance);
         if desk.was_shut() {
             service.ending.set(rt);
         }
@@ -115,6 +133,6 @@ pub(crate) fn attend_silently<W: Ledger, L: HistoryName, S: Ledger, R: Wait + Cl
         let Some((stream, number)) = door.take(rt) else {
             break;
         };
-        allowance = receive(rt, service, &mut desk, place, stream, number, allowance);
+        allowance = attend_to(rt, service, &mut desk, place, stream, number, allowance);
     }
 }

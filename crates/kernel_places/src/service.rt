@@ -4,7 +4,7 @@ ghost use Rattle.kernel_places.specs.declared.places.TheConstants.{ALL_PLACES};
 
 use crate::door::Doors;
 use crate::latch::Latch;
-use crate::places::{ALL_PLACES, PLACES};
+use crate::places::{ALL_PLACES, DESKS, PLACES};
 use crate::time::Times;
 use jupyter_msg::Key;
 use kernel_desk::{Hall, HistoryName, Socket};
@@ -15,8 +15,8 @@ use std::alloc::{AllocError, Global};
 use std::sync::ledger::{Blank, Ledger};
 use std::sync::{Mutex, Wait};
 
-/// The sockets that take requests or octets to send back; the fifth is that of broadcasts.
-const CALLED_SOCKETS: usize = 4;
+/// The places of the sockets that take requests or octets to send back; the fifth is that of broadcasts.
+const CALLED_PLACES: usize = DESKS + 2 * PLACES;
 
 /// The date of a message before a desk has set one.
 const NO_DATE: [u8; 20] = *b"1970-01-01T00:00:00Z";
@@ -51,7 +51,7 @@ pub struct Service<W: Ledger, L: HistoryName, S: Ledger> {
 /// A board with nothing on it, and no connections, of callers and of subscribers.
 fn shared(alloc: Global) -> Result<(Bulletin, Connections, Connections), AllocError> {
     let bulletin = Bulletin::new(alloc, PLACES)?;
-    let callers = Connections::new(alloc, CALLED_SOCKETS * PLACES)?;
+    let callers = Connections::new(alloc, CALLED_PLACES)?;
     let subscribers = Connections::new(alloc, PLACES)?;
     Ok((bulletin, callers, subscribers))
 }
@@ -87,7 +87,7 @@ impl<W: Ledger, L: HistoryName, S: Ledger> Service<W, L, S> {
                 callers,
                 subscribers,
                 strangers: Strangers::new(strangers, ALL_PLACES),
-                doors: Doors::new(),
+                doors: Doors::new(PLACES),
                 started: Latch::new(),
                 ending: Latch::new(),
                 rested: Latch::new(),

@@ -1,7 +1,7 @@
 //! How the threads are started, and how they come to an end.
 ghost use Rattle.std.specs.Prelude.{◌≡◌, All};
 
-use crate::places::{Listeners, PLACES, Place};
+use crate::places::{Listeners, Place, places_of};
 use crate::service::Service;
 use crate::task::Task;
 use crate::warning::tell_until_end;
@@ -83,7 +83,7 @@ fn start_attending<
     socket: Socket,
     desks: &mut Vec<HallDesk<'s, W, L, R>>,
 ) -> bool {
-    for at in 0..PLACES {
+    for at in 0..places_of(socket) {
         let Some(desk) = desks.pop() else {
             return false;
         };
@@ -110,7 +110,7 @@ fn start_without_desks<
     listeners: &'s Listeners,
     socket: Socket,
 ) -> bool {
-    for at in 0..PLACES {
+    for at in 0..places_of(socket) {
         let place = Place::first(socket).behind(at);
         let task = match socket {
             Socket::Iopub => Task::AttendSubscribers(place),

@@ -5,8 +5,8 @@
 //! that run nothing (specs/Status.antt). Which words name a FILE is clap's, and what sockets and files do no contract can say: both are tested. The
 //! connection file is that of Jupyter's page on kernels ("Connection files").
 //!
-//! The seats that are made with a hall are those of its bell. That there is one for each place of shell and control no contract says. That
-//! `kernel_main` answers these statuses is tested, but for that of want of memory.
+//! The seats that are made with a hall are those of its bell, one for each place of shell and control. That `kernel_main` answers these statuses is tested,
+//! but for that of want of memory.
 #![tactic(auto)]
 
 mod fault;

@@ -4,13 +4,14 @@ ghost use Rattle.std.specs.Prelude.{◌≡◌, ◌≢◌, codes};
 use crate::fault::ProgramFault;
 use jupyter_msg::{Connection, MsgFault, Setting};
 use kernel_places::Listeners;
-use kernel_sockets::Listener;
+use kernel_sockets::{Hangups, Listener};
 use std::alloc::Global;
 use std::fs;
 use std::io::{ErrorKind, Write};
 use std::net::{Net, TcpListener, TcpStream};
 use std::os::unix::fs::PermissionsExt;
 use std::rt::Files;
+use std::sync::Mutex;
 
 /// The bits of a file's mode by which its group and all others read it.
 const OTHERS_READ: u32 = 0o044;
@@ -79,9 +80,10 @@ fn address_of(ip: &str) -> &str
 ///
 /// # Errors
 ///
-/// `Bind` with the field of the first one that can't be bound; `Memory`.
+/// `Bind` with the field of the first one that can't be bound; `Memory`, also where the system can't tell who hangs up.
 pub(crate) fn listeners_of<R: Net<Listener = TcpListener, Stream = TcpStream>>(
     rt: &R,
+    alloc: Global,
     file: &Connection,
 ) -> Result<Listeners, ProgramFault> {
     let ip = address_of(&file.ip);
@@ -90,11 +92,15 @@ pub(crate) fn listeners_of<R: Net<Listener = TcpListener, Stream = TcpStream>>(
     let stdin = bind(rt, ip, file.stdin_port, Setting::StdinPort)?;
     let control = bind(rt, ip, file.control_port, Setting::ControlPort)?;
     let heartbeat = bind(rt, ip, file.hb_port, Setting::HbPort)?;
+    let Ok(hangups) = Hangups::new(rt, alloc) else {
+        return Err(ProgramFault::Memory);
+    };
     Ok(Listeners {
         shell,
         iopub,
         stdin,
         control,
         heartbeat,
+        hangups: Mutex::new(hangups),
     })
 }

@@ -12,8 +12,8 @@ use clap::error::ErrorKind as ClapErrorKind;
 use jupyter_msg::Key;
 use kernel_bell::Bell;
 use kernel_places::{
-    ALL_PLACES, Entry, Hall, HistoryName, Kernel, Listeners, NewHistory, Note, PARTS_OF_POSTS,
-    PLACES, Seats, Service, Times, serve_all,
+    ALL_PLACES, DESKS, Entry, Hall, HistoryName, Kernel, Listeners, NewHistory, Note,
+    PARTS_OF_POSTS, Seats, Service, Times, serve_all,
 };
 use program_words::{send_unread_words, unread_words_status, words_status};
 use rand::make_rng;
@@ -33,9 +33,6 @@ use std::time::Clock;
 
 /// The status of a program that was shut down, or told its help or its version.
 const DONE: u8 = 0;
-
-/// The ringers' seats of the kernel's bell: one for each place of shell and of control.
-const RINGERS: usize = 2 * PLACES;
 
 /// The name of the kernel's session, drawn from the system's random numbers.
 fn new_session<R: RandomSource>(rt: &R, alloc: Global) -> Result<String, ProgramFault> {
@@ -61,7 +58,7 @@ fn new_hall<W: Ledger, L: HistoryName>(
     ensures runner { IfOk result (λ made. made.1.runner.bell ≡ made.0) }
     ensures ringers { IfOk result (λ made. All (λ seat. seat.bell ≡ made.0) made.1.ringers.items) }
 {
-    let (bell, runner, ringers) = Bell::new(alloc, RINGERS)?;
+    let (bell, runner, ringers) = Bell::new(alloc, DESKS)?;
     let Ok(kernel) = Kernel::<W>::new(alloc, writes) else {
         return Err(AllocError);
     };
@@ -85,7 +82,7 @@ fn new_service<W: Ledger, L: HistoryName, S: Ledger, R: RandomSource>(
     requires posts { (posts.name ≡ L.name) × (posts.parts ≡ PARTS_OF_POSTS) × (posts.parts ≡ L.parts) }
     requires history { history ≡ L.history }
     requires notes { notes ≡ L.beside }
-    requires strangers { (strangers.name ≡ S.name) × (strangers.parts ≡ S.parts) × (strangers.parts ≡ 160) }
+    requires strangers { (strangers.name ≡ S.name) × (strangers.parts ≡ S.parts) × (strangers.parts ≡ 192) }
     ensures runner { IfOk result (λ made. made.1.runner.bell ≡ made.0.hall) }
     ensures ringers { IfOk result (λ made. All (λ seat. seat.bell ≡ made.0.hall) made.1.ringers.items) }
 {
@@ -123,7 +120,7 @@ where
     requires posts { (posts.name ≡ L.name) × (posts.parts ≡ PARTS_OF_POSTS) × (posts.parts ≡ L.parts) }
     requires history { history ≡ L.history }
     requires notes { notes ≡ L.beside }
-    requires strangers { (strangers.name ≡ S.name) × (strangers.parts ≡ S.parts) × (strangers.parts ≡ 160) }
+    requires strangers { (strangers.name ≡ S.name) × (strangers.parts ≡ S.parts) × (strangers.parts ≡ 192) }
 {
     let (service, seats) = new_service::<W, L, S, R>(
         rt, alloc, writes, posts, history, notes, strangers, times, key,
@@ -168,7 +165,7 @@ where
 {
     let file = connection_of(rt, alloc, path)?;
     tell_readers(rt, path, err);
-    let listeners = listeners_of(rt, &file)?;
+    let listeners = listeners_of(rt, alloc, &file)?;
     tell_reach(&listeners, &file.ip, err);
     let key = Key::new(file.key.into_bytes());
     serve_new_kernel::<Brand, Brand, Brand, R, O, E>(

@@ -1,3 +1,4 @@
+pub mod Relief
 pub mod Room
 pub mod Seen
 pub mod Shares

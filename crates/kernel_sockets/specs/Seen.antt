@@ -1,5 +1,5 @@
 -- What is seen of the places of a register.
-use Rattle.std.specs.Prelude.{◌≡◌, ℕ, ◌<◌, Bool, List, length, slice_get, Option, Some, is_some}
+use Rattle.std.specs.Prelude.{◌≡◌, ℕ, ◌<◌, Bool, false, List, length, slice_get, Option, Some, is_some, unwrap_or}
 use Rattle.std.specs.Option.{option_flatten}
 use Rattle.kernel_sockets.specs.declared.room.Sight.{Sight}
 
@@ -7,10 +7,15 @@ use Rattle.kernel_sockets.specs.declared.room.Sight.{Sight}
 abbrev pub is_taken : {A : Type 0} → List (Option A) → ℕ → Bool
 is_taken streams place = is_some (option_flatten (slice_get streams place))
 
--- of each of the first places it was seen whether a connection is there
-abbrev pub AreSeenBelow : {A : Type 0} → List (Option A) → List Sight → ℕ → Type 0
-AreSeenBelow streams sights first = (k : ℕ) (s : Sight) → k < first → slice_get sights k ≡ Some s → s.is_taken ≡ is_taken streams k
+-- whether a place was relieved of its connection
+abbrev pub is_relieved : List Bool → ℕ → Bool
+is_relieved relieved place = unwrap_or (slice_get relieved place) false
 
--- of each place it was seen whether a connection is there
-abbrev pub AreSeen : {A : Type 0} → List (Option A) → List Sight → Type 0
-AreSeen streams sights = (length sights ≡ length streams) × AreSeenBelow streams sights (length sights)
+-- of each of the first places it was seen whether a connection is there, and whether the place was relieved of it
+abbrev pub AreSeenBelow : {A : Type 0} → List (Option A) → List Bool → List Sight → ℕ → Type 0
+AreSeenBelow streams relieved sights first =
+    (k : ℕ) (s : Sight) → k < first → slice_get sights k ≡ Some s → (s.is_taken ≡ is_taken streams k) × (s.is_relieved ≡ is_relieved relieved k)
+
+-- of each place it was seen so
+abbrev pub AreSeen : {A : Type 0} → List (Option A) → List Bool → List Sight → Type 0
+AreSeen streams relieved sights = (length sights ≡ length streams) × AreSeenBelow streams relieved sights (length sights)

@@ -1,4 +1,5 @@
 //! The connections that are served.
+use crate::hangups::Hangups;
 use crate::presence::Presence;
 use crate::register::{Register, Stream};
 use crate::room::Stays;
@@ -56,12 +57,28 @@ impl Connections {
         register.enter(place, stream)
     }
 
-    /// Takes the connection at a place away.
-    pub fn leave<R: Wait>(&self, rt: &R, place: usize) {
+    /// Takes the connection at a place away. Whether the place was relieved of it: then another one has been let in in its stead.
+    pub fn leave<R: Wait>(&self, rt: &R, place: usize) -> bool {
         let mut register = self.register.lock(rt);
-        register.leave(place);
+        let was_relieved = register.leave(place);
         drop(register);
         self.left.notify_all();
+        was_relieved
+    }
+
+    /// Relieves one of `count` places from `first` on of its connection, if one has an orphan, by what is seen of the places and told of their peers under
+    /// the lock: what `Register::relieve` does of the register there. Whether it does. It takes no memory.
+    pub fn relieve<R: Wait>(
+        &self,
+        rt: &R,
+        hangups: &mut Hangups,
+        first: usize,
+        count: usize,
+    ) -> bool {
+        let mut register = self.register.lock(rt);
+        register
+            .relieve(&self.presences, hangups, first, count)
+            .is_some()
     }
 
     /// Ends the connection at one of `count` places from `first` on that has to make room, if one has to, by what is seen of the places under the lock:

@@ -7,7 +7,9 @@
 //! whether it is ready, whether it is trusted, when it was heard and since when no request is under way, as it was noted there, so that one makes room where
 //! all places are taken.
 //! Who that is [`who_makes_room`] answers, by specs/Room.antt: of those whose time is over one that is not ready, else a stranger, and else who showed the
-//! key and has been silent for long with no request under way; of a class the one that has been silent longest. What strangers bring is counted by
+//! key and has been silent for long with no request under way; of a class the one that has been silent longest. Before that a place is relieved of an
+//! orphan, if there is one: a connection whose peer has hung up, as the system tells ([`Hangups`]), while its request is under way
+//! ([`who_is_relieved`], specs/Relief.antt). It is served to its end, and another one beside it. What strangers bring is counted by
 //! [`Strangers`]: each has its own share, and past their shares they bring no more together than [`COMMON_OCTETS`]. A place has an [`Allowance`] for each
 //! connection that it serves, whose [`Account`] counts what comes on it by a [`Share`] and can't be let go of: it is given back, and the types keep that
 //! the count is the sum of what the shares have, so that one which is given back is counted no longer. The time of a message that is written begins with its
@@ -23,19 +25,23 @@
 mod account;
 mod connections;
 mod deadline;
+mod hangups;
 mod input;
 mod listener;
 mod presence;
 mod register;
+mod relief;
 mod room;
 mod shares;
 
 pub use account::{Account, Quota};
 pub use connections::Connections;
 pub use deadline::WriteDeadline;
+pub use hangups::Hangups;
 pub use input::ConnectionInput;
 pub use listener::Listener;
 pub use presence::{Noted, Presence};
 pub use register::{Register, Stream};
+pub use relief::who_is_relieved;
 pub use room::{Sight, Stays, who_makes_room};
 pub use shares::{Allowance, COMMON_OCTETS, Common, OWN_OCTETS, READ_OCTETS, Share, Strangers};

@@ -119,9 +119,10 @@ impl Presence {
         }
     }
 
-    /// What is seen of the place, where a connection is there or isn't.
-    pub(crate) fn sight(&self, is_taken: bool) -> Sight
-        ensures { result.is_taken ≡ is_taken }
+    /// What is seen of the place, where a connection is there or isn't, and the place was relieved of it or wasn't. Its peer is not asked for.
+    pub(crate) fn sight(&self, is_taken: bool, is_relieved: bool) -> Sight
+        ensures taken { result.is_taken ≡ is_taken }
+        ensures relieved { result.is_relieved ≡ is_relieved }
     {
         Sight {
             is_taken,
@@ -130,6 +131,8 @@ impl Presence {
             is_resting: self.is_resting.load(Ordering::SeqCst),
             heard: self.heard.load(Ordering::SeqCst),
             rested: self.rested.load(Ordering::SeqCst),
+            has_hung_up: false,
+            is_relieved,
         }
     }
 }

@@ -1,10 +1,13 @@
 //! The register of the connections that are served.
 ghost use Rattle.std.specs.Prelude.{◌≡◌, ◌+◌, ◌<◌, ◌≤◌, ◌↔◌, None, Some, true, false};
-ghost use Rattle.std.specs.Prelude.{All, IfOk, IfSome, IsTrue, slice_get, slice_set, slice_range, length, vec_len, is_some};
+ghost use Rattle.std.specs.Prelude.{All, IfOk, IfSome, IfNone, IsTrue, slice_get, slice_set, slice_range, length, position, vec_len, is_some};
+ghost use Rattle.kernel_sockets.specs.Relief.{is_orphan};
 ghost use Rattle.kernel_sockets.specs.Room.{MakesRoom};
-ghost use Rattle.kernel_sockets.specs.Seen.{is_taken as is_taken_of, AreSeen};
+ghost use Rattle.kernel_sockets.specs.Seen.{is_taken as is_taken_of, is_relieved as is_relieved_of, AreSeen};
 
+use crate::hangups::Hangups;
 use crate::presence::Presence;
+use crate::relief::who_is_relieved;
 use crate::room::{Sight, Stays, who_makes_room};
 use std::alloc::{AllocError, Global};
 use std::net::{Shutdown, TcpStream};
@@ -18,9 +21,12 @@ pub type Stream = Arc<TcpStream, Global>;
 pub struct Register {
     pub streams: Vec<Option<Stream>>,
     pub is_closed: bool,
-    /// What was seen of each place when one was looked for that makes room. It is kept, so that looking takes no memory.
+    /// Of each place, whether it was relieved of its connection, which is served to its end all the same.
+    pub relieved: Vec<bool>,
+    /// What was seen of each place when one was looked for that makes room, or is relieved. It is kept, so that looking takes no memory.
     pub sights: Vec<Sight>,
     ghost all_seen: { vec_len sights ≡ vec_len streams },
+    ghost all_marked: { vec_len relieved ≡ vec_len streams },
 }
 
 impl Register {
@@ -29,6 +35,7 @@ impl Register {
         ensures open { IfOk result (λ r. r.is_closed ≡ false) }
         ensures places { IfOk result (λ r. length r.streams.items ≡ places) }
         ensures empty { IfOk result (λ r. All (λ s. s ≡ None) r.streams.items) }
+        ensures unrelieved { IfOk result (λ r. All (λ was. was ≡ false) r.relieved.items) }
     {
         let mut streams = Vec::with_capacity(alloc, places)?;
         for _ in 0..places {
@@ -37,6 +44,7 @@ impl Register {
         Ok(Register {
             streams,
             is_closed: false,
+            relieved: vec![in alloc; false; places]?,
             sights: vec![in alloc; Sight::NOBODY; places]?,
         })
     }
@@ -48,6 +56,7 @@ impl Register {
         ensures streams { IsTrue result → self.new.streams.items ≡ slice_set self.old.streams.items place (Some stream) }
         ensures refused { result ≡ false → self.new.streams.items ≡ self.old.streams.items }
         ensures closed { self.new.is_closed ≡ self.old.is_closed }
+        ensures relieved { self.new.relieved.items ≡ self.old.relieved.items }
     {
         if self.is_closed || place >= self.streams.len() {
             return false;
@@ -56,15 +65,22 @@ impl Register {
         true
     }
 
-    /// Takes the connection at a place away, where there is such a place.
-    pub fn leave(&mut self, place: usize)
+    /// Takes the connection at a place away, if there is such a place. Whether the place was relieved of it; from now on it is not.
+    pub fn leave(&mut self, place: usize) -> bool
         ensures closed { self.new.is_closed ≡ self.old.is_closed }
         ensures left { place < length self.old.streams.items → self.new.streams.items ≡ slice_set self.old.streams.items place None }
         ensures elsewhere { length self.old.streams.items ≤ place → self.new.streams.items ≡ self.old.streams.items }
+        ensures relieved { place < length self.old.streams.items → slice_get self.old.relieved.items place ≡ Some result }
+        ensures no_longer { place < length self.old.streams.items → self.new.relieved.items ≡ slice_set self.old.relieved.items place false }
+        ensures nobody { length self.old.streams.items ≤ place → result ≡ false }
     {
-        if place < self.streams.len() {
-            self.streams[place] = None;
+        if place >= self.streams.len() {
+            return false;
         }
+        self.streams[place] = None;
+        let was_relieved = self.relieved[place];
+        self.relieved[place] = false;
+        was_relieved
     }
 
     /// Whether a connection is at a place.
@@ -84,17 +100,49 @@ impl Register {
         }
     }
 
-    /// What is seen of a place. Of one of which nothing is known it is seen alone whether a connection is there.
+    /// Whether a place was relieved of its connection.
+    fn is_relieved(&self, place: usize) -> bool
+        ensures { result ≡ is_relieved_of self.now.relieved.items place }
+    {
+        match self.relieved.get(place) {
+            Some(is_relieved) => *is_relieved,
+            None => false,
+        }
+    }
+
+    /// What is seen of a place. Of one of which nothing is known it is seen alone whether a connection is there, and whether the place was relieved of it.
     fn sight(&self, presences: &[Presence], place: usize) -> Sight
-        ensures { result.is_taken ≡ is_taken_of self.now.streams.items place }
+        ensures taken { result.is_taken ≡ is_taken_of self.now.streams.items place }
+        ensures relieved { result.is_relieved ≡ is_relieved_of self.now.relieved.items place }
     {
         let is_taken = self.is_taken(place);
+        let is_relieved = self.is_relieved(place);
         match presences.get(place) {
-            Some(presence) => presence.sight(is_taken),
+            Some(presence) => presence.sight(is_taken, is_relieved),
             None => Sight {
                 is_taken,
+                is_relieved,
                 ..Sight::NOBODY
             },
+        }
+    }
+
+    /// What is seen of a place, and of a request that is under way there whether the peer has hung up. Of one of which the place was relieved that is not asked.
+    fn sight_of_peer(&self, presences: &[Presence], hangups: &mut Hangups, place: usize) -> Sight
+        ensures taken { result.is_taken ≡ is_taken_of self.now.streams.items place }
+        ensures relieved { result.is_relieved ≡ is_relieved_of self.now.relieved.items place }
+    {
+        let sight = self.sight(presences, place);
+        if !sight.is_under_way() || sight.is_relieved {
+            return sight;
+        }
+        let has_hung_up = match self.streams.get(place) {
+            Some(Some(stream)) => hangups.has_hung_up(stream),
+            _ => false,
+        };
+        Sight {
+            has_hung_up,
+            ..sight
         }
     }
 
@@ -102,10 +150,23 @@ impl Register {
     fn look(&mut self, presences: &[Presence])
         ensures streams { self.new.streams.items ≡ self.old.streams.items }
         ensures closed { self.new.is_closed ≡ self.old.is_closed }
-        ensures seen { AreSeen self.new.streams.items self.new.sights.items }
+        ensures relieved { self.new.relieved.items ≡ self.old.relieved.items }
+        ensures seen { AreSeen self.new.streams.items self.new.relieved.items self.new.sights.items }
     {
         for place in 0..self.streams.len() {
             self.sights[place] = self.sight(presences, place);
+        }
+    }
+
+    /// Looks at all places, and where a request is under way at its peer.
+    fn look_at_peers(&mut self, presences: &[Presence], hangups: &mut Hangups)
+        ensures streams { self.new.streams.items ≡ self.old.streams.items }
+        ensures closed { self.new.is_closed ≡ self.old.is_closed }
+        ensures relieved { self.new.relieved.items ≡ self.old.relieved.items }
+        ensures seen { AreSeen self.new.streams.items self.new.relieved.items self.new.sights.items }
+    {
+        for place in 0..self.streams.len() {
+            self.sights[place] = self.sight_of_peer(presences, hangups, place);
         }
     }
 
@@ -121,7 +182,8 @@ impl Register {
     ) -> Option<usize>
         ensures streams { self.new.streams.items ≡ self.old.streams.items }
         ensures closed { self.new.is_closed ≡ self.old.is_closed }
-        ensures seen { AreSeen self.new.streams.items self.new.sights.items }
+        ensures relieved { self.new.relieved.items ≡ self.old.relieved.items }
+        ensures seen { AreSeen self.new.streams.items self.new.relieved.items self.new.sights.items }
         ensures rule { first + count ≤ length self.old.streams.items
             → MakesRoom stays now (slice_range self.new.sights.items first (first + count)) result }
         ensures none { length self.old.streams.items < first + count → result ≡ None }
@@ -134,10 +196,38 @@ impl Register {
         Some(place)
     }
 
+    /// Looks at all places and at the peers of requests that are under way, and relieves one of `count` places from `first` on of its connection: the one that
+    /// `who_is_relieved` answers. Who serves it does so to its end, and another one may be served beside it from now on. The answer is its place, counted
+    /// from the first. None where no place is relieved, or where there are fewer places. It takes no memory.
+    pub fn relieve(
+        &mut self,
+        presences: &[Presence],
+        hangups: &mut Hangups,
+        first: usize,
+        count: usize,
+    ) -> Option<usize>
+        ensures streams { self.new.streams.items ≡ self.old.streams.items }
+        ensures closed { self.new.is_closed ≡ self.old.is_closed }
+        ensures seen { AreSeen self.old.streams.items self.old.relieved.items self.new.sights.items }
+        ensures rule { first + count ≤ length self.old.streams.items
+            → result ≡ position is_orphan (slice_range self.new.sights.items first (first + count)) }
+        ensures none { length self.old.streams.items < first + count → result ≡ None }
+        ensures relieved { IfSome result (λ place. self.new.relieved.items ≡ slice_set self.old.relieved.items (first + place) true) }
+        ensures same { IfNone result (self.new.relieved.items ≡ self.old.relieved.items) }
+    {
+        self.look_at_peers(presences, hangups);
+        let end = first.checked_add(count)?;
+        let row = self.sights.get(first..end)?;
+        let place = who_is_relieved(row)?;
+        self.relieved[first + place] = true;
+        Some(place)
+    }
+
     /// Lets no more connections in, and shuts those that are there.
     pub fn close(&mut self, how: Shutdown)
         ensures closed { self.new.is_closed ≡ true }
         ensures streams { self.new.streams.items ≡ self.old.streams.items }
+        ensures relieved { self.new.relieved.items ≡ self.old.relieved.items }
     {
         self.is_closed = true;
         for stream in &self.streams {

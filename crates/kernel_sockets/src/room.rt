@@ -2,6 +2,7 @@
 ghost use Rattle.std.specs.Prelude.{◌≡◌, ℕ, ◌+◌, ◌<◌, ◌≤◌, ◌↔◌, IsTrue, false, IfSome, Some, length, slice_get};
 ghost use Rattle.kernel_sockets.specs.declared.room.Sight.{Sight};
 ghost use Rattle.kernel_sockets.specs.declared.room.Stays.{Stays};
+ghost use Rattle.kernel_sockets.specs.Relief.{is_orphan};
 ghost use Rattle.kernel_sockets.specs.Room.{rank, since_of, stay_of, IsUnderWay, MayLeave, LeavesFirst, MakesRoomAmong, MakesRoom};
 
 /// How many milliseconds a connection stays at least where another one waits, by what is known of it.
@@ -30,6 +31,10 @@ pub struct Sight {
     pub heard: u64,
     /// Since when it has rested, in milliseconds.
     pub rested: u64,
+    /// Its peer has hung up. It is false where that was not asked.
+    pub has_hung_up: bool,
+    /// The place was relieved of it: it is served to its end, and doesn't count among those that are served at once.
+    pub is_relieved: bool,
 }
 
 impl Sight {
@@ -41,6 +46,8 @@ impl Sight {
         is_resting: false,
         heard: 0,
         rested: 0,
+        has_hung_up: false,
+        is_relieved: false,
     };
 
     /// Its class: those of a lower one leave first.
@@ -81,10 +88,21 @@ impl Sight {
     }
 
     /// Whether a request is under way of who showed the key.
-    fn is_under_way(self) -> bool
+    pub(crate) fn is_under_way(self) -> bool
         ensures { IsTrue result ↔ IsUnderWay self }
     {
         self.is_trusted && !self.is_resting
+    }
+
+    /// Whether it is an orphan: a request of who showed the key is under way, the peer has hung up, and the place was not relieved of it yet.
+    pub(crate) fn is_orphan(&self) -> bool
+        ensures { result ≡ is_orphan self.now }
+    {
+        self.is_taken
+            && self.is_trusted
+            && !self.is_resting
+            && self.has_hung_up
+            && !self.is_relieved
     }
 
     /// Whether it may have to make room: whether its time is over, and no request of who showed the key is under way.

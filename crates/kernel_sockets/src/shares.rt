@@ -17,9 +17,9 @@ pub const READ_OCTETS: usize = 512;
 ///
 /// What they hold by it stays below 64 MiB. An octet takes four at most: a frame is gathered in room for twice its octets, its body is a copy, and so is a
 /// prefix that is kept. That is 16 MiB. An own share takes 128 KiB at most, as 1,024 frames of a message that isn't whole: 74 KiB for their list as it
-/// grows, 32 for each with a body of its own, and the room in which they are gathered; at 160 places that is 20 MiB. The messages of one read take 34 KiB,
-/// at 160 places 5.4 MiB. The 4,096 prefixes of a subscriber take 512 KiB at most beside their octets, and those of 32 subscribers 16 MiB. All that is
-/// 57.4 MiB. What goes out is not in it, and neither is a ping that was answered, of which nothing is kept.
+/// grows, 32 for each with a body of its own, and the room in which they are gathered; of the 160 who may be strangers at once that is 20 MiB. The messages
+/// of one read take 34 KiB, of 160 at once 5.4 MiB. The 4,096 prefixes of a subscriber take 512 KiB at most beside their octets, and those of 32 subscribers
+/// 16 MiB. All that is 57.4 MiB. What goes out is not in it, and neither is a ping that was answered, of which nothing is kept.
 pub const COMMON_OCTETS: u64 = 4_194_304;
 
 /// How much strangers hold together past their own shares. Its type keeps that it is no more than there is, and that it is the sum of what each of

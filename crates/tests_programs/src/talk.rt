@@ -228,12 +228,24 @@ pub(crate) fn interrupted(alloc: Global, frontends: &mut [Frontend], row: &str) 
     Err(ErrorKind::TimedOut.into())
 }
 
+/// Asks on the second connection for one interrupt, and waits for a message on the first one: the beginning of its content.
+pub(crate) fn stopped(alloc: Global, frontends: &mut [Frontend], row: &str) -> Result<String> {
+    let (word, control) = cut(row);
+    interrupt(alloc, at(frontends, control)?)?;
+    beginning_of(alloc, at(frontends, word)?.frames()?)
+}
+
 /// Asks a number of times what the kernel is, and hears nothing: whether the kernel ends the connection meanwhile.
 pub(crate) fn flood(alloc: Global, frontends: &mut [Frontend], row: &str) -> Result<bool> {
     let (word, times) = cut(row);
     let frontend = at(frontends, word)?;
     let octets = request(alloc, KEY, "kernel_info_request", "{}")?;
     Ok(frontend.is_ended_by(&octets, number(times)))
+}
+
+/// Posts a cell on a connection, and waits for nothing.
+pub(crate) fn post(alloc: Global, frontend: &Frontend, content: &str) -> Result<()> {
+    send(alloc, frontend, KEY, "execute_request", content)
 }
 
 /// Asks for an interrupt, and hears the reply.

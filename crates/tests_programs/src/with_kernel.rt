@@ -5,7 +5,8 @@
 //! `shutdown` asks for a shutdown on a connection of its own, first under another key and then under the kernel's, and gives the content of the next
 //! message, which is the reply to the latter where the former is passed over.
 //! `open` (a socket, and a role) connects a frontend, and gives how many are connected; `fill` (a number, a socket and a role) that many, each of
-//! which the kernel becomes ready on, and `sign` that many, on each of which the kernel is then asked what it is, so that it has shown the key.
+//! which the kernel becomes ready on, and `sign` that many, on each of which the kernel is then asked what it is, so that it has shown the key. `abandon` (a
+//! number, and the content of an execution) connects that many to shell, one after another, each of which posts that and leaves before it is answered.
 //! `ready` (a frontend, and how many reads it waits) tells whether the kernel is ready there, `silent` the same whether nothing comes. `leave` (a
 //! frontend) and `clear` disconnect one, and all. `write` (a frontend, and octets) and `press` (a frontend, a number of zeros, and octets before
 //! them) write octets, the latter as far as they are taken. `send` (a frontend, a type and a content) sends a request. `reply` gives the content of
@@ -13,9 +14,9 @@
 //! status. `ask` asks what the kernel is and hears the reply, `asks` does so on each connection that there is, and gives how many there are, and `stamp`
 //! gives what the header of the reply tells, and whether it is of the session of the `stamp` before, in this block or an earlier one. `dates` (a frontend)
 //! tells whether two replies, a second apart, have different dates. `heard` (a frontend, and a subscriber) asks so until the subscriber hears of it, and
-//! `interrupt` (a frontend, and another) has the other ask for interrupts until the frontend is answered, and gives the beginning of that content. `flood`
-//! (a frontend, and a number) asks so often what the kernel is, hears nothing, and tells whether the kernel closes the connection meanwhile. `end` tells
-//! whether the kernel closes a connection, `either` whether one of two.
+//! `interrupt` (a frontend, and another) has the other ask for interrupts until the frontend is answered, and gives the beginning of that content; `stop` is
+//! the same with one interrupt. `flood` (a frontend, and a number) asks so often what the kernel is, hears nothing, and tells whether the kernel closes the
+//! connection meanwhile. `end` tells whether the kernel closes a connection, `either` whether one of two.
 //!
 //! `hold` (a number) opens that many connections to each socket on which nothing is said, and gives how many there are. `stream` (a socket, a role,
 //! and that of the kernel's end) opens a stream, and gives how many there are, where what such an end sends first comes back. `echo` (a stream, a
@@ -28,7 +29,7 @@ use crate::streams::{echoes, lapses, opened, read_to};
 use crate::talk;
 use crate::talk::{
     asked, asked_on_each, begins, clear, dates, ends, flood, hear_out, heard, interrupted, leave,
-    one_ends, place, press, ready, reply, say, silent, skip, stamped, topic, write,
+    one_ends, place, press, ready, reply, say, silent, skip, stamped, stopped, topic, write,
 };
 use crate::told::told;
 use std::alloc::Global;
@@ -112,7 +113,7 @@ where
         "await" => told(await_kernel(rt, alloc, connections.site), sheet),
         "console" => console(rt, connections.site, rest, sheet),
         "shutdown" => told(shutdown(rt, alloc, connections.site), sheet),
-        "open" | "fill" | "sign" | "hold" | "stream" => {
+        "open" | "fill" | "sign" | "abandon" | "hold" | "stream" => {
             told(connected(rt, alloc, connections, word, rest), sheet);
         }
         "stamp" => {
@@ -148,6 +149,7 @@ where
         "open" => open(rt, alloc, connections, first, second),
         "fill" => fill(rt, alloc, connections, number(first), second, false),
         "sign" => fill(rt, alloc, connections, number(first), second, true),
+        "abandon" => abandon(rt, alloc, connections, number(first), second),
         "hold" => hold_all(rt, connections, number(first)),
         _ => stream(rt, alloc, connections, rest),
     }
@@ -194,6 +196,7 @@ fn answer_heard(frontends: &mut [Frontend], word: &str, rest: &str, sheet: &mut 
         "asks" => told(asked_on_each(alloc, frontends), sheet),
         "heard" => told(heard(alloc, frontends, rest), sheet),
         "interrupt" => told(interrupted(alloc, frontends, rest), sheet),
+        "stop" => told(stopped(alloc, frontends, rest), sheet),
         "flood" => told(flood(alloc, frontends, rest), sheet),
         "end" => told(ends(frontends, rest), sheet),
         _ => told(one_ends(frontends, rest), sheet),
@@ -282,6 +285,41 @@ where
         if let Some(frontend) = connections.frontends.last_mut() {
             settle(alloc, frontend, asks)?;
         }
+    }
+    Ok(connections.frontends.len())
+}
+
+/// Connects a frontend to shell, which posts a cell and leaves.
+fn post_and_leave<R>(
+    rt: &R,
+    alloc: Global,
+    connections: &mut Connections<'_>,
+    content: &str,
+) -> Result<()>
+where
+    R: Net<Listener = TcpListener, Stream = TcpStream>,
+{
+    open(rt, alloc, connections, "shell", "dealer")?;
+    if let Some(mut frontend) = connections.frontends.pop() {
+        settle(alloc, &mut frontend, false)?;
+        talk::post(alloc, &frontend, content)?;
+    }
+    Ok(())
+}
+
+/// Connects a number of frontends to shell, one after another, each of which posts a cell and leaves: how many are connected.
+fn abandon<R>(
+    rt: &R,
+    alloc: Global,
+    connections: &mut Connections<'_>,
+    times: usize,
+    content: &str,
+) -> Result<usize>
+where
+    R: Net<Listener = TcpListener, Stream = TcpStream>,
+{
+    for _ in 0..times {
+        post_and_leave(rt, alloc, connections, content)?;
     }
     Ok(connections.frontends.len())
 }

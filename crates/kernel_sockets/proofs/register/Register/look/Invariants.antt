@@ -4,4 +4,4 @@ use Rattle.kernel_sockets.proofs.register.Register.look.Given as goal
 
 abbrev pub invariant-loop-place : goal.invariant-loop-place
 invariant-loop-place l = (l.self.streams.items ≡ l.initial.self.streams.items) × (l.self.is_closed ≡ l.initial.self.is_closed) ×
-    AreSeenBelow l.self.streams.items l.self.sights.items l.place
+    (l.self.relieved.items ≡ l.initial.self.relieved.items) × AreSeenBelow l.self.streams.items l.self.relieved.items l.self.sights.items l.place
