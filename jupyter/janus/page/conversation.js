@@ -8,6 +8,7 @@ const HEARD = ['status', 'execute_input', 'error', 'stream', 'comm_msg', 'comm_c
 const MOVES = new Set(['undo', 'redo', 'goto']);
 const SOON = 40, AGAIN = 150, HOLD = 1500, PATIENCE = 3000, WAITS = 700;      // ms
 const LOOK = 500, LOOKS = 6, MOST_LOOKS = 60;         // ms between two looks for an answer; looks until it is lost: in silence, and amid broadcasts
+const NEXT = 1000, MOST_NEXT = 20;     // ms, as many more at each look for the run after one that ends; looks
 const MOST_MISSES = 5;                  // states that came in the midst of jobs, before the first is believed all the same
 const LABEL = 2000;                     // so much of a cell's text is kept
 
@@ -19,7 +20,7 @@ class Conversation {
         this.kernel = null;
         this.comm = null;
         this.run = null;                // the session in the kernel's headers, which names its run
-        this.ask_timer = this.hold_timer = null;
+        this.ask_timer = this.hold_timer = this.end_timer = null;
         this.ask_at = this.ask_due = 0;
         this.turn = 0;                  // counts the searches for a comm
         this.questions = 0;             // counts the states that were asked for
@@ -195,6 +196,17 @@ class Conversation {
         return type === 'comm_msg' || type === 'status' && /^(busy|idle)$/.test(message.content.execution_state);
     }
 
+    // A run ends, and another may follow. What it broadcasts may be over before this page's connection has found it, and then nothing tells of it: so this
+    // page asks, ever less often, until another run answers.
+    ending(run, looks) {
+        clearTimeout(this.end_timer);
+        this.end_timer = setTimeout(() => {
+            if (this.kernel === null || this.run !== run) return;
+            this.sync();
+            if (looks < MOST_NEXT) this.ending(run, looks + 1);
+        }, looks * NEXT);
+    }
+
     // The notebook's server keeps broadcasts from the page where there are too many.
     held_back() {
         this.missing = true;
@@ -213,6 +225,7 @@ class Conversation {
     }
 
     hear_status(parent, state) {
+        if (parent.msg_type === 'shutdown_request' && this.run !== null) this.ending(this.run, 1);
         if (parent.msg_type !== 'execute_request' && parent.msg_type !== 'comm_msg') return false;
         const job = this.job(parent);
         if (state === 'idle') {

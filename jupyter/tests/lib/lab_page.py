@@ -1,6 +1,8 @@
 """What a page of JupyterLab or Notebook 7 knows and shows, and what is done in it."""
 import time
 
+from selenium.webdriver.common.keys import Keys
+
 from checks import comes, wait
 
 # The session in use, its panel of the page, and the notebook in it.
@@ -74,6 +76,20 @@ def select(page, index):
     """Selects a cell in command mode, with the focus there."""
     page.js(SELECT, index)
     time.sleep(.2)
+
+
+def edit(page, index):
+    """Selects a cell and begins to edit it, by Enter. JupyterLab 4.4 now and then drops the key's command just after the page has loaded."""
+    select(page, index)
+    for last in (False, False, True):
+        page.keys(Keys.ENTER)
+        try:
+            wait('edit mode', lambda: page.js(S + 'return nb.mode') == 'edit', 3)
+            break
+        except AssertionError:
+            if last:
+                raise
+    time.sleep(.3)
 
 
 def add(page, text, tags=()):

@@ -8,10 +8,10 @@ from selenium.webdriver.common.keys import Keys
 import tutorial
 from browser import kill_kernel
 from checks import check, comes, figure, wait
-from lab_page import (S, add, click_node, go_to, known, marked, marks, message, place, prompts, run, run_example, select, shown, source, stands,
+from lab_page import (S, add, click_node, edit, go_to, known, marked, marks, message, place, prompts, run, run_example, select, shown, source, stands,
                       words_below)
 from lab_server import READY
-from panel import BARS, LOSE
+from panel import BARS, DEAF, LOSE
 
 BUTTONS = ['Undo', 'Redo', 'Backwards', 'Steps', 'History']
 FORWARD = ['x1 = 5', 'x2 = 8', 'n = 0']
@@ -57,9 +57,7 @@ def colours(stage):
     select(page, index)
     comes('a comment is one token', lambda: (any(it.startswith('// if') for it in page.js(TOKENS, '.jp-Notebook')), page.js(TOKENS, '.jp-Notebook')))
     index = add(page, '')
-    select(page, index)
-    page.keys(Keys.ENTER)
-    time.sleep(.3)
+    edit(page, index)
     page.keys('if n = 0 then', Keys.ENTER, 'x1 += 1', Keys.ENTER, 'fi')
     comes('the next line is indented, and fi stands out again', lambda: (source(page, index) == 'if n = 0 then\n    x1 += 1\nfi', source(page, index)))
     page.keys(Keys.CONTROL, '/', Keys.NULL)
@@ -246,9 +244,7 @@ def keyboard(stage):
     time.sleep(.3)
     page.keys('u')
     stands(page, 2, 4, WORLD, 'Escape leads back to the notebook')
-    select(page, 2)
-    page.keys(Keys.ENTER)
-    time.sleep(.3)
+    edit(page, 2)
     page.keys('uw')
     time.sleep(.5)
     check(known(page)['position'] == 2 and 'uw' in source(page, 2), 'in edit mode they are letters', source(page, 2))
@@ -258,9 +254,7 @@ def completion(stage):
     page = stage.page
     run(page, 1)
     index = add(page, 'unc')
-    select(page, index)
-    page.keys(Keys.ENTER)
-    time.sleep(.3)
+    edit(page, index)
     page.keys(Keys.END, Keys.TAB)
     offered = 'return /uncall/.test((document.querySelector(".jp-Completer") || {}).textContent)'
     wait('the list of completions', lambda: source(page, index) == 'uncall' or page.js(offered))
@@ -681,6 +675,12 @@ def second_page(stage):
     stands(page, 0, 0, [], 'after a restart the first stands at node 0', 120)
     stands(other, 0, 0, [], 'and so does the second, which nobody told', 60)
     marked(other, ['gone'] * 4, 'its cells are from an earlier run')
+    run(page, 1)
+    stands(other, 1, 1, ZEROS, 'it hears what the next run does')
+    other.js(S + 'var it = s.conversation; ' + DEAF)
+    page.js(S + 'panel.sessionContext.session.kernel.restart()')
+    stands(page, 0, 0, [], 'after another restart the first stands at node 0', 120)
+    stands(other, 0, 0, [], 'and so does the second, which heard nothing of the next run', 60)
 
 
 def other_kernel(stage):

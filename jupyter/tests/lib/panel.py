@@ -21,6 +21,10 @@ MARKS = '''return Jupyter.notebook.get_cells().filter(function (it) { return it.
 LOSE = '''var hear = it.hear, lost = null; it.hear = function (message, type) { var of = (message.parent_header || {}).msg_id;
     if (lost === null && it.asked && of === it.asked.id) lost = of;
     return of === lost || hear.call(it, message, type); }'''
+# The same: of another run only what this page asks for is heard.
+DEAF = '''var hear = it.hear; it.hear = function (message, type) {
+    var is_other = message.header.session !== it.run && (message.parent_header || {}).session !== it.kernel.session_id;
+    return !is_other && hear.call(it, message, type); }'''
 TOKENS = '''var cm = Jupyter.notebook.get_cell(arguments[0]).code_mirror, out = []; cm.eachLine(function (l) {
     cm.getLineTokens(cm.getLineNumber(l), true).forEach(function (t) { if (t.type) out.push(t.string + ':' + t.type); }); }); return out'''
 

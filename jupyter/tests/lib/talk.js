@@ -38,6 +38,7 @@ class Talk {
     constructor(clock, run_time, lag) {
         Object.assign(this, {clock: clock, run_time: run_time, lag: lag, way: () => WAY, tree: new Kernel()});
         this.count = this.asked = 0;
+        this.run = 'run';
         this.jobs = [];
         this.is_busy = false;
         this.handlers = new Map();      // of the page
@@ -68,9 +69,14 @@ class Talk {
     move(frontend, op, n) { return this.send(frontend, 'comm_msg', {data: {op: op, n: n}}); }
 
     broadcast(job, type, content) {
-        const message = {header: {session: 'run', msg_type: type}, parent_header: job.parent, content: content};
+        const message = {header: {session: this.run, msg_type: type}, parent_header: job.parent, content: content};
         this.clock.setTimeout(() => { if (this.handlers.has(type)) this.handlers.get(type)(message); }, this.way());
         job.frontend.heard(message);
+    }
+
+    // Another run begins.
+    renew(run) {
+        Object.assign(this, {run: run, tree: new Kernel(), count: 0, jobs: [], is_busy: false});
     }
 
     serve(frontend) {
@@ -87,7 +93,7 @@ class Talk {
             if (!this.is_busy) this.work();
         } else if (type === 'comm_msg') this.end(job, [['comm_msg', {data: Object.assign(this.tree.state(), {busy: this.is_busy})}]], 0);
         else {
-            if (job.replied) job.replied({header: {session: 'run'}, content: {comms: {}, history: []}});
+            if (job.replied) job.replied({header: {session: this.run}, content: {comms: {}, history: []}});
             this.end(job, [], 0);
         }
     }
