@@ -32,7 +32,7 @@ try:
     from janus_lexer import JanusLexer
     from janus_lexer.cells import RUN, VERSION, placed
     from janus_lexer.refusals import REFUSALS
-    from janus_lexer.slips import meant
+    from janus_lexer.slips import meant, word
     from janus_lexer.tree import Tree
 except ImportError as missing:
     sys.exit(f"janus-repl: {missing}; Debian's jupyter-console brings what it needs")
@@ -200,17 +200,18 @@ def place(code, octet):
     return line + 1, len(before) - before.rfind('\n'), code.split('\n')[line]
 
 
-def explain(line, code, above=0):
-    """A refusal or a fault in words, and the place under its line; so many lines of a file stand above the text."""
+def explain(line, code, above=0, earlier=()):
+    """A refusal or a fault in words, and the place under its line; so many lines of a file stand above the text, and these cells ran before it."""
     say(('ansired', line))
     found = REFUSED.match(line) or FAULT.match(line)
     if not found or int(found[1]) not in REFUSALS:
         return
     advice = REFUSALS[int(found[1])][1]
     if found.re is REFUSED and found[2] is not None:
-        row, column, text = place(code, int(found[2]))
         at = len(code.encode()[:int(found[2])].decode(errors='ignore'))
-        say(f'line {above + row}, column {column}: {meant(int(found[1]), code, at) or advice}')
+        begin = word(int(found[1]), code, at)
+        row, column, text = place(code, int(found[2]) if begin is None else len(code[:begin].encode()))
+        say(f'line {above + row}, column {column}: {meant(int(found[1]), code, at, earlier) or advice}')
         say('  ' + text)
         say(('ansired', '  ' + re.sub(r'[^\t]', ' ', text[:column - 1]) + '^'))
     else:
