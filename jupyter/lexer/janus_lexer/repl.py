@@ -33,7 +33,7 @@ try:
     from janus_lexer.cells import RUN, VERSION, placed
     from janus_lexer.refusals import REFUSALS
     from janus_lexer.slips import meant, word
-    from janus_lexer.tree import Tree
+    from janus_lexer.tree import MOVES, Heard, Tree
 except ImportError as missing:
     sys.exit(f"janus-repl: {missing}; Debian's jupyter-console brings what it needs")
 
@@ -49,7 +49,7 @@ LOAD = re.compile(r'%load\s+(\S.*)')
 REFUSED = re.compile(r'refused (\d+) \w+(?: at (\d+)\.\.(\d+))?$')
 FAULT = re.compile(r'fault (\d+) \w+ after \d+$')
 MOST_INPUTS = 500               # so many cells of the kernel's history are looked at by a console that joins
-MOVES = ('undo', 'redo', 'goto')
+PATIENCE = 3                    # seconds in which broadcasts that are on their way come, or are lost
 
 
 class Ended(Exception):
@@ -60,6 +60,8 @@ class Desk:
     """The kernel behind one thread, so that no call meets the event loop of the prompt. The control socket is the main thread's."""
     def __init__(self, file):
         self.manager, self.comm, self.is_stopping, self.others = None, uuid.uuid4().hex, False, []
+        self.tree = Tree()
+        self.news, self.untaken = Heard(self.tree), None                  # since when no state could be taken
         self.thread = ThreadPoolExecutor(max_workers=1)
         signal.signal(signal.SIGINT, self.stop)
         if file is None:
@@ -100,20 +102,25 @@ class Desk:
         return message['header']['msg_id']
 
     def note(self, message):
-        """Keeps a move of another frontend."""
+        """Takes what a broadcast tells, and keeps a move of another frontend."""
+        self.news.hear(message)
         data = message['content'].get('data', {})
         is_other = message['parent_header'].get('session') != self.client.session.session and message['msg_type'] == 'comm_msg'
         if is_other and data.get('op') in MOVES and data.get('undone', 0) + data.get('redone', 0) > 0:
             self.others.append(data)
 
-    def listen(self):
-        """The moves of other frontends that were heard, up to now."""
+    def hear(self):
+        """Takes the broadcasts that have come."""
         until = time.monotonic() + 1
         while time.monotonic() < until:
             try:
                 self.note(self.client.get_iopub_msg(timeout=0))
             except Empty:
                 break
+
+    def listen(self):
+        """The moves of other frontends that were heard, up to now."""
+        self.hear()
         found, self.others = self.others, []
         return found
 
@@ -138,6 +145,23 @@ class Desk:
         asked = self.send('comm_msg', {'comm_id': self.comm, 'data': data})
         return [content['data'] for _, content in self.heard(asked, ('comm_msg',))][0]
 
+    def state(self, patience=.5):
+        """The kernel's state. The tree takes it; where it doesn't fit, broadcasts may be on their way, and it is asked for again. No cell is waited for."""
+        until = time.monotonic() + patience
+        while True:
+            self.hear()
+            self.news.asks()
+            state, now = self.ask({'op': 'state'}), time.monotonic()
+            if self.news.takes(state) or state['busy']:
+                self.untaken = None
+                return state
+            self.untaken = self.untaken or now
+            if now > self.untaken + PATIENCE:
+                self.news.gives_up()
+            if now > until:
+                return state
+            time.sleep(.1)
+
     def run(self, code):
         asked = self.send('execute_request', {'code': code, 'silent': False})
         return list(self.heard(asked, ('execute_input', 'execute_result', 'error')))
@@ -160,14 +184,14 @@ class Desk:
         Cells that failed are in the history too. Those of which the text is no cell are left out; where there are others, or where cells were
         silent, there are not as many texts as nodes.
         """
-        state = self.ask({'op': 'state'})
+        state = self.state(PATIENCE)
         inputs = self.reply('history_request', {'hist_access_type': 'tail', 'output': False, 'raw': True, 'n': MOST_INPUTS}).get('history', [])
         texts = [text for _, _, text in inputs]
         if state['busy'] or [count for _, count, _ in inputs] != list(range(1, len(inputs) + 1)) or not state['nodes'] <= len(inputs) < MOST_INPUTS:
             return state, []
         if len(texts) > state['nodes']:
             texts = [it for it in texts if self.reply('is_complete_request', {'code': it}).get('status') == 'complete']
-        is_same = all(now == state[name] for name, now in self.ask({'op': 'state'}).items())
+        is_same = all(now == state[name] for name, now in self.state().items())
         return state, texts if is_same and len(texts) == state['nodes'] else []
 
     def close(self):
@@ -228,9 +252,8 @@ def way(answer):
 
 class Console:
     def __init__(self, desk):
-        self.desk, self.tree, self.count = desk, Tree(), 1
-        state, texts = desk.wait(desk.texts)
-        self.tree.see(state)
+        self.desk, self.tree, self.count = desk, desk.tree, 1
+        _, texts = desk.wait(desk.texts)
         self.tree.told(texts)
         self.session = PromptSession(message=lambda: [('ansigreen', f'[{self.count}] ')], lexer=PygmentsLexer(JanusLexer), multiline=True,
                                      completer=Names(desk), complete_while_typing=False, key_bindings=self.keys(), prompt_continuation='... ')
@@ -293,8 +316,7 @@ class Console:
             if answer['status'] == 'refused':
                 return explain(f'refused {answer["number"]} {answer["name"]}', '')
             say(f'undone {answer["undone"]}, redone {answer["redone"]}' + ('' if answer['end'] == 'all' else f' ({answer["end"]})'))
-        state = self.desk.wait(self.desk.ask, {'op': 'state'})
-        self.tree.see(state)
+        state = self.desk.wait(self.desk.state, PATIENCE + 1 if name == 'tree' else .5)
         if name == 'tree':
             return [say(*it) for it in self.tree.rows()]
         say(('bold', f'at node {state["node"]}' + (', and a cell is running' if state['busy'] else '')))
@@ -302,18 +324,16 @@ class Console:
 
     def cell(self, text, above=0):
         """Runs a cell. Answers the error's line, or None, and the node where the kernel is."""
-        before, failed = self.desk.wait(self.desk.ask, {'op': 'state'}), None
-        self.tree.see(before)
+        failed = None
         for kind, content in self.desk.wait(self.desk.run, text):
             if kind == 'execute_input':
                 self.count = content['execution_count'] + 1
             elif kind == 'error':
                 failed = content['evalue']
-                explain(failed, text, above)
+                explain(failed, text, above, self.tree.codes())
             else:
                 say(content['data']['text/plain'])
-        self.tree.ran(before, self.desk.wait(self.desk.ask, {'op': 'state'}), text)
-        return failed, self.tree.position
+        return failed, self.desk.wait(self.desk.state)['node']
 
     def load(self, path):
         """Runs a file of cells, and says which were refused or failed. Ctrl-C leaves it."""
@@ -322,7 +342,7 @@ class Console:
                 parts = placed(file.read())
         except (OSError, ValueError) as error:
             return say(('ansired', f'{path}: {getattr(error, "strerror", None) or "no text"}'))
-        nodes, ran, bad = [self.desk.wait(self.desk.ask, {'op': 'state'})['node']], 0, []
+        nodes, ran, bad = [self.desk.wait(self.desk.state)['node']], 0, []
         for kind, source, row in parts:
             if kind == 'commands':
                 for line in source.split('\n'):
