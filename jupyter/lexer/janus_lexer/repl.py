@@ -49,6 +49,8 @@ LOAD = re.compile(r'%load\s+(\S.*)')
 REFUSED = re.compile(r'refused (\d+) \w+(?: at (\d+)\.\.(\d+))?$')
 FAULT = re.compile(r'fault (\d+) \w+ after \d+$')
 MOST_INPUTS = 500               # so many cells of the kernel's history are looked at by a console that joins
+WANTS = {'undo': 'how many cells, as in %undo 2, or nothing', 'redo': 'how many cells, as in %redo 2, or nothing',
+         'goto': 'the number of a node, as in %goto 3', 'load': 'the name of a file', **dict.fromkeys(('show', 'tree', 'help'), 'nothing after it')}
 PATIENCE = 3                    # seconds in which broadcasts that are on their way come, or are lost
 
 
@@ -304,11 +306,19 @@ class Console:
         if not text.strip():
             return None
         if text.lstrip().startswith('%'):
-            return print(HELP)
+            return self.wrong(text.strip())
         return self.cell(text.rstrip())
 
+    def wrong(self, text):
+        """Says what is wrong with a command, and then which there are."""
+        name = text.split()[0]
+        say(('ansired', f'{name} takes {WANTS[name[1:]]}' if name[1:] in WANTS else f'no command {name}'))
+        print(HELP)
+
     def command(self, name, number):
-        if name == 'help' or name == 'goto' and number is None:
+        if name == 'goto' and number is None or name not in MOVES and number is not None:
+            return self.wrong('%' + name)
+        if name == 'help':
             return print(HELP)
         if name in MOVES:
             asked = {'op': name, 'n': int(number) if number else 1}
