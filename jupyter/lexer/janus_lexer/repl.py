@@ -43,6 +43,7 @@ HELP = '''%undo [K]   take K cells back, the newest first      %goto N   go to n
 %load FILE  run the cells of a file for janus-cells
 A text that is not complete goes on; a blank line ends it. Alt-Enter always begins a new line.
 Ctrl-C clears the line, or stops the running cell, which is then taken back; Ctrl-D leaves.'''
+CELL = 'your cell'
 RUNS = f'{RUN} ends a cell in a file for janus-cells; here Enter runs it, and %load FILE runs such a file'
 COMMAND = re.compile(r'%(undo|redo|goto|show|tree|help)(?:\s+(\d{1,10}))?\s*$')
 LOAD = re.compile(r'%load\s+(\S.*)')
@@ -51,6 +52,7 @@ FAULT = re.compile(r'fault (\d+) \w+ after \d+$')
 MOST_INPUTS = 500               # so many cells of the kernel's history are looked at by a console that joins
 WANTS = {'undo': 'how many cells, as in %undo 2, or nothing', 'redo': 'how many cells, as in %redo 2, or nothing',
          'goto': 'the number of a node, as in %goto 3', 'load': 'the name of a file', **dict.fromkeys(('show', 'tree', 'help'), 'nothing after it')}
+PAUSE = 1                       # seconds after which it is said what is waited for
 PATIENCE = 3                    # seconds in which broadcasts that are on their way come, or are lost
 
 
@@ -64,6 +66,7 @@ class Desk:
         self.manager, self.comm, self.is_stopping, self.others = None, uuid.uuid4().hex, False, []
         self.tree = Tree()
         self.news, self.untaken = Heard(self.tree), None                  # since when no state could be taken
+        self.asked, self.busy_at = None, None                             # the job that runs or waits; how much had been heard when another ran
         self.thread = ThreadPoolExecutor(max_workers=1)
         signal.signal(signal.SIGINT, self.stop)
         if file is None:
@@ -82,17 +85,34 @@ class Desk:
         self.client.wait_for_ready(timeout=30)
         self.send('comm_open', {'comm_id': self.comm, 'target_name': 'janus.undo', 'data': {}})
 
-    def wait(self, work, *given):
-        """What the work answers. Ctrl-C meanwhile interrupts what the kernel runs."""
-        future = self.thread.submit(work, *given)
+    def wait(self, work, *given, name=None):
+        """What the work answers. Ctrl-C meanwhile interrupts what the kernel runs. If the job has a name, it is said what is waited for."""
+        future, begun, said = self.thread.submit(work, *given), time.monotonic(), None
         while True:
             try:
                 return future.result(.2)
             except NotYet:
                 pass
+            is_behind = self.is_behind()
+            if name and said != is_behind and time.monotonic() > begun + PAUSE:
+                remark(f"waiting for another frontend's cell; Ctrl-C stops that cell, and {name} is then done" if is_behind else
+                       'running; Ctrl-C stops it' if name == CELL else f'{name} is running; Ctrl-C ends it between two cells')
+                said = is_behind
             if self.is_stopping:
                 self.is_stopping = False
                 self.client.control_channel.send(self.client.session.msg('interrupt_request', {}))
+                if name:
+                    remark('taking that cell back' if is_behind else 'taking it back' if name == CELL else f'{name} ends at the next cell')
+                    said = is_behind
+
+    def is_behind(self):
+        """Whether the job that was sent last waits for one of another frontend."""
+        for asked, job in list(self.news.jobs.items()):
+            if asked == self.asked:
+                break
+            if job.session != self.client.session.session:
+                return True
+        return self.busy_at == self.news.clock
 
     def stop(self, *_):
         """Hears Ctrl-C, but at the prompt, where it is a key."""
@@ -164,8 +184,19 @@ class Desk:
                 return state
             time.sleep(.1)
 
+    def job(self, kind, content):
+        """Sends a cell or a move, which other jobs may come before."""
+        state = self.state(0)
+        self.untaken, self.asked, self.busy_at = None, None, self.news.clock if state['busy'] else None
+        self.asked = self.send(kind, content)
+        return self.asked
+
+    def move(self, data):
+        asked = self.job('comm_msg', {'comm_id': self.comm, 'data': data})
+        return [content['data'] for _, content in self.heard(asked, ('comm_msg',))][0]
+
     def run(self, code):
-        asked = self.send('execute_request', {'code': code, 'silent': False})
+        asked = self.job('execute_request', {'code': code, 'silent': False})
         return list(self.heard(asked, ('execute_input', 'execute_result', 'error')))
 
     def reply(self, kind, content):
@@ -213,6 +244,10 @@ class Names(Completer):
         found = self.desk.wait(self.desk.reply, 'complete_request', {'code': text, 'cursor_pos': document.cursor_position})
         for it in found.get('matches', []):
             yield Completion(it, start_position=found['cursor_start'] - document.cursor_position)
+
+
+def remark(line):
+    print('\r' + line, file=sys.stderr, flush=True)                       # over the sign for Ctrl-C that the terminal wrote
 
 
 def say(*parts):
@@ -322,7 +357,7 @@ class Console:
             return print(HELP)
         if name in MOVES:
             asked = {'op': name, 'n': int(number) if number else 1}
-            answer = self.desk.wait(self.desk.ask, asked)
+            answer = self.desk.wait(self.desk.move, asked, name='%' + name)
             if answer['status'] == 'refused':
                 return explain(f'refused {answer["number"]} {answer["name"]}', '')
             say(f'undone {answer["undone"]}, redone {answer["redone"]}' + ('' if answer['end'] == 'all' else f' ({answer["end"]})'))
@@ -335,7 +370,7 @@ class Console:
     def cell(self, text, above=0):
         """Runs a cell. Answers the error's line, or None, and the node where the kernel is."""
         failed = None
-        for kind, content in self.desk.wait(self.desk.run, text):
+        for kind, content in self.desk.wait(self.desk.run, text, name=CELL):
             if kind == 'execute_input':
                 self.count = content['execution_count'] + 1
             elif kind == 'error':
