@@ -45,6 +45,7 @@ A text that is not complete goes on; a blank line ends it. Alt-Enter always begi
 Ctrl-C clears the line, or stops the running cell, which is then taken back; Ctrl-D leaves.'''
 CELL = 'your cell'
 RUNS = f'{RUN} ends a cell in a file for janus-cells; here Enter runs it, and %load FILE runs such a file'
+STEPS = "to see its steps, in a shell: 'janus-save-session FILE', add a line %% and this cell at the file's end, then 'janus-steps-screen FILE'"
 COMMAND = re.compile(r'%(undo|redo|goto|show|tree|help)(?:\s+(\d{1,10}))?\s*$')
 LOAD = re.compile(r'%load\s+(\S.*)')
 REFUSED = re.compile(r'refused (\d+) \w+(?: at (\d+)\.\.(\d+))?$')
@@ -289,7 +290,7 @@ def way(answer):
 
 class Console:
     def __init__(self, desk):
-        self.desk, self.tree, self.count = desk, desk.tree, 1
+        self.desk, self.tree, self.count, self.is_told = desk, desk.tree, 1, False
         _, texts = desk.wait(desk.texts)
         self.tree.told(texts)
         self.session = PromptSession(message=lambda: [('ansigreen', f'[{self.count}] ')], lexer=PygmentsLexer(JanusLexer), multiline=True,
@@ -376,9 +377,16 @@ class Console:
             elif kind == 'error':
                 failed = content['evalue']
                 explain(failed, text, above, self.tree.codes())
+                self.stepping(failed)
             else:
                 say(content['data']['text/plain'])
         return failed, self.desk.wait(self.desk.state)['node']
+
+    def stepping(self, failed):
+        """Says once how to see the steps of a cell that failed."""
+        if failed.startswith('fault') and not self.is_told:
+            self.is_told = True
+            say(STEPS)
 
     def load(self, path):
         """Runs a file of cells, and says which were refused or failed. Ctrl-C leaves it."""
