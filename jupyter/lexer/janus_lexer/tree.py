@@ -244,7 +244,7 @@ class Heard:
     def __init__(self, tree):
         self.tree, self.jobs, self.held = tree, {}, {}                    # jobs that haven't ended; cells that were heard before one with a lower count
         self.clock, self.count, self.unsure = 0, 0, 0                     # ends of jobs; the highest count; moves of which it isn't known where they began
-        self.early, self.asked, self.is_missing, self.is_doubted = [], 0, False, False
+        self.early, self.asked, self.is_missing, self.doubted = [], 0, False, None  # doubted: the last state, if it wasn't taken
         self.silent, self.spoken, self.moves = 0, 0, 0                    # silent cells, other jobs, and moves among these since the last state
 
     def hear(self, message):
@@ -305,14 +305,15 @@ class Heard:
 
     def takes(self, state):
         """Whether a state was taken: where nothing ended between its question and its answer, and nothing is open. One that isn't what was expected
-        is taken when it comes again."""
+        is taken when the same comes again."""
         is_quiet = self.asked == self.clock and not state['busy'] and not self.jobs and not self.held
         if is_quiet:
             self.silent_cells(state)
         is_odd = is_quiet and self.tree.is_known and not self.tree.expects(state)
-        is_taken = is_quiet and (not is_odd or self.is_doubted) or state['busy'] and not self.tree.is_known
+        seen = [state[name] for name in ('node', 'depth', 'redo', 'nodes')]
+        is_taken = is_quiet and (not is_odd or self.doubted == seen) or state['busy'] and not self.tree.is_known
         if is_quiet:
-            self.is_doubted = is_odd and not is_taken
+            self.doubted = seen if is_odd and not is_taken else None
         if is_taken:
             self.take(state, is_quiet)
         return is_taken
