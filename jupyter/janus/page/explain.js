@@ -22,6 +22,13 @@ function place(code, from_octet, to_octet) {
     return {from: from, to: to, begin: begin, line: lines.length, column: Array.from(lines[lines.length - 1]).length + 1};
 }
 
+// The same of a word, {from, to}, or null.
+function of_word(code, word) {
+    if (word === null) return null;
+    const lines = code.slice(0, word.from).split('\n'), column = Array.from(lines[lines.length - 1]).length + 1;
+    return {from: word.from, to: word.to, begin: word.from, line: lines.length, column: column};
+}
+
 // Of a statement that looks alone and belongs to a procedure.
 function belongs(it, so) {
     return 'Line ' + it.line + ' belongs to the procedure \'' + it.name + '\', which goes on to the next procedure or to the end of the cell' + so +
@@ -40,13 +47,14 @@ function belongs_at(code, at) {
     return it && it.at <= at ? ' ' + belongs(it, '') : '';
 }
 
-// What an error of a cell says: {text, place, kind}, where place is null where the line has none.
-function error(line, code) {
+// What an error of a cell says: {text, place, kind}, where place is null where the line has none. `earlier` are the texts of cells before this one.
+function error(line, code, earlier = []) {
     const refused = REFUSED.exec(line), fault = FAULT.exec(line), interrupted = INTERRUPTED.exec(line);
     if (refused && refused[3] !== undefined) {
-        const at = place(code, Number(refused[3]), Number(refused[4]));
-        const where = 'Line ' + at.line + ', column ' + at.column + ': ', words = slips.meant(refused[1], code, at.begin) || advice(refused[1]);
-        return {text: where + words + ' (' + refused[1] + ' ' + refused[2] + '). Nothing has run.' + belongs_at(code, at.begin), place: at};
+        const at = place(code, Number(refused[3]), Number(refused[4])), shown = of_word(code, slips.word(refused[1], code, at.begin)) || at;
+        const where = 'Line ' + shown.line + ', column ' + shown.column + ': ';
+        const words = slips.meant(refused[1], code, at.begin, earlier) || advice(refused[1]);
+        return {text: where + words + ' (' + refused[1] + ' ' + refused[2] + '). Nothing has run.' + belongs_at(code, at.begin), place: shown};
     }
     if (refused) return {text: capital(advice(refused[1])) + ' (' + refused[1] + ' ' + refused[2] + '). Nothing was done.', place: null};
     if (fault) return {text: capital(advice(fault[1])) + ' (' + fault[1] + ' ' + fault[2] + '), ' + taken_back(fault[3]), place: null};

@@ -308,6 +308,12 @@ class History {
         return this.found;
     }
 
+    // The texts that are known of the cells on the path, the oldest first.
+    codes() {
+        const labels = this.path().on.map(n => this.label[n]);
+        return labels.filter(function (it) { return it !== null; }).map(function (it) { return it.code; });
+    }
+
     gap_over(node) {
         const link = this.links.find(function (it) { return it[0] === node; });
         return link || [node, 0, -1];

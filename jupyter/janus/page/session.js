@@ -118,7 +118,7 @@ class Session {
     cell_ended(job, node) {
         const cell = this.marks.cell(job.id);
         if (!cell) return;
-        const said = job.failed ? explain.error(job.line, job.code) : explain.ran(job.code);
+        const said = job.failed ? explain.error(job.line, job.code, this.history.codes()) : explain.ran(job.code);
         this.marks.began(cell);
         if (said) this.places.show(cell, said, job.code);
         if (!job.failed) this.marks.ran(cell, node);

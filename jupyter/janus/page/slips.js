@@ -1,5 +1,5 @@
-// What is probably meant where a text is refused with 30 or 31, and which of its causes 40 to 43 has: by what stands at the place, its neighbours and
-// what is open. No parser; where nothing better than the guide's table is known the answer is null.
+// What is probably meant where a text is refused with 30 or 31, which of its causes 40 to 43 has, and what 45 counts: by what stands at the place, its
+// neighbours and what is open. No parser; where nothing better than the guide's table is known the answer is null.
 define([], function () {
 'use strict';
 
@@ -13,6 +13,7 @@ const PROCEDURE = 'a procedure begins with `procedure`', READS = 'a cell reads n
 const LENGTH = 'no function gives a length: an array has that of its declaration, and `empty(s)` is 1 if the stack `s` is empty';
 const BLOCK = 'words such as `then` and `fi` enclose statements, so leave it out';
 const IMPORT = 'nothing can be imported; the procedures of earlier cells can be called';
+const ELSE_IF = 'write `else if .. fi .. fi ..`: each `if` has its own `fi`, with a second test';
 const COMMAND = 'commands such as `%undo 1` are lines for janus-cells and janus-repl: here press Undo';
 const FOREIGN = {
     while: LOOP, for: LOOP, repeat: LOOP, print: SHOWN, printf: SHOWN, show: SHOWN, write: SHOWN,
@@ -20,7 +21,7 @@ const FOREIGN = {
     undo: 'here press Undo', redo: 'here press Redo',
     return: 'a procedure returns nothing: it changes its parameters', def: PROCEDURE, function: PROCEDURE, proc: PROCEDURE,
     and: 'write `&&`', or: 'write `||`', not: 'compare with 0, as in `y = 0`', mod: 'write `%`', div: 'write `/`', true: 'write 1', false: 'write 0',
-    end: '`if` ends with `fi`, `from` with `until`', endif: '`if` ends with `fi` and its second test', elif: 'write `else if .. fi ..`, each with its own `fi`',
+    end: '`if` ends with `fi`, `from` with `until`', endif: '`if` ends with `fi` and its second test', elif: ELSE_IF, elseif: ELSE_IF, elsif: ELSE_IF,
     var: 'write `int` or `stack`', let: 'write `int` or `stack`', bool: 'write `int`: 0 is false', float: 'numbers are whole: write `int`',
     IF: SMALL, If: SMALL, FROM: SMALL, From: SMALL, PROCEDURE: SMALL, Procedure: SMALL, CALL: SMALL, LOCAL: SMALL, INT: SMALL, Int: SMALL,
 };
@@ -43,7 +44,8 @@ const CHARACTERS = {
     '{': 'there are no braces: words such as `fi`, `until` and `delocal` close what is open', '}': 'there are no braces: words such as `fi` close what is open',
     '"': TEXTS, '\'': TEXTS, '`': TEXTS, '\u201c': TEXTS, '\u201d': TEXTS, '\u2018': TEXTS, '\u2019': TEXTS, '#': 'a comment begins with `//`',
     '\\': 'a statement may go on over several lines without this sign: leave it out', '!': 'there is no `!`: compare with 0, as in `y = 0`',
-    '~': 'there is no `~`: `-1 ^ y` flips all bits of `y`', '.': 'numbers are whole: leave out the point', _: 'a name begins with a letter',
+    '~': 'there is no `~`: `-1 ^ y` flips all bits of `y`', _: 'a name begins with a letter',
+    '.': 'numbers are whole: leave out the point and the digits after it',
     '\u00a0': 'this is not a plain space, perhaps because it was copied from a page: type it again',
     '\u200b': 'there is an invisible character here: remove it',
     '\ufeff': 'there is an invisible character (a BOM) here: remove it', '\u00d7': 'multiply by `*`', '\u2212': 'this minus is another character: type `-`',
@@ -88,12 +90,18 @@ function foreign(it) {
     if (it.index === 0 && it.here === '%') return COMMAND;
     if (['/*', '(*'].includes(it.here + it.after) || it.before + it.here === '/*' || it.here + it.after === '--' && it.index === 0)
         return 'a comment begins with `//`';
+    const word = it.text(foreign_word(it));
+    return word ? '`' + word + '` is not a word of Janus: ' + FOREIGN[word] : null;
+}
+
+// Where a word of another language is: at the place, or before it; otherwise NaN.
+function foreign_word(it) {
     for (const k of [0, -1]) {
         const word = it.text(k), ahead = it.text(k - 1);
         const is_used = ['call', 'uncall', 'procedure', 'int', 'stack', '(', ',', '['].includes(ahead) || is_change(it.text(k + 1)) || it.text(k + 1) === '=';
-        if (own(FOREIGN, word) && !is_used) return '`' + word + '` is not a word of Janus: ' + FOREIGN[word];
+        if (own(FOREIGN, word) && !is_used) return k;
     }
-    return null;
+    return NaN;
 }
 
 function number(it) {
@@ -101,6 +109,11 @@ function number(it) {
     if (hexadecimal && it.earlier === '0') return 'there are no hexadecimal numbers: `0' + it.before + '` is ' + parseInt(hexadecimal[1], 16);
     if (it.here === ',' && is_number(it.before) && is_number(it.after))
         return it.inner === '[' ? 'an array has one index' : 'a number is written without a comma: `' + it.before + it.after + '`';
+    const exponent = /^[eE]([0-9]*)$/.exec(it.before || ''), end = exponent && it.index > 1 ? it.all[it.index - 2] : null;
+    if (end && is_number(end.text) && end.at + end.text.length === it.all[it.index - 1].at) {
+        const value = exponent[1] ? end.text * 10 ** exponent[1] : Infinity;
+        return 'a number has only digits' + (value < 2 ** 31 ? ': `' + end.text + it.before + '` is ' + value : ', and no exponent');
+    }
     if (is_number(it.here) && is_name(it.after) && (it.before === 'int' || it.before === 'stack')) return 'a name begins with a letter';
     return null;
 }
@@ -131,6 +144,8 @@ function operator(it) {
     if (it.here === '*' && it.before === '*') return 'there are no powers: multiply';
     if (it.here === '+' && /^[-+*/%(=<>]$/.test(it.before || '')) return 'a number has no sign `+`: leave it out';
     if (it.here === '>' && it.before === '<') return 'write `!=` for different';
+    if (it.before === '<=>' && is_number(it.here) || is_number(it.here) && it.after === '<=>')
+        return '`<=>` swaps two variables, and `' + it.here + '` is none: put it into a variable or a local first';
     if (it.here === '<=>' && it.before === ']' || it.before === '<=>' && it.here && !is_name(it.here) || it.here === '[' && it.earlier === '<=>')
         return '`<=>` swaps variables, not elements: use two locals, as examples/sort does';
     return null;
@@ -149,7 +164,12 @@ function declaration(it) {
     if (it.here === '[' && is_name(it.before) && it.text(-3) === 'local') return 'there are no local arrays: use a parameter, or a local stack';
     if (is_name(it.before) && it.earlier === 'int' && it.text(-3) === 'local') return 'a local begins with a value: `local int ' + it.before + ' = 0`';
     if (is_name(it.before) && it.earlier === 'stack' && it.text(-3) === 'local') return 'a local stack begins empty: `local stack ' + it.before + ' = nil`';
-    if (it.before === '[' && is_name(it.here) && it.text(-3) === 'int') return 'the length of an array is a number';
+    if (it.before === '=' && it.text(-3) === 'stack' && it.text(-4) === 'local')
+        return '`nil` is needed, because a local stack begins empty: `local stack ' + it.earlier + ' = nil`';
+    if (it.before === '=' && it.text(-3) === 'stack' && it.text(-4) === 'delocal')
+        return '`nil` is needed, because a local stack ends empty: `delocal stack ' + it.earlier + ' = nil`';
+    if (it.before === '[' && is_name(it.here) && it.text(-3) === 'int')
+        return 'the length of an array is a number written in digits, as in `int ' + it.earlier + '[10]`';
     if (it.before === '[' && it.here === ']' && it.text(-3) === 'int') return 'an array needs its length: `int ' + it.earlier + '[10]`';
     if (it.here === 'int' || it.here === 'stack') return 'declarations come first in a cell, before its statements and procedures';
     return null;
@@ -198,20 +218,42 @@ function missing(it) {
     return null;
 }
 
+// What is needed after the test of an `if` or a `from` that is open, where none of it has come yet.
+function after_test(it) {
+    const wanted = it.inner === 'if' ? ['then'] : it.inner === 'from' ? ['do', 'loop'] : [], begun = it.opened ? it.all.indexOf(it.opened) + 1 : it.index;
+    const has_begun = it.all.slice(begun, it.index).some(function (one) { return wanted.includes(one.text); });
+    return has_begun || begun === it.index ? null : wanted.map(function (one) { return '`' + one + '`'; }).join(' or ') || null;
+}
+
+function lists(it) {
+    if (it.here === '[' && it.before === ']') return 'an array has one index';
+    if (it.here !== ',' || it.inner === '(' || it.inner === '[') return null;
+    if (is_number(it.before) || it.before === ')') return 'statements follow one another without `,`';
+    return is_name(it.before) || it.before === ']' ? 'a statement changes one variable: write a statement for each' : null;
+}
+
+function test(it) {
+    const wanted = after_test(it), is_value = wants_value(it.before);
+    if (wanted === null || is_value) return null;
+    if (is_change(it.here)) return 'a test changes nothing: compare by `=`, `!=`, `<` and the like';
+    if (is_name(it.here)) return 'the test ends here, so ' + wanted + ' is needed here, or an operator is missing';
+    return KEYWORDS.has(it.here) ? 'the test ends here, so ' + wanted + ' is needed here' : null;
+}
+
 function statement(it) {
     if (it.before === ')' && it.all.slice(0, it.index).some(function (one) { return one.text === 'procedure'; }))
         return 'a procedure has at least one statement after its head';
-    if (it.inner === 'if' && is_name(it.here) && !is_change(it.before)) return 'the test ends here, so `then` is needed here, or an operator is missing';
     if (it.here === undefined && is_name(it.before))
         return 'a name alone is not a statement: `' + it.before + ' += ..` changes it, and a cell shows what it mentions';
     if (is_change(it.before) || /^(&&|\|\||!=|<=|>=|[-+*/%^&|<>=])$/.test(it.before || '')) return 'after `' + it.before + '` a value is needed';
+    if (is_change(it.here) && !is_name(it.before) && it.before !== ']') return 'before `' + it.here + '` the name of a variable is needed';
     if (it.before === '<=>') return 'after `<=>` the name of a variable is needed';
     if (is_name(it.before)) return 'after `' + it.before + '` an operator is missing: a statement goes on with `+=`, `-=`, `^=` or `<=>`';
     if (/^[0-9(]/.test(it.here || '')) return 'a value alone is not a statement: a variable is changed by `+=`, `-=` or `^=`';
     return null;
 }
 
-const RULES = [foreign, number, equals, operator, stacks, parameters, declaration, missing, statement];
+const RULES = [foreign, number, equals, operator, stacks, parameters, declaration, lists, missing, test, statement];
 
 // What is meant where something else is expected, at a place counted as an editor does.
 function expected(code, at) {
@@ -229,6 +271,7 @@ function character(code, at) {
     if (one === ':') return colon(code, at);
     if (one === '.' && is_name(tokens(code.slice(0, at)).map(function (it) { return it.text; }).pop()))
         return 'there is no `.` after a name: a stack is used by `push(x, s)`, `pop(x, s)`, `top(s)` and `empty(s)`';
+    if (one === '.' && !/[0-9]/.test(last)) return 'numbers are whole: there is no point';
     if (one === '_' && /[0-9]/.test(last)) return 'a number has only digits: leave out the `_`';
     return own(CHARACTERS, one) || (/\p{L}/u.test(one) ? 'names have the letters a to z and A to Z, digits and `_`' : null);
 }
@@ -240,7 +283,7 @@ function colon(code, at) {
     return head ? COLONS[head] : 'there is no `:`: leave it out';
 }
 
-// ---- of 40 to 43, which name a name: the cause that the text shows
+// ---- of 40 to 43 and 45, which name a name: the cause that the text shows
 function declared(it) {
     const name = '`' + it.here + '`', begun = it.all.slice(0, Math.max(it.index - 1, 0)).map(function (one) { return one.text; });
     if (it.before === 'procedure') return 'the procedure ' + name + ' is defined twice in this cell: rename one of them, or leave it out';
@@ -276,9 +319,11 @@ function other_kind(it) {
     if (called === 'top' || called === 'empty') return '`' + called + '` needs a stack, and ' + name + ' is not one';
     if (word === 'call' || word === 'uncall') return name + ' is of a different kind (number, array or stack) from its parameter';
     if (it.before === '<=>' || it.after === '<=>') return '`<=>` swaps two numbers, and ' + name + ' is not one';
-    const kind = kind_of(it), element = 'an element of an array is `' + it.here + '[0]`';
-    const stack = is_change(it.after) ? 'a stack is changed by `push` and `pop`' : 'the newest number of a stack is `top(' + it.here + ')`';
-    const said = kind === 'stack' ? ['a stack', stack] : kind === 'array' ? ['an array', element] : ['an array or a stack', element + ', and ' + stack];
+    const kind = kind_of(it), is_changed = is_change(it.after), pushed = 'a stack is changed by `push` and `pop`';
+    const stack = is_changed ? pushed : 'the newest number of a stack is `top(' + it.here + ')`';
+    const either = 'an element of an array has an index in brackets, and ' + (is_changed ? pushed : 'the newest number of a stack is read by `top`');
+    const array = 'an element of an array is `' + it.here + '[0]`';
+    const said = kind === 'stack' ? ['a stack', stack] : kind === 'array' ? ['an array', array] : ['an array or a stack', either];
     return name + ' is ' + said[0] + ', and a number is needed here: ' + said[1];
 }
 
@@ -304,14 +349,44 @@ function itself(it) {
     return null;
 }
 
-const NAMES = {40: declared, 41: unknown, 42: other_kind, 43: itself};
+// How many names are in the parentheses that open at a token, or null where they don't close.
+function names_in(all, from) {
+    const texts = all.map(function (one) { return one.text; }), end = texts.indexOf(')', from);
+    return end < 0 ? null : texts.slice(from + 1, end).filter(is_name).length;
+}
 
-// The sentence for a refusal's number, or null. The page shows plain text.
-function meant(number_told, code, at) {
+// How many parameters a procedure has by its head in one of these texts, or null.
+function parameters_of(name, texts) {
+    for (const all of texts.map(tokens)) {
+        const head = all.findIndex(function (one, k) { return one.text === name && k > 0 && all[k - 1].text === 'procedure'; });
+        if (head >= 0) return names_in(all, head + 1);
+    }
+    return null;
+}
+
+// How many names are given at a call, and how many parameters the procedure has, if the text or an earlier cell shows it.
+function arity(it, earlier) {
+    const name = '`' + it.here + '`', given = names_in(it.all, it.index + 1), wanted = parameters_of(it.here, [it.code].concat(earlier));
+    if (given === null) return null;
+    const names = given + (given === 1 ? ' name is' : ' names are');
+    if (wanted === null) return 'the procedure ' + name + ' has a different number of parameters: ' + names + ' given here';
+    return 'the procedure ' + name + ' has ' + (wanted === 1 ? '1 parameter' : wanted + ' parameters') + ', and ' + names + ' given here';
+}
+
+const NAMES = {40: declared, 41: unknown, 42: other_kind, 43: itself, 45: arity};
+
+// The sentence for a refusal's number, or null. The page shows plain text. `earlier` are the texts of cells before this one.
+function meant(number_told, code, at, earlier = []) {
     const of_name = own(NAMES, number_told), it = of_name && look(code, at);
-    const said = number_told === '31' ? expected(code, at) : number_told === '30' ? character(code, at) : it && it.here ? of_name(it) : null;
+    const said = number_told === '31' ? expected(code, at) : number_told === '30' ? character(code, at) : it && it.here ? of_name(it, earlier) : null;
     return said && said.replace(/`([^`]*)`/g, '\'$1\'');
 }
 
-return {meant: meant};
+// The place of the word that the sentence is about, {from, to}, where the kernel's place is behind it, or null.
+function word(number_told, code, at) {
+    const it = number_told === '31' ? look(code, at) : null, said = it && foreign(it), one = it && it.all[it.index + foreign_word(it)];
+    return said && said.includes(' is not a word of Janus') && one ? {from: one.at, to: one.at + one.text.length} : null;
+}
+
+return {meant: meant, word: word};
 });

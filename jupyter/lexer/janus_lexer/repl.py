@@ -32,8 +32,8 @@ try:
     from janus_lexer import JanusLexer
     from janus_lexer.cells import RUN, VERSION, placed
     from janus_lexer.refusals import REFUSALS
-    from janus_lexer.slips import meant
-    from janus_lexer.tree import Tree
+    from janus_lexer.slips import meant, word
+    from janus_lexer.tree import MOVES, Heard, Tree
 except ImportError as missing:
     sys.exit(f"janus-repl: {missing}; Debian's jupyter-console brings what it needs")
 
@@ -43,13 +43,18 @@ HELP = '''%undo [K]   take K cells back, the newest first      %goto N   go to n
 %load FILE  run the cells of a file for janus-cells
 A text that is not complete goes on; a blank line ends it. Alt-Enter always begins a new line.
 Ctrl-C clears the line, or stops the running cell, which is then taken back; Ctrl-D leaves.'''
+CELL = 'your cell'
 RUNS = f'{RUN} ends a cell in a file for janus-cells; here Enter runs it, and %load FILE runs such a file'
+STEPS = "to see its steps, in a shell: 'janus-save-session FILE', add a line %% and this cell at the file's end, then 'janus-steps-screen FILE'"
 COMMAND = re.compile(r'%(undo|redo|goto|show|tree|help)(?:\s+(\d{1,10}))?\s*$')
 LOAD = re.compile(r'%load\s+(\S.*)')
 REFUSED = re.compile(r'refused (\d+) \w+(?: at (\d+)\.\.(\d+))?$')
 FAULT = re.compile(r'fault (\d+) \w+ after \d+$')
 MOST_INPUTS = 500               # so many cells of the kernel's history are looked at by a console that joins
-MOVES = ('undo', 'redo', 'goto')
+WANTS = {'undo': 'how many cells, as in %undo 2, or nothing', 'redo': 'how many cells, as in %redo 2, or nothing',
+         'goto': 'the number of a node, as in %goto 3', 'load': 'the name of a file', **dict.fromkeys(('show', 'tree', 'help'), 'nothing after it')}
+PAUSE = 1                       # seconds after which it is said what is waited for
+PATIENCE = 3                    # seconds in which broadcasts that are on their way come, or are lost
 
 
 class Ended(Exception):
@@ -60,6 +65,9 @@ class Desk:
     """The kernel behind one thread, so that no call meets the event loop of the prompt. The control socket is the main thread's."""
     def __init__(self, file):
         self.manager, self.comm, self.is_stopping, self.others = None, uuid.uuid4().hex, False, []
+        self.tree = Tree()
+        self.news, self.untaken = Heard(self.tree), None                  # since when no state could be taken
+        self.asked, self.busy_at = None, None                             # the job that runs or waits; how much had been heard when another ran
         self.thread = ThreadPoolExecutor(max_workers=1)
         signal.signal(signal.SIGINT, self.stop)
         if file is None:
@@ -78,17 +86,34 @@ class Desk:
         self.client.wait_for_ready(timeout=30)
         self.send('comm_open', {'comm_id': self.comm, 'target_name': 'janus.undo', 'data': {}})
 
-    def wait(self, work, *given):
-        """What the work answers. Ctrl-C meanwhile interrupts what the kernel runs."""
-        future = self.thread.submit(work, *given)
+    def wait(self, work, *given, name=None):
+        """What the work answers. Ctrl-C meanwhile interrupts what the kernel runs. If the job has a name, it is said what is waited for."""
+        future, begun, said = self.thread.submit(work, *given), time.monotonic(), None
         while True:
             try:
                 return future.result(.2)
             except NotYet:
                 pass
+            is_behind = self.is_behind()
+            if name and said != is_behind and time.monotonic() > begun + PAUSE:
+                remark(f"waiting for another frontend's cell; Ctrl-C stops that cell, and {name} is then done" if is_behind else
+                       'running; Ctrl-C stops it' if name == CELL else f'{name} is running; Ctrl-C ends it between two cells')
+                said = is_behind
             if self.is_stopping:
                 self.is_stopping = False
                 self.client.control_channel.send(self.client.session.msg('interrupt_request', {}))
+                if name:
+                    remark('taking that cell back' if is_behind else 'taking it back' if name == CELL else f'{name} ends at the next cell')
+                    said = is_behind
+
+    def is_behind(self):
+        """Whether the job that was sent last waits for one of another frontend."""
+        for asked, job in list(self.news.jobs.items()):
+            if asked == self.asked:
+                break
+            if job.session != self.client.session.session:
+                return True
+        return self.busy_at == self.news.clock
 
     def stop(self, *_):
         """Hears Ctrl-C, but at the prompt, where it is a key."""
@@ -100,20 +125,25 @@ class Desk:
         return message['header']['msg_id']
 
     def note(self, message):
-        """Keeps a move of another frontend."""
+        """Takes what a broadcast tells, and keeps a move of another frontend."""
+        self.news.hear(message)
         data = message['content'].get('data', {})
         is_other = message['parent_header'].get('session') != self.client.session.session and message['msg_type'] == 'comm_msg'
         if is_other and data.get('op') in MOVES and data.get('undone', 0) + data.get('redone', 0) > 0:
             self.others.append(data)
 
-    def listen(self):
-        """The moves of other frontends that were heard, up to now."""
+    def hear(self):
+        """Takes the broadcasts that have come."""
         until = time.monotonic() + 1
         while time.monotonic() < until:
             try:
                 self.note(self.client.get_iopub_msg(timeout=0))
             except Empty:
                 break
+
+    def listen(self):
+        """The moves of other frontends that were heard, up to now."""
+        self.hear()
         found, self.others = self.others, []
         return found
 
@@ -138,8 +168,36 @@ class Desk:
         asked = self.send('comm_msg', {'comm_id': self.comm, 'data': data})
         return [content['data'] for _, content in self.heard(asked, ('comm_msg',))][0]
 
+    def state(self, patience=.5):
+        """The kernel's state. The tree takes it; where it doesn't fit, broadcasts may be on their way, and it is asked for again. No cell is waited for."""
+        until = time.monotonic() + patience
+        while True:
+            self.hear()
+            self.news.asks()
+            state, now = self.ask({'op': 'state'}), time.monotonic()
+            if self.news.takes(state) or state['busy']:
+                self.untaken = None
+                return state
+            self.untaken = self.untaken or now
+            if now > self.untaken + PATIENCE:
+                self.news.gives_up()
+            if now > until:
+                return state
+            time.sleep(.1)
+
+    def job(self, kind, content):
+        """Sends a cell or a move, which other jobs may come before."""
+        state = self.state(0)
+        self.untaken, self.asked, self.busy_at = None, None, self.news.clock if state['busy'] else None
+        self.asked = self.send(kind, content)
+        return self.asked
+
+    def move(self, data):
+        asked = self.job('comm_msg', {'comm_id': self.comm, 'data': data})
+        return [content['data'] for _, content in self.heard(asked, ('comm_msg',))][0]
+
     def run(self, code):
-        asked = self.send('execute_request', {'code': code, 'silent': False})
+        asked = self.job('execute_request', {'code': code, 'silent': False})
         return list(self.heard(asked, ('execute_input', 'execute_result', 'error')))
 
     def reply(self, kind, content):
@@ -160,14 +218,14 @@ class Desk:
         Cells that failed are in the history too. Those of which the text is no cell are left out; where there are others, or where cells were
         silent, there are not as many texts as nodes.
         """
-        state = self.ask({'op': 'state'})
+        state = self.state(PATIENCE)
         inputs = self.reply('history_request', {'hist_access_type': 'tail', 'output': False, 'raw': True, 'n': MOST_INPUTS}).get('history', [])
         texts = [text for _, _, text in inputs]
         if state['busy'] or [count for _, count, _ in inputs] != list(range(1, len(inputs) + 1)) or not state['nodes'] <= len(inputs) < MOST_INPUTS:
             return state, []
         if len(texts) > state['nodes']:
             texts = [it for it in texts if self.reply('is_complete_request', {'code': it}).get('status') == 'complete']
-        is_same = all(now == state[name] for name, now in self.ask({'op': 'state'}).items())
+        is_same = all(now == state[name] for name, now in self.state().items())
         return state, texts if is_same and len(texts) == state['nodes'] else []
 
     def close(self):
@@ -189,6 +247,10 @@ class Names(Completer):
             yield Completion(it, start_position=found['cursor_start'] - document.cursor_position)
 
 
+def remark(line):
+    print('\r' + line, file=sys.stderr, flush=True)                       # over the sign for Ctrl-C that the terminal wrote
+
+
 def say(*parts):
     print_formatted_text(FormattedText([it if isinstance(it, tuple) else ('', it) for it in parts]))
 
@@ -200,17 +262,18 @@ def place(code, octet):
     return line + 1, len(before) - before.rfind('\n'), code.split('\n')[line]
 
 
-def explain(line, code, above=0):
-    """A refusal or a fault in words, and the place under its line; so many lines of a file stand above the text."""
+def explain(line, code, above=0, earlier=()):
+    """A refusal or a fault in words, and the place under its line; so many lines of a file stand above the text, and these cells ran before it."""
     say(('ansired', line))
     found = REFUSED.match(line) or FAULT.match(line)
     if not found or int(found[1]) not in REFUSALS:
         return
     advice = REFUSALS[int(found[1])][1]
     if found.re is REFUSED and found[2] is not None:
-        row, column, text = place(code, int(found[2]))
         at = len(code.encode()[:int(found[2])].decode(errors='ignore'))
-        say(f'line {above + row}, column {column}: {meant(int(found[1]), code, at) or advice}')
+        begin = word(int(found[1]), code, at)
+        row, column, text = place(code, int(found[2]) if begin is None else len(code[:begin].encode()))
+        say(f'line {above + row}, column {column}: {meant(int(found[1]), code, at, earlier) or advice}')
         say('  ' + text)
         say(('ansired', '  ' + re.sub(r'[^\t]', ' ', text[:column - 1]) + '^'))
     else:
@@ -227,9 +290,8 @@ def way(answer):
 
 class Console:
     def __init__(self, desk):
-        self.desk, self.tree, self.count = desk, Tree(), 1
-        state, texts = desk.wait(desk.texts)
-        self.tree.see(state)
+        self.desk, self.tree, self.count, self.is_told = desk, desk.tree, 1, False
+        _, texts = desk.wait(desk.texts)
         self.tree.told(texts)
         self.session = PromptSession(message=lambda: [('ansigreen', f'[{self.count}] ')], lexer=PygmentsLexer(JanusLexer), multiline=True,
                                      completer=Names(desk), complete_while_typing=False, key_bindings=self.keys(), prompt_continuation='... ')
@@ -280,20 +342,27 @@ class Console:
         if not text.strip():
             return None
         if text.lstrip().startswith('%'):
-            return print(HELP)
+            return self.wrong(text.strip())
         return self.cell(text.rstrip())
 
+    def wrong(self, text):
+        """Says what is wrong with a command, and then which there are."""
+        name = text.split()[0]
+        say(('ansired', f'{name} takes {WANTS[name[1:]]}' if name[1:] in WANTS else f'no command {name}'))
+        print(HELP)
+
     def command(self, name, number):
-        if name == 'help' or name == 'goto' and number is None:
+        if name == 'goto' and number is None or name not in MOVES and number is not None:
+            return self.wrong('%' + name)
+        if name == 'help':
             return print(HELP)
         if name in MOVES:
             asked = {'op': name, 'n': int(number) if number else 1}
-            answer = self.desk.wait(self.desk.ask, asked)
+            answer = self.desk.wait(self.desk.move, asked, name='%' + name)
             if answer['status'] == 'refused':
                 return explain(f'refused {answer["number"]} {answer["name"]}', '')
             say(f'undone {answer["undone"]}, redone {answer["redone"]}' + ('' if answer['end'] == 'all' else f' ({answer["end"]})'))
-        state = self.desk.wait(self.desk.ask, {'op': 'state'})
-        self.tree.see(state)
+        state = self.desk.wait(self.desk.state, PATIENCE + 1 if name == 'tree' else .5)
         if name == 'tree':
             return [say(*it) for it in self.tree.rows()]
         say(('bold', f'at node {state["node"]}' + (', and a cell is running' if state['busy'] else '')))
@@ -301,18 +370,23 @@ class Console:
 
     def cell(self, text, above=0):
         """Runs a cell. Answers the error's line, or None, and the node where the kernel is."""
-        before, failed = self.desk.wait(self.desk.ask, {'op': 'state'}), None
-        self.tree.see(before)
-        for kind, content in self.desk.wait(self.desk.run, text):
+        failed = None
+        for kind, content in self.desk.wait(self.desk.run, text, name=CELL):
             if kind == 'execute_input':
                 self.count = content['execution_count'] + 1
             elif kind == 'error':
                 failed = content['evalue']
-                explain(failed, text, above)
+                explain(failed, text, above, self.tree.codes())
+                self.stepping(failed)
             else:
                 say(content['data']['text/plain'])
-        self.tree.ran(before, self.desk.wait(self.desk.ask, {'op': 'state'}), text)
-        return failed, self.tree.position
+        return failed, self.desk.wait(self.desk.state)['node']
+
+    def stepping(self, failed):
+        """Says once how to see the steps of a cell that failed."""
+        if failed.startswith('fault') and not self.is_told:
+            self.is_told = True
+            say(STEPS)
 
     def load(self, path):
         """Runs a file of cells, and says which were refused or failed. Ctrl-C leaves it."""
@@ -321,7 +395,7 @@ class Console:
                 parts = placed(file.read())
         except (OSError, ValueError) as error:
             return say(('ansired', f'{path}: {getattr(error, "strerror", None) or "no text"}'))
-        nodes, ran, bad = [self.desk.wait(self.desk.ask, {'op': 'state'})['node']], 0, []
+        nodes, ran, bad = [self.desk.wait(self.desk.state)['node']], 0, []
         for kind, source, row in parts:
             if kind == 'commands':
                 for line in source.split('\n'):

@@ -1,5 +1,5 @@
-"""What is probably meant where a text is refused with 30 or 31, and which of its causes 40 to 43 has, as page/slips.js says it in the notebook: the same
-rules, and the same texts test both."""
+"""What is probably meant where a text is refused with 30 or 31, which of its causes 40 to 43 has, and what 45 counts, as page/slips.js says it in the
+notebook: the same rules, and the same texts test both."""
 import re
 from types import SimpleNamespace
 
@@ -36,7 +36,7 @@ told(FOREIGN, 'write 1', 'true')
 told(FOREIGN, 'write 0', 'false')
 told(FOREIGN, '`if` ends with `fi`, `from` with `until`', 'end')
 told(FOREIGN, '`if` ends with `fi` and its second test', 'endif')
-told(FOREIGN, 'write `else if .. fi ..`, each with its own `fi`', 'elif')
+told(FOREIGN, 'write `else if .. fi .. fi ..`: each `if` has its own `fi`, with a second test', 'elif', 'elseif', 'elsif')
 told(FOREIGN, 'write `int` or `stack`', 'var', 'let')
 told(FOREIGN, 'write `int`: 0 is false', 'bool')
 told(FOREIGN, 'numbers are whole: write `int`', 'float')
@@ -50,7 +50,7 @@ told(CHARACTERS, 'a comment begins with `//`', '#')
 told(CHARACTERS, 'a statement may go on over several lines without this sign: leave it out', '\\')
 told(CHARACTERS, 'there is no `!`: compare with 0, as in `y = 0`', '!')
 told(CHARACTERS, 'there is no `~`: `-1 ^ y` flips all bits of `y`', '~')
-told(CHARACTERS, 'numbers are whole: leave out the point', '.')
+told(CHARACTERS, 'numbers are whole: leave out the point and the digits after it', '.')
 told(CHARACTERS, 'a name begins with a letter', '_')
 told(CHARACTERS, 'this is not a plain space, perhaps because it was copied from a page: type it again', '\u00a0')
 told(CHARACTERS, 'there is an invisible character here: remove it', '\u200b')
@@ -107,17 +107,23 @@ def look(code, at):
     inner, begun = is_open[-1] if is_open else ('', 0)
     first = tokens.index((inner, begun)) if inner else 0
     around = [tokens[k][0] if k >= 0 else '' for k in (first - 1, first - 2)] if inner == '(' else ['', '']
-    return SimpleNamespace(tokens=tokens, index=index, text=text, here=text(0), before=text(-1), earlier=text(-2), after=text(1), inner=inner,
-                           line=code.count('\n', 0, begun) + 1, called=around[0], word=around[1])
+    return SimpleNamespace(code=code, tokens=tokens, index=index, text=text, here=text(0), before=text(-1), earlier=text(-2), after=text(1), inner=inner,
+                           begun=first + 1 if inner else index, line=code.count('\n', 0, begun) + 1, called=around[0], word=around[1])
 
 
 def foreign(it):
     if it.here + it.after in ('/*', '(*') or it.before + it.here == '/*' or it.index == 0 and it.here + it.after == '--':
         return 'a comment begins with `//`'
+    k = foreign_word(it)
+    return None if k is None else f'`{it.text(k)}` is not a word of Janus: {FOREIGN[it.text(k)]}'
+
+
+def foreign_word(it):
+    """Where a word of another language is: 0 at the place, -1 before it, or None."""
     for k in (0, -1):
         is_used = it.text(k - 1) in ('call', 'uncall', 'procedure', 'int', 'stack', '(', ',', '[') or it.text(k + 1) in (*CHANGES, '=')
         if it.text(k) in FOREIGN and not is_used:
-            return f'`{it.text(k)}` is not a word of Janus: {FOREIGN[it.text(k)]}'
+            return k
     return None
 
 
@@ -127,6 +133,10 @@ def number(it):
         return f'there are no hexadecimal numbers: `0{it.before}` is {int(hexadecimal[1], 16)}'
     if it.here == ',' and is_number(it.before) and is_number(it.after):
         return 'an array has one index' if it.inner == '[' else f'a number is written without a comma: `{it.before}{it.after}`'
+    exponent = re.fullmatch('[eE]([0-9]*)', it.before)
+    if exponent and is_number(it.earlier) and it.tokens[it.index - 2][1] + len(it.earlier) == it.tokens[it.index - 1][1]:
+        value = int(it.earlier) * 10 ** int(exponent[1]) if exponent[1] and len(exponent[1]) < 4 else 2 ** 31
+        return 'a number has only digits' + (f': `{it.earlier}{it.before}` is {value}' if value < 2 ** 31 else ', and no exponent')
     return 'a name begins with a letter' if is_number(it.here) and is_name(it.after) and it.before in ('int', 'stack') else None
 
 
@@ -164,6 +174,8 @@ def operator(it):
         return 'a number has no sign `+`: leave it out'
     if it.here == '>' and it.before == '<':
         return 'write `!=` for different'
+    if is_number(it.here) and '<=>' in (it.before, it.after):
+        return f'`<=>` swaps two variables, and `{it.here}` is none: put it into a variable or a local first'
     if it.here == '<=>' and it.before == ']' or it.before == '<=>' and it.here and not is_name(it.here) or it.here == '[' and it.earlier == '<=>':
         return '`<=>` swaps variables, not elements: use two locals, as examples/sort does'
     return None
@@ -220,8 +232,11 @@ def declaration(it):
             return f'a local begins with a value: `local int {it.before} = 0`'
         if it.earlier == 'stack':
             return f'a local stack begins empty: `local stack {it.before} = nil`'
+    if it.before == '=' and it.text(-3) == 'stack' and it.text(-4) in ('local', 'delocal'):
+        how = 'begins' if it.text(-4) == 'local' else 'ends'
+        return f'`nil` is needed, because a local stack {how} empty: `{it.text(-4)} stack {it.earlier} = nil`'
     if it.before == '[' and it.text(-3) == 'int' and is_name(it.here):
-        return 'the length of an array is a number'
+        return f'the length of an array is a number written in digits, as in `int {it.earlier}[10]`'
     if it.before == '[' and it.text(-3) == 'int' and it.here == ']':
         return f'an array needs its length: `int {it.earlier}[10]`'
     return 'declarations come first in a cell, before its statements and procedures' if it.here in ('int', 'stack') else None
@@ -251,15 +266,43 @@ def missing(it):
     return None
 
 
+def after_test(it):
+    """What is needed after the test of an `if` or a `from` that is open, where none of it has come yet."""
+    wanted = {'if': ['then'], 'from': ['do', 'loop']}.get(it.inner, [])
+    since = [one[0] for one in it.tokens[it.begun:it.index]]
+    return None if not since or any(one in wanted for one in since) else ' or '.join(f'`{one}`' for one in wanted) or None
+
+
+def lists(it):
+    if it.here == '[' and it.before == ']':
+        return 'an array has one index'
+    if it.here != ',' or it.inner in ('(', '['):
+        return None
+    if is_number(it.before) or it.before == ')':
+        return 'statements follow one another without `,`'
+    return 'a statement changes one variable: write a statement for each' if is_name(it.before) or it.before == ']' else None
+
+
+def test(it):
+    wanted = after_test(it)
+    if wanted is None or wants_value(it.before):
+        return None
+    if it.here in CHANGES:
+        return 'a test changes nothing: compare by `=`, `!=`, `<` and the like'
+    if is_name(it.here):
+        return f'the test ends here, so {wanted} is needed here, or an operator is missing'
+    return f'the test ends here, so {wanted} is needed here' if it.here in KEYWORDS else None
+
+
 def statement(it):
     if it.before == ')' and any(one[0] == 'procedure' for one in it.tokens[:it.index]):
         return 'a procedure has at least one statement after its head'
-    if it.inner == 'if' and is_name(it.here) and it.before not in CHANGES:
-        return 'the test ends here, so `then` is needed here, or an operator is missing'
     if not it.here and is_name(it.before):
         return f'a name alone is not a statement: `{it.before} += ..` changes it, and a cell shows what it mentions'
     if it.before in CHANGES or re.fullmatch(r'&&|\|\||!=|<=|>=|[-+*/%^&|<>=]', it.before):
         return f'after `{it.before}` a value is needed'
+    if it.here in CHANGES and not is_name(it.before) and it.before != ']':
+        return f'before `{it.here}` the name of a variable is needed'
     if it.before == '<=>':
         return 'after `<=>` the name of a variable is needed'
     if is_name(it.before):
@@ -267,7 +310,7 @@ def statement(it):
     return 'a value alone is not a statement: a variable is changed by `+=`, `-=` or `^=`' if re.match('[0-9(]', it.here) else None
 
 
-RULES = (foreign, number, equals, operator, stacks, parameters, declaration, missing, statement)
+RULES = (foreign, number, equals, operator, stacks, parameters, declaration, lists, missing, test, statement)
 
 
 def character(code, at):
@@ -278,6 +321,8 @@ def character(code, at):
         return colon(code, at)
     if one == '.' and names and is_name(names[-1]):
         return 'there is no `.` after a name: a stack is used by `push(x, s)`, `pop(x, s)`, `top(s)` and `empty(s)`'
+    if one == '.' and not is_number(last):
+        return 'numbers are whole: there is no point'
     if one == '_' and is_number(last):
         return 'a number has only digits: leave out the `_`'
     return CHARACTERS.get(one) or ('names have the letters a to z and A to Z, digits and `_`' if one.isalpha() else None)
@@ -335,9 +380,10 @@ def other_kind(it):
         return f'`{it.here}` is of a different kind (number, array or stack) from its parameter'
     if '<=>' in (it.before, it.after):
         return f'`<=>` swaps two numbers, and `{it.here}` is not one'
-    kind, element = kind_of(it), f'an element of an array is `{it.here}[0]`'
-    stack = 'a stack is changed by `push` and `pop`' if it.after in CHANGES else f'the newest number of a stack is `top({it.here})`'
-    said = {'stack': ('a stack', stack), 'array': ('an array', element), None: ('an array or a stack', f'{element}, and {stack}')}[kind]
+    is_changed, pushed = it.after in CHANGES, 'a stack is changed by `push` and `pop`'
+    either = f'an element of an array has an index in brackets, and {pushed if is_changed else "the newest number of a stack is read by `top`"}'
+    said = {'stack': ('a stack', pushed if is_changed else f'the newest number of a stack is `top({it.here})`'),
+            'array': ('an array', f'an element of an array is `{it.here}[0]`'), None: ('an array or a stack', either)}[kind_of(it)]
     return f'`{it.here}` is {said[0]}, and a number is needed here: {said[1]}'
 
 
@@ -364,11 +410,37 @@ def itself(it):
     return None
 
 
-NAMES = {40: declared, 41: unknown, 42: other_kind, 43: itself}
+def names_in(texts, begin):
+    """How many names are in the parentheses that open at a token, or None where they don't close."""
+    return sum(is_name(one) for one in texts[begin + 1:texts.index(')', begin)]) if ')' in texts[begin:] else None
 
 
-def meant(refused, code, at):
-    """The sentence for a refusal's number at a place of the text, or None."""
+def arity(it, earlier):
+    """How many names are given at a call, and how many parameters the procedure has, if the text or an earlier cell shows it."""
+    given = names_in([one[0] for one in it.tokens], it.index + 1)
+    if given is None:
+        return None
+    said = f'{given} name is given here' if given == 1 else f'{given} names are given here'
+    cells = [[one for one in TOKEN.findall(text) if not one.startswith('//')] for text in (it.code, *earlier)]
+    heads = ((texts, k) for texts in cells for k in range(1, len(texts)) if texts[k - 1:k + 1] == ['procedure', it.here])
+    wanted = next((names_in(texts, k + 1) for texts, k in heads), None)
+    if wanted is None:
+        return f'the procedure `{it.here}` has a different number of parameters: {said}'
+    return f'the procedure `{it.here}` has {wanted} parameter{"" if wanted == 1 else "s"}, and {said}'
+
+
+NAMES = {40: declared, 41: unknown, 42: other_kind, 43: itself, 45: arity}
+
+
+def word(refused, code, at):
+    """Where the word begins that the sentence is about, where the kernel's place is behind it, or None."""
+    it = look(code, at) if refused == 31 else None
+    k = foreign_word(it) if it and ' is not a word of Janus' in (foreign(it) or '') else None
+    return None if k is None else it.tokens[it.index + k][1]
+
+
+def meant(refused, code, at, earlier=()):
+    """The sentence for a refusal's number at a place of the text, or None. Some need the texts of earlier cells."""
     said = None
     if refused == 31:
         it = look(code, at)
@@ -377,5 +449,5 @@ def meant(refused, code, at):
         said = character(code, at)
     elif refused in NAMES:
         it = look(code, at)
-        said = NAMES[refused](it) if it.here else None
+        said = NAMES[refused](it, *([earlier] if refused == 45 else [])) if it.here else None
     return said and re.sub('`([^`]*)`', r"'\1'", said)
