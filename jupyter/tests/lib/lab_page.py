@@ -27,7 +27,8 @@ PROMPTS = S + '''return s.host.cells().map(function (it) {
 PLACE = S + '''return Array.from(nb.widgets[arguments[0]].node.querySelectorAll(".janus-place")).map(function (it) { return it.textContent; }).join("|")'''
 ADD = S + '''var it = nb.model.sharedModel; it.insertCell(it.cells.length, {cell_type: "code", source: arguments[0], metadata: arguments[1]});
     return it.cells.length - 1'''
-SELECT = S + '''jupyterapp.shell.activateById(panel.id); nb.activeCellIndex = arguments[0]; nb.mode = "command"; nb.activate(); nb.deselectAll()'''
+SELECT = S + '''jupyterapp.shell.activateById(panel.id); nb.activeCellIndex = arguments[0]; nb.mode = "command"; nb.activate(); nb.deselectAll();
+    var focus = document.activeElement; return focus === nb.node || nb.activeCell.node.contains(focus)'''
 
 
 def shown(page):
@@ -73,22 +74,16 @@ def marked(page, wanted, what):
 
 
 def select(page, index):
-    """Selects a cell in command mode, with the focus there."""
-    page.js(SELECT, index)
+    """Selects a cell in command mode, with the focus there: JupyterLab 4.4 takes no key of a cell that it has yet to give the focus."""
+    wait('the focus in the cell', lambda: page.js(SELECT, index))
     time.sleep(.2)
 
 
 def edit(page, index):
-    """Selects a cell and begins to edit it, by Enter. JupyterLab 4.4 now and then drops the key's command just after the page has loaded."""
+    """Selects a cell and begins to edit it, by Enter."""
     select(page, index)
-    for last in (False, False, True):
-        page.keys(Keys.ENTER)
-        try:
-            wait('edit mode', lambda: page.js(S + 'return nb.mode') == 'edit', 3)
-            break
-        except AssertionError:
-            if last:
-                raise
+    page.keys(Keys.ENTER)
+    wait('edit mode', lambda: page.js(S + 'return nb.mode') == 'edit')
     time.sleep(.3)
 
 
