@@ -74,8 +74,11 @@ def marked(page, wanted, what):
 
 
 def select(page, index):
-    """Selects a cell in command mode, with the focus there: JupyterLab 4.4 takes no key of a cell that it has yet to give the focus."""
-    wait('the focus in the cell', lambda: page.js(SELECT, index))
+    """Selects a cell in command mode, and waits for the focus there, since JupyterLab 4.4 takes no key of a cell that it has yet to give the focus. A cell behind
+    a dialog or out of sight gets none, so after three seconds it is waited for no longer."""
+    until = time.time() + 3
+    while not page.js(SELECT, index) and time.time() < until:
+        time.sleep(.1)
     time.sleep(.2)
 
 
