@@ -22,3 +22,4 @@ pub mod Ran
 pub mod Unwritten
 pub mod OverRow
 pub mod Runnable
+pub mod Crosses

@@ -23,7 +23,6 @@ pub mod Parameters
 pub mod Paths
 pub mod Pulls
 pub mod RowLaid
-pub mod RowsCross
 pub mod Seen
 pub mod Single
 pub mod Slotted

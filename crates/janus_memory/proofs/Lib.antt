@@ -6,3 +6,4 @@ pub mod Cells
 pub mod Owned
 pub mod Reading
 pub mod Changing
+pub mod Crosses

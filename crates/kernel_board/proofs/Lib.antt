@@ -1,2 +1,3 @@
 pub mod Batch
 pub mod Reading
+pub mod Crosses

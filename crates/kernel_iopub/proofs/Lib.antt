@@ -2,3 +2,4 @@ mod RoundLemmas
 mod FedLemmas
 mod ServedLemmas
 mod SignLemmas
+pub mod Crosses

@@ -5,7 +5,8 @@ use Rattle.std.proofs.Crossing.{crosses}
 use Rattle.kernel_bell.proofs.Crosses.{RingerSeat-send}
 use Rattle.kernel_desk.proofs.AuditCrosses.{Pass-send}
 use Rattle.kernel_desk.proofs.HallCrosses.{Hall-sync}
-use Rattle.kernel_places.proofs.Crosses.{Bulletin-sync, Listeners-sync, Service-sync}
+use Rattle.kernel_iopub.proofs.Crosses.{Bulletin-sync}
+use Rattle.kernel_places.proofs.Crosses.{Listeners-sync, Service-sync}
 use Rattle.kernel_places.proofs.start.start.Goals as goal
 
 pub spawn-requires-send-F : goal.spawn-requires-send-F
