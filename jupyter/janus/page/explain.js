@@ -59,7 +59,7 @@ function belongs_at(code, at) {
 function error(line, code, earlier = [], is_all = false) {
     const refused = REFUSED.exec(line), fault = FAULT.exec(line), interrupted = INTERRUPTED.exec(line);
     if (refused && refused[3] !== undefined) {
-        const at = place(code, Number(refused[3]), Number(refused[4])), shown = of_word(code, slips.word(refused[1], code, at.begin)) || at;
+        const at = place(code, Number(refused[3]), Number(refused[4])), shown = of_word(code, slips.word(refused[1], code, at.begin, earlier)) || at;
         const where = 'Line ' + shown.line + ', column ' + shown.column + ': ';
         const words = slips.meant(refused[1], code, at.begin, earlier) || advice(refused[1]);
         return {text: where + words + ' (' + refused[1] + ' ' + refused[2] + '). Nothing has run.' + belongs_at(code, at.begin), place: shown};
@@ -118,5 +118,7 @@ function other_cell(job, node) {
     return node === null ? what : what + ': node ' + node;
 }
 
-return {error: error, ran: ran, place: place, move: move, waits: waits, way: way, moved: moved, which: which, refused_move: refused_move, other_cell: other_cell};
+return {
+    error: error, ran: ran, place: place, move: move, waits: waits, way: way, moved: moved, which: which, refused_move: refused_move, other_cell: other_cell,
+};
 });

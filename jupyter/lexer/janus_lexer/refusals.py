@@ -96,3 +96,11 @@ REFUSALS = {
     81: ('NoPass',
         "the kernel has given out its 65,536 passes. 'janus-kernel' takes 64 when it starts and gives out no more, so this never comes"),
 }
+
+
+def advice(number, is_backward=None):
+    """What to do, if the code ran backward or forward, or for both ways where that isn't known."""
+    _, text, *backward = REFUSALS[number]
+    if is_backward is None:
+        return text + ''.join(". Run backward by 'uncall': " + it for it in backward)
+    return backward[0] if backward and is_backward else text
