@@ -442,8 +442,8 @@ class Console:
 
     def values(self, lines):
         """Shows values, and once how to see the numbers that are not shown."""
-        for it in lines:
-            say(it)
+        if lines:
+            say('\n'.join(lines))
         cut = next((found for found in map(CUT.match, lines) if found), None)
         if cut:
             how = f'int look look += {cut[1]}[{int(cut[2]) - 1}]' if cut[2] else f'a pop of the newer ones of {cut[1]}'
