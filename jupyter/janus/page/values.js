@@ -4,7 +4,7 @@ define(['./texts.js'], function (texts) {
 'use strict';
 
 const MARKUP = '<div class="janus-world" tabindex="0" role="region" aria-label="Values"><div class="janus-world-head"></div>' +
-    '<table class="janus-values"><tbody></tbody></table><div class="janus-cut janus-past"></div></div>';
+    '<table class="janus-values"><tbody></tbody></table><div class="janus-cut"></div></div>';
 const MORE = / \.\.\.$/;                // stands where there are more numbers
 const MAY = 'may have changed past the 32nd number';
 
