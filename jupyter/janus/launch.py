@@ -3,6 +3,7 @@
 usage: python3 launch.py PROGRAM CONNECTION-FILE [WORD ..]
 
 Words after the connection file, as `jupyter run FILE` adds them, are dropped. JPY_PARENT_PID is the launcher; where it is absent nobody is watched.
+The watcher also hands on what the kernel writes on standard error, with the name of its connection file before each line.
 """
 import hashlib
 import hmac
@@ -54,18 +55,44 @@ class Process:
             pass
 
 
-def wait_for_one(processes, seconds=None):
-    """Waits until one of them has ended, or so long; with handles nothing wakes in between."""
+class Lines:
+    """What the kernel writes on standard error, handed on with a name before each line."""
+    def __init__(self, source, to, name):
+        self.source, self.to, self.name, self.rest, self.is_open = source, to, name, b'', True
+        os.set_blocking(source, False)
+
+    def hand_on(self):
+        try:
+            read = os.read(self.source, 65536)
+        except BlockingIOError:
+            return False
+        *lines, self.rest = (self.rest + read).split(b'\n')
+        if not read and self.rest:
+            lines, self.rest = [self.rest], b''
+        self.is_open = bool(read)
+        try:
+            for line in lines:
+                os.write(self.to, b'[' + self.name + b'] ' + line + b'\n')
+        except OSError:
+            pass                        # nobody reads it
+        return self.is_open
+
+
+def wait_for_one(processes, seconds=None, lines=None):
+    """Waits until one of them has ended, or so long; with handles nothing but a line wakes in between."""
     until = None if seconds is None else time.monotonic() + seconds
     handles = [it.handle for it in processes]
     while not any(it.has_ended() for it in processes):
         left = None if until is None else until - time.monotonic()
         if left is not None and left <= 0:
             return
+        heard = [lines.source] if lines and lines.is_open else []
         if None in handles:
             time.sleep(POLL if left is None else min(POLL, left))
         else:
-            select.select(handles, [], [], left)
+            select.select(handles + heard, [], [], left)
+        if heard:
+            lines.hand_on()
 
 
 def frame(flags, body):
@@ -131,13 +158,19 @@ def let_go(kept):
     os.chdir('/')
 
 
-def watch(launcher, kernel, connection_file):
+def watch(launcher, kernel, connection_file, pipe):
     """Runs in a process and in a session of its own."""
-    let_go((launcher.handle, kernel.handle))
+    lines = None
+    if pipe:
+        os.close(pipe[1])
+        lines = Lines(pipe[0], os.dup(2), os.fsencode(os.path.basename(connection_file)))
+    let_go((launcher.handle, kernel.handle, *((lines.source, lines.to) if lines else ())))
     given = read(connection_file)
-    wait_for_one([launcher, kernel])
+    wait_for_one([launcher, kernel], lines=lines)
     if not kernel.has_ended():
         end(kernel, given, connection_file)
+    while lines and lines.hand_on():
+        pass
 
 
 def leave_watcher(number, connection_file):
@@ -145,18 +178,32 @@ def leave_watcher(number, connection_file):
         launcher, kernel = Process(number), Process(os.getpid())
     except ProcessLookupError:
         return
+    pipe = os.pipe() if sys.stderr else None
     child = os.fork()
     if child:
-        os.waitpid(child, 0)
+        if os.waitpid(child, 0)[1] == 0 and pipe:
+            os.dup2(pipe[1], 2)
         return
     status = 1
     try:
         os.setsid()
         if os.fork() == 0:
-            watch(launcher, kernel, connection_file)
+            watch(launcher, kernel, connection_file, pipe)
         status = 0
     finally:
         os._exit(status)
+
+
+def say_of_transport(connection_file):
+    """The program's own line names the field alone."""
+    try:
+        with open(connection_file, encoding='utf-8') as file:
+            transport = json.load(file).get('transport')
+    except (OSError, ValueError, AttributeError):
+        return
+    if transport not in (None, 'tcp') and sys.stderr:
+        print(f'janus: the kernel serves the transport tcp alone, and {connection_file} asks for {transport!r}: take the line '
+              'c.KernelManager.transport out of the configuration of Jupyter', file=sys.stderr, flush=True)
 
 
 def become(program, connection_file):
@@ -173,6 +220,7 @@ def main():
     if len(sys.argv) < 3:
         sys.exit(__doc__.split('\n')[2])
     program, connection_file = sys.argv[1], os.path.abspath(sys.argv[2])
+    say_of_transport(connection_file)
     launcher = os.environ.get('JPY_PARENT_PID', '')
     if launcher.isascii() and launcher.isdecimal():
         leave_watcher(int(launcher), connection_file)

@@ -4,10 +4,17 @@ define(['./refusals.js', './slips.js', './procedures.js', './texts.js'], functio
 
 const REFUSED = /^refused (\d+) (\w+)(?: at (\d+)\.\.(\d+))?$/;
 const FAULT = /^fault (\d+) (\w+) after (\d+)$/, INTERRUPTED = /^interrupted after (\d+)$/;
+const MOST_NAMED = 3;                   // so many cells of a move are named
 
 function capital(text) { return text.slice(0, 1).toUpperCase() + text.slice(1); }
 
 function advice(number) { return refusals[number] ? refusals[number].advice : 'the guide says more about it'; }
+
+// Of a fault, whose line doesn't tell which way the code ran.
+function both_ways(number, may_run_backward) {
+    const backward = may_run_backward && refusals[number] && refusals[number].backward;
+    return advice(number) + (backward ? '. Run backward by \'uncall\': ' + backward : '');
+}
 
 // The place of octets in a text, as an editor counts it and as people do. The kernel counts octets from the text's begin.
 function place(code, from_octet, to_octet) {
@@ -47,17 +54,19 @@ function belongs_at(code, at) {
     return it && it.at <= at ? ' ' + belongs(it, '') : '';
 }
 
-// What an error of a cell says: {text, place, kind}, where place is null where the line has none. `earlier` are the texts of cells before this one.
-function error(line, code, earlier = []) {
+// What an error of a cell says: {text, place, kind}, where place is null where the line has none. `earlier` are the texts of cells before this one, and
+// `is_all` says whether they are all.
+function error(line, code, earlier = [], is_all = false) {
     const refused = REFUSED.exec(line), fault = FAULT.exec(line), interrupted = INTERRUPTED.exec(line);
     if (refused && refused[3] !== undefined) {
-        const at = place(code, Number(refused[3]), Number(refused[4])), shown = of_word(code, slips.word(refused[1], code, at.begin)) || at;
+        const at = place(code, Number(refused[3]), Number(refused[4])), shown = of_word(code, slips.word(refused[1], code, at.begin, earlier)) || at;
         const where = 'Line ' + shown.line + ', column ' + shown.column + ': ';
         const words = slips.meant(refused[1], code, at.begin, earlier) || advice(refused[1]);
         return {text: where + words + ' (' + refused[1] + ' ' + refused[2] + '). Nothing has run.' + belongs_at(code, at.begin), place: shown};
     }
     if (refused) return {text: capital(advice(refused[1])) + ' (' + refused[1] + ' ' + refused[2] + '). Nothing was done.', place: null};
-    if (fault) return {text: capital(advice(fault[1])) + ' (' + fault[1] + ' ' + fault[2] + '), ' + taken_back(fault[3]), place: null};
+    const may_run_backward = !is_all || earlier.concat([code]).some(function (it) { return texts.names(it).has('uncall'); });
+    if (fault) return {text: capital(both_ways(fault[1], may_run_backward)) + ' (' + fault[1] + ' ' + fault[2] + '), ' + taken_back(fault[3]), place: null};
     if (interrupted) return {text: 'Stopped ' + taken_back(interrupted[1]), place: null};
     return {text: line, place: null};
 }
@@ -93,11 +102,23 @@ function moved(asked, answer) {
     return {text: '', kind: ''};
 }
 
+// Which cells an undo or a redo of this page ran, told while the history is as before it; an empty text where that isn't known.
+function which(answer, history) {
+    const [many, from, did] = answer.op === 'undo' ? [answer.undone, history.position, 'Undid '] : [answer.redone, answer.node, 'Redid '];
+    const nodes = Array.from({length: Math.min(many, MOST_NAMED)}, function (_, i) { return history.above(from, i); });
+    if (answer.op === 'goto' || many === 0 || !history.fits(answer) || nodes.some(function (it) { return it <= 0; })) return '';
+    const named = nodes.map(function (it) { return texts.node(it, history.label[it]); }), more = many - nodes.length;
+    if (answer.op === 'redo') named.reverse();
+    return did + (many > 1 ? texts.count(many, 'cell') + ': ' : '') + named.join('; ') + (more ? ', and ' + more + ' more' : '') + '.';
+}
+
 function other_cell(job, node) {
     const what = 'another frontend ran [' + job.count + '] ' + texts.first_line(job.code).slice(0, 40);
     if (job.failed) return what + ': ' + job.line;
     return node === null ? what : what + ': node ' + node;
 }
 
-return {error: error, ran: ran, place: place, move: move, waits: waits, way: way, moved: moved, refused_move: refused_move, other_cell: other_cell};
+return {
+    error: error, ran: ran, place: place, move: move, waits: waits, way: way, moved: moved, which: which, refused_move: refused_move, other_cell: other_cell,
+};
 });

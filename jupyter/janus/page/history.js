@@ -314,6 +314,12 @@ class History {
         return labels.filter(function (it) { return it !== null; }).map(function (it) { return it.code; });
     }
 
+    // Whether these are all, each with the whole of its text.
+    has_codes() {
+        const path = this.path();
+        return this.known && path.gaps.length === 0 && path.on.every(n => n === 0 || this.label[n] && !this.label[n].is_cut);
+    }
+
     gap_over(node) {
         const link = this.links.find(function (it) { return it[0] === node; });
         return link || [node, 0, -1];

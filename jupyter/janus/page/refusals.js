@@ -69,26 +69,32 @@ return {
     50: {
         name: "FiAssertion",
         advice: "the expression after 'fi' has to be nonzero after 'then' and 0 after 'else': find one that tells the two ways apart",
+        backward: "the expression after 'if' has to be nonzero once 'then' is taken back, and 0 once 'else' is; it was not, so no call ends with these values",
     },
     51: {
         name: "EntryAssertion",
         advice: "the expression after 'from' has to be nonzero when the loop is entered",
+        backward: "the expression after 'until' has to be nonzero at first; it was not, so no call ends with these values",
     },
     52: {
         name: "LoopAssertion",
         advice: "the expression after 'from' has to be 0 in every further turn: choose one that holds only at the start",
+        backward: "the expression after 'until' has to be 0 in every further turn; it was not, so no call ends with these values",
     },
     53: {
         name: "DelocalMismatch",
         advice: "a local doesn't end with the value that its 'delocal' gives: bring it to that value first, or empty the stack",
+        backward: "it has to come back to the value that its 'local' gives; it did not, so no call ends with these values",
     },
     54: {
         name: "PopNotZero",
         advice: "a 'pop' needs a variable that is 0",
+        backward: "a 'push' takes its number back from the stack, into a variable that has to be 0; it was not, so no call ends with these values",
     },
     55: {
         name: "PopEmpty",
         advice: "the stack is empty: test 'empty(s)' first",
+        backward: "a 'push' takes its number back from the stack, which is empty, so no call ends with these values",
     },
     56: {
         name: "TopEmpty",
@@ -160,7 +166,7 @@ return {
     },
     80: {
         name: "BadCommand",
-        advice: "only in 'janus-cells': no command has this form",
+        advice: "only in 'janus-cells' and 'janus-steps': no command has this form",
     },
     81: {
         name: "NoPass",

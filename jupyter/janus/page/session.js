@@ -118,7 +118,7 @@ class Session {
     cell_ended(job, node) {
         const cell = this.marks.cell(job.id);
         if (!cell) return;
-        const said = job.failed ? explain.error(job.line, job.code, this.history.codes()) : explain.ran(job.code);
+        const said = job.failed ? explain.error(job.line, job.code, this.history.codes(), this.history.has_codes()) : explain.ran(job.code);
         this.marks.began(cell);
         if (said) this.places.show(cell, said, job.code);
         if (!job.failed) this.marks.ran(cell, node);
@@ -132,7 +132,8 @@ class Session {
     move_answered(asked, answer) {
         const moved = explain.moved(asked, answer);
         if (answer.status === 'refused' || answer.end !== 'all') this.panel.timeline.stop();
-        if (moved.text) this.tell(moved.text, moved.kind); else this.message(asked.said || '', asked.said ? 'done' : '');
+        const done = asked.said || (this.panel.timeline.waits ? '' : explain.which(answer, this.history));
+        if (moved.text) this.tell(moved.text, moved.kind); else this.message(done, done ? 'done' : '');
     }
 
     moves_lost() { this.panel.timeline.stop(); }

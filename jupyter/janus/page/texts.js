@@ -22,5 +22,10 @@ function names(code) { return new Set(code.replace(/\/\/.*/g, ' ').match(/[A-Za-
 
 function prompt(label) { return label && label.count ? 'In [' + label.count + ']' : ''; }
 
-return {escape: escape, count: count, first_line: first_line, names: names, prompt: prompt};
+// A node with its prompt and the begin of its text, as far as they are known.
+function node(number, label) {
+    return 'node ' + number + (label && label.count ? ', ' + prompt(label) : '') + (label ? ' ' + first_line(label.code).slice(0, 40) : '');
+}
+
+return {escape: escape, count: count, first_line: first_line, names: names, prompt: prompt, node: node};
 });

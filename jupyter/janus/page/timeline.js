@@ -67,9 +67,8 @@ class Timeline {
     }
 
     words() {
-        const node = this.history.position, label = this.history.label[node], prompt = texts.prompt(label);
-        if (node === 0) return 'the start';
-        return 'node ' + node + (prompt ? ', ' + prompt : '') + (label ? ' ' + texts.first_line(label.code).slice(0, 40) : '');
+        const node = this.history.position;
+        return node === 0 ? 'the start' : texts.node(node, this.history.label[node]);
     }
 }
 

@@ -4,7 +4,7 @@ define(['./texts.js'], function (texts) {
 'use strict';
 
 const MARKUP = '<div class="janus-world" tabindex="0" role="region" aria-label="Values"><div class="janus-world-head"></div>' +
-    '<table class="janus-values"><tbody></tbody></table></div>';
+    '<table class="janus-values"><tbody></tbody></table><div class="janus-cut"></div></div>';
 const MORE = / \.\.\.$/;                // stands where there are more numbers
 const MAY = 'may have changed past the 32nd number';
 
@@ -14,6 +14,15 @@ function parts(text) {
     return {shown: shown, name: shown.replace(/[[(]\d+[\])]$/, ''), value: at < 0 ? '' : text.slice(at + 3), text: text};
 }
 
+// How to see the numbers that are not shown, where there are any.
+function cut(world) {
+    const those = world.map(parts).filter(function (it) { return MORE.test(it.value); });
+    const array = those.map(function (it) { return /^(.*)\[(\d+)\]$/.exec(it.shown); }).find(function (it) { return it !== null; });
+    if (those.length === 0) return '';
+    const how = array ? 'run \'int look look += ' + array[1] + '[' + (array[2] - 1) + ']\'' : 'pop the newer ones of ' + those[0].name;
+    return 'Of an array or a stack 32 numbers are shown. To see another, ' + how + ', and then undo that cell.';
+}
+
 class Values {
     constructor(parent) {
         this.world = [];
@@ -21,6 +30,7 @@ class Values {
         parent.insertAdjacentHTML('beforeend', MARKUP);
         this.head = parent.querySelector('.janus-world-head');
         this.body = parent.querySelector('.janus-values tbody');
+        this.cut = parent.querySelector('.janus-cut');
     }
 
     // Shows them, and answers what changed in words. `touched` says whether something on the way may have changed a name.
@@ -34,6 +44,7 @@ class Values {
             if (may) changed.push(part.shown + ' ' + MAY);
             return this.row(part, differs ? 'changed' : may ? 'may-change' : '');
         }).join('');
+        this.cut.textContent = cut(world);
         this.head.textContent = world.length ? 'Values at node ' + node : 'No names are declared at node ' + node;
         this.world = world;
         this.node = node;
@@ -50,6 +61,7 @@ class Values {
         this.world = [];
         this.node = null;
         this.body.innerHTML = '';
+        this.cut.textContent = '';
         this.head.textContent = '';
     }
 }

@@ -39,17 +39,23 @@ REFUSALS = {
     49: ('ArrayLength',
         'an array has 1 to 65,536 elements'),
     50: ('FiAssertion',
-        "the expression after 'fi' has to be nonzero after 'then' and 0 after 'else': find one that tells the two ways apart"),
+        "the expression after 'fi' has to be nonzero after 'then' and 0 after 'else': find one that tells the two ways apart",
+        "the expression after 'if' has to be nonzero once 'then' is taken back, and 0 once 'else' is; it was not, so no call ends with these values"),
     51: ('EntryAssertion',
-        "the expression after 'from' has to be nonzero when the loop is entered"),
+        "the expression after 'from' has to be nonzero when the loop is entered",
+        "the expression after 'until' has to be nonzero at first; it was not, so no call ends with these values"),
     52: ('LoopAssertion',
-        "the expression after 'from' has to be 0 in every further turn: choose one that holds only at the start"),
+        "the expression after 'from' has to be 0 in every further turn: choose one that holds only at the start",
+        "the expression after 'until' has to be 0 in every further turn; it was not, so no call ends with these values"),
     53: ('DelocalMismatch',
-        "a local doesn't end with the value that its 'delocal' gives: bring it to that value first, or empty the stack"),
+        "a local doesn't end with the value that its 'delocal' gives: bring it to that value first, or empty the stack",
+        "it has to come back to the value that its 'local' gives; it did not, so no call ends with these values"),
     54: ('PopNotZero',
-        "a 'pop' needs a variable that is 0"),
+        "a 'pop' needs a variable that is 0",
+        "a 'push' takes its number back from the stack, into a variable that has to be 0; it was not, so no call ends with these values"),
     55: ('PopEmpty',
-        "the stack is empty: test 'empty(s)' first"),
+        "the stack is empty: test 'empty(s)' first",
+        "a 'push' takes its number back from the stack, which is empty, so no call ends with these values"),
     56: ('TopEmpty',
         "'top(s)' of an empty stack: test 'empty(s)' first"),
     57: ('DivisionByZero',
@@ -86,7 +92,15 @@ REFUSALS = {
     79: ('TicketUnknown',
         "comes when a kernel's own books are audited, like 78"),
     80: ('BadCommand',
-        "only in 'janus-cells': no command has this form"),
+        "only in 'janus-cells' and 'janus-steps': no command has this form"),
     81: ('NoPass',
         "the kernel has given out its 65,536 passes. 'janus-kernel' takes 64 when it starts and gives out no more, so this never comes"),
 }
+
+
+def advice(number, is_backward=None):
+    """What to do, if the code ran backward or forward, or for both ways where that isn't known."""
+    _, text, *backward = REFUSALS[number]
+    if is_backward is None:
+        return text + ''.join(". Run backward by 'uncall': " + it for it in backward)
+    return backward[0] if backward and is_backward else text

@@ -10,6 +10,7 @@ import re
 import signal
 import subprocess
 import sys
+import tempfile
 import time
 import uuid
 from concurrent.futures import ThreadPoolExecutor
@@ -29,31 +30,37 @@ try:
     from prompt_toolkit.key_binding import KeyBindings
     from prompt_toolkit.lexers import PygmentsLexer
 
-    from janus_lexer import JanusLexer
-    from janus_lexer.cells import RUN, VERSION, placed
-    from janus_lexer.refusals import REFUSALS
+    from janus_lexer import JanusLexer, steps
+    from janus_lexer.cells import RUN, VERSION, code_lines, placed
+    from janus_lexer.refusals import REFUSALS, advice
     from janus_lexer.slips import meant, word
-    from janus_lexer.tree import MOVES, Heard, Tree
+    from janus_lexer.tree import MOVES, Heard, Tree, first_line
 except ImportError as missing:
     sys.exit(f"janus-repl: {missing}; Debian's jupyter-console brings what it needs")
 
 HELP = '''%undo [K]   take K cells back, the newest first      %goto N   go to node N, 0 for the start
 %redo [K]   redo K cells along the ways last taken   %show     the values here
 %tree       all cells that ran, and where we are     %help     this
-%load FILE  run the cells of a file for janus-cells
+%steps      walk through the last cell, step by step   %load FILE  run the cells of a file for janus-cells
 A text that is not complete goes on; a blank line ends it. Alt-Enter always begins a new line.
 Ctrl-C clears the line, or stops the running cell, which is then taken back; Ctrl-D leaves.'''
 CELL = 'your cell'
 RUNS = f'{RUN} ends a cell in a file for janus-cells; here Enter runs it, and %load FILE runs such a file'
-STEPS = "to see its steps, in a shell: 'janus-save-session FILE', add a line %% and this cell at the file's end, then 'janus-steps-screen FILE'"
-COMMAND = re.compile(r'%(undo|redo|goto|show|tree|help)(?:\s+(\d{1,10}))?\s*$')
+STEPS = '%steps walks through it, forward and back'
+NO_STEPS = "janus-steps is neither beside this program nor in PATH, so its steps can't be seen"
+UNKNOWN = 'not all cells before this one are known here; janus-save-session FILE writes the whole session as a file for janus-steps-screen'
+MOST_SHOWN = 12                 # so many values are shown where a cell failed
+MOST_NAMED = 4                  # so many cells of a move, and doings of other frontends, are told
+CUT = re.compile(r'(\w+)(?:\[(\d+)\]|\(\d+\)) = .* \.\.\.$')       # a value of which not all numbers are shown
+COMMAND = re.compile(r'%(undo|redo|goto|show|tree|help|steps)(?:\s+(\d{1,10}))?\s*$')
 LOAD = re.compile(r'%load\s+(\S.*)')
 REFUSED = re.compile(r'refused (\d+) \w+(?: at (\d+)\.\.(\d+))?$')
 FAULT = re.compile(r'fault (\d+) \w+ after \d+$')
 MOST_INPUTS = 500               # so many cells of the kernel's history are looked at by a console that joins
 WANTS = {'undo': 'how many cells, as in %undo 2, or nothing', 'redo': 'how many cells, as in %redo 2, or nothing',
-         'goto': 'the number of a node, as in %goto 3', 'load': 'the name of a file', **dict.fromkeys(('show', 'tree', 'help'), 'nothing after it')}
+         'goto': 'the number of a node, as in %goto 3', 'load': 'the name of a file', **dict.fromkeys(('show', 'tree', 'help', 'steps'), 'nothing after it')}
 PAUSE = 1                       # seconds after which it is said what is waited for
+SOON = 2                        # seconds in which janus-steps has to come to a fault
 PATIENCE = 3                    # seconds in which broadcasts that are on their way come, or are lost
 
 
@@ -125,12 +132,17 @@ class Desk:
         return message['header']['msg_id']
 
     def note(self, message):
-        """Takes what a broadcast tells, and keeps a move of another frontend."""
+        """Takes what a broadcast tells, and keeps what another frontend did: its moves, and the jobs of its cells."""
+        job = self.news.jobs.get(message['parent_header'].get('msg_id'))
         self.news.hear(message)
-        data = message['content'].get('data', {})
-        is_other = message['parent_header'].get('session') != self.client.session.session and message['msg_type'] == 'comm_msg'
-        if is_other and data.get('op') in MOVES and data.get('undone', 0) + data.get('redone', 0) > 0:
+        content = message['content']
+        data = content.get('data', {})
+        if message['parent_header'].get('session') == self.client.session.session:
+            return
+        if message['msg_type'] == 'comm_msg' and data.get('op') in MOVES and data.get('undone', 0) + data.get('redone', 0) > 0:
             self.others.append(data)
+        elif message['msg_type'] == 'status' and content['execution_state'] == 'idle' and job and job.count is not None:
+            self.others.append(job)
 
     def hear(self):
         """Takes the broadcasts that have come."""
@@ -142,7 +154,7 @@ class Desk:
                 break
 
     def listen(self):
-        """The moves of other frontends that were heard, up to now."""
+        """What other frontends did that was heard, up to now."""
         self.hear()
         found, self.others = self.others, []
         return found
@@ -193,8 +205,11 @@ class Desk:
         return self.asked
 
     def move(self, data):
+        """The answer to a move, and which nodes it ran."""
+        self.news.way = None
         asked = self.job('comm_msg', {'comm_id': self.comm, 'data': data})
-        return [content['data'] for _, content in self.heard(asked, ('comm_msg',))][0]
+        answer = [content['data'] for _, content in self.heard(asked, ('comm_msg',))][0]
+        return answer, self.news.way
 
     def run(self, code):
         asked = self.job('execute_request', {'code': code, 'silent': False})
@@ -262,22 +277,62 @@ def place(code, octet):
     return line + 1, len(before) - before.rfind('\n'), code.split('\n')[line]
 
 
+def point(where, words, text, column):
+    """A place in words, and under its line."""
+    say(f'{where}: {words}')
+    say('  ' + text)
+    say(('ansired', '  ' + re.sub(r'[^\t]', ' ', text[:column - 1]) + '^'))
+
+
 def explain(line, code, above=0, earlier=()):
-    """A refusal or a fault in words, and the place under its line; so many lines of a file stand above the text, and these cells ran before it."""
-    say(('ansired', line))
-    found = REFUSED.match(line) or FAULT.match(line)
+    """A refusal in words, and the place under its line; so many lines of a file stand above the text, and these cells ran before it."""
+    found = REFUSED.match(line)
     if not found or int(found[1]) not in REFUSALS:
         return
-    advice = REFUSALS[int(found[1])][1]
-    if found.re is REFUSED and found[2] is not None:
-        at = len(code.encode()[:int(found[2])].decode(errors='ignore'))
-        begin = word(int(found[1]), code, at)
-        row, column, text = place(code, int(found[2]) if begin is None else len(code[:begin].encode()))
-        say(f'line {above + row}, column {column}: {meant(int(found[1]), code, at, earlier) or advice}')
-        say('  ' + text)
-        say(('ansired', '  ' + re.sub(r'[^\t]', ' ', text[:column - 1]) + '^'))
-    else:
-        say(advice)
+    if found[2] is None:
+        return say(advice(int(found[1])))
+    at = len(code.encode()[:int(found[2])].decode(errors='ignore'))
+    begin = word(int(found[1]), code, at, earlier)
+    row, column, text = place(code, int(found[2]) if begin is None else len(code[:begin].encode()))
+    point(f'line {above + row}, column {column}', meant(int(found[1]), code, at, earlier) or advice(int(found[1])), text, column)
+
+
+class Session:
+    """The cells in effect, and one more as the last, as a file for janus-steps."""
+    def __init__(self, nodes, texts):
+        self.nodes, self.begins, self.lines = nodes, [], []
+        for text in texts:
+            self.lines += [RUN] if self.begins else []
+            self.begins.append(len(self.lines))
+            self.lines += code_lines(text)
+
+    def write(self, folder):
+        path = os.path.join(folder, 'session.janus-cells')
+        with open(path, 'w', encoding='utf-8') as file:
+            file.write('\n'.join(self.lines) + '\n')
+        return path
+
+    def cell_of(self, line):
+        """Which cell a line of the file is of, by its place among them, and the line in that cell."""
+        cell = max(at for at, begin in enumerate(self.begins) if begin < line)
+        return cell, line - self.begins[cell]
+
+    def fault(self, line):
+        """Where the last cell fails, as janus-steps tells it, if it soon comes to the fault of that line."""
+        found, child = steps.program(), None
+        if found is None:
+            return None
+        with tempfile.TemporaryDirectory(prefix='janus-') as folder:
+            try:
+                child = steps.Child([found, self.write(folder)])
+                child.ask('to-fault\n')
+                view = child.hear(SOON)
+            except (steps.Ended, OSError, ValueError):
+                return None
+            finally:
+                if child:
+                    child.close()
+        return view if view and view.line and line in view.said else None
 
 
 def way(answer):
@@ -288,9 +343,15 @@ def way(answer):
     return ('undid ' + undone if answer['op'] == 'undo' else 'redid ' + redone) + f'; the kernel is at node {answer["node"]}'
 
 
+def ran(job):
+    """A cell of another frontend, in the words of the page."""
+    said = f'ran [{job.count}] {first_line(job.text)[:40]}'
+    return said + (f': {job.failed}' if job.failed else f': node {job.node}' if job.node else '')
+
+
 class Console:
     def __init__(self, desk):
-        self.desk, self.tree, self.count, self.is_told = desk, desk.tree, 1, False
+        self.desk, self.tree, self.count, self.told, self.last = desk, desk.tree, 1, set(), None
         _, texts = desk.wait(desk.texts)
         self.tree.told(texts)
         self.session = PromptSession(message=lambda: [('ansigreen', f'[{self.count}] ')], lexer=PygmentsLexer(JanusLexer), multiline=True,
@@ -356,37 +417,95 @@ class Console:
             return self.wrong('%' + name)
         if name == 'help':
             return print(HELP)
+        if name == 'steps':
+            return self.steps()
         if name in MOVES:
             asked = {'op': name, 'n': int(number) if number else 1}
-            answer = self.desk.wait(self.desk.move, asked, name='%' + name)
+            answer, nodes = self.desk.wait(self.desk.move, asked, name='%' + name)
             if answer['status'] == 'refused':
-                return explain(f'refused {answer["number"]} {answer["name"]}', '')
+                return self.refused(f'refused {answer["number"]} {answer["name"]}')
             say(f'undone {answer["undone"]}, redone {answer["redone"]}' + ('' if answer['end'] == 'all' else f' ({answer["end"]})'))
+            self.which(nodes)
         state = self.desk.wait(self.desk.state, PATIENCE + 1 if name == 'tree' else .5)
         if name == 'tree':
             return [say(*it) for it in self.tree.rows()]
         say(('bold', f'at node {state["node"]}' + (', and a cell is running' if state['busy'] else '')))
-        return [say(it) for it in state['world']]
+        return self.values(state['world'])
+
+    def which(self, nodes):
+        """Names the cells that a move ran, where they are known."""
+        for sign, those in zip(('-', '+'), nodes or ((), ())):
+            for node in those[:MOST_NAMED]:
+                say(('ansicyan', f'  {sign} {node}  {first_line(self.tree.text[node])[:60]}'))
+            if len(those) > MOST_NAMED:
+                say(('ansicyan', f'  {sign} and {len(those) - MOST_NAMED} more'))
+
+    def values(self, lines):
+        """Shows values, and once how to see the numbers that are not shown."""
+        if lines:
+            say('\n'.join(lines))
+        cut = next((found for found in map(CUT.match, lines) if found), None)
+        if cut:
+            how = f'int look look += {cut[1]}[{int(cut[2]) - 1}]' if cut[2] else f'a pop of the newer ones of {cut[1]}'
+            self.once('cut', f'(of an array or a stack 32 numbers are shown; to see another: {how}, and then %undo)')
+
+    def once(self, what, words):
+        if what not in self.told:
+            self.told.add(what)
+            say(('ansicyan', words))
+
+    def refused(self, line, code='', above=0):
+        say(('ansired', line))
+        return explain(line, code, above, self.tree.codes())
+
+    def failed(self, line, code, above):
+        """A fault in words, with its place and the values there, as far as janus-steps soon tells them."""
+        say(('ansired', line))
+        number, view = int(FAULT.match(line)[1]), self.last and self.last.fault(line)
+        if not view:
+            return say(advice(number, False if self.last and not any(re.search(r'\buncall\b', it) for it in self.last.lines) else None))
+        cell, row = self.last.cell_of(view.line)
+        is_own = cell == len(self.last.nodes)
+        where = f'line {above + row if is_own else row}, column {view.column}' + ('' if is_own else f' of the cell of node {self.last.nodes[cell]}') + \
+            (f', in {view.procedure}' if view.procedure else '') + (', which runs backward' if view.is_inverse else '')
+        point(where, advice(number, view.is_inverse), self.last.lines[view.line - 1], view.column)
+        lines = list(dict.fromkeys([*view.read, *(it for _, it in view.values)]))
+        self.values(lines[:MOST_SHOWN])
+        return None if len(lines) <= MOST_SHOWN else say(f'and {len(lines) - MOST_SHOWN} more')
+
+    def steps(self):
+        """Walks through the last cell on a screen."""
+        found = steps.program()
+        if self.last is None or found is None:
+            return say(UNKNOWN if found else NO_STEPS)
+        screen = os.path.join(os.path.dirname(os.path.realpath(__file__)), 'screen.py')
+        with tempfile.TemporaryDirectory(prefix='janus-') as folder:
+            return subprocess.run([sys.executable, screen, '--program', found, self.last.write(folder)], check=False) and None
 
     def cell(self, text, above=0):
         """Runs a cell. Answers the error's line, or None, and the node where the kernel is."""
-        failed = None
-        for kind, content in self.desk.wait(self.desk.run, text, name=CELL):
+        heard = self.desk.wait(self.desk.run, text, name=CELL)
+        failed = next((content['evalue'] for kind, content in heard if kind == 'error'), None)
+        if not (failed or '').startswith('refused'):
+            self.last = self.session_of(text, failed)
+        for kind, content in heard:
             if kind == 'execute_input':
                 self.count = content['execution_count'] + 1
-            elif kind == 'error':
-                failed = content['evalue']
-                explain(failed, text, above, self.tree.codes())
-                self.stepping(failed)
+            elif kind == 'execute_result':
+                self.values(content['data']['text/plain'].split('\n'))
+            elif FAULT.match(failed):
+                self.failed(failed, text, above)
+                self.once('steps', STEPS)
             else:
-                say(content['data']['text/plain'])
+                self.refused(failed, text, above)
         return failed, self.desk.wait(self.desk.state)['node']
 
-    def stepping(self, failed):
-        """Says once how to see the steps of a cell that failed."""
-        if failed.startswith('fault') and not self.is_told:
-            self.is_told = True
-            say(STEPS)
+    def session_of(self, text, failed):
+        """The cells before one that ran just now, and it, or None where they aren't all known."""
+        nodes = self.tree.nodes_above()
+        if nodes and not failed:
+            nodes = nodes[:-1] if self.tree.text[nodes[-1]] == text else None
+        return None if nodes is None else Session(nodes, [*(self.tree.text[it] for it in nodes), text])
 
     def load(self, path):
         """Runs a file of cells, and says which were refused or failed. Ctrl-C leaves it."""
@@ -424,17 +543,17 @@ class Console:
         number = found[2]
         if found[1] == 'goto' and number is not None:
             if int(number) >= len(nodes):
-                return explain('refused 71 NoNode', '')
+                return self.refused('refused 71 NoNode')
             number = nodes[int(number)]
         return self.command(found[1], number)
 
     def tell(self):
-        """Says what other frontends have moved; the last four."""
+        """Says what other frontends did; the last four."""
         found = self.desk.wait(self.desk.listen)
-        if len(found) > 4:
-            say(('ansiyellow', f'other frontends made {len(found)} moves; the last four:'))
-        for it in found[-4:]:
-            say(('ansiyellow', 'another frontend ' + way(it)))
+        if len(found) > MOST_NAMED:
+            say(('ansiyellow', f'other frontends ran {len(found)} cells and moves; the last four:'))
+        for it in found[-MOST_NAMED:]:
+            say(('ansiyellow', 'another frontend ' + (way(it) if isinstance(it, dict) else ran(it))))
 
     def serve(self):
         say(('bold', 'Janus'), ': cells run, and %undo takes them back; %help lists the commands. Other frontends: --existing ' + self.desk.file)

@@ -1,7 +1,7 @@
 #!/usr/bin/python3
 """Saves the session of a kernel of Janus that runs, as a file of cells whose run by janus-cells gives the same tree, worlds and position.
 
-usage: janus-save-session [--existing FILE] [OUT]        (FILE: a kernel's connection file, or the newest; OUT: the script, or standard output)
+usage: janus-save-session [--existing FILE] [OUT]        (FILE: a kernel's connection file, if several run; OUT: the script, or standard output)
        janus-save-session --check [--existing FILE]      (how much of its limits the kernel has used; status 1 above nine tenths)
 
 It walks the kernel's tree, runs the cells once more in a kernel of its own beside it, compares each node, and puts the position back.
@@ -13,6 +13,7 @@ import json
 import os
 import re
 import signal
+import socket
 import subprocess
 import sys
 import time
@@ -419,16 +420,47 @@ def script(shape, texts, position, failed):
     return '\n'.join([*lines, '']).encode()
 
 
-def newest():
-    """The newest connection file of a kernel of Janus."""
+def running():
+    """The connection files of kernels of Janus that listen, the newest first."""
     for file in sorted(glob.glob(os.path.join(jupyter_runtime_dir(), 'kernel-*.json')), key=os.path.getmtime, reverse=True):
         try:
             with open(file, encoding='utf-8') as opened:
-                if json.load(opened).get('kernel_name') == 'janus':
-                    return file
-        except (OSError, ValueError, AttributeError):
+                given = json.load(opened)
+            if given.get('kernel_name') == 'janus':
+                socket.create_connection((given['ip'], given['shell_port']), 1).close()
+                yield file
+        except (OSError, ValueError, AttributeError, KeyError, TypeError):
             continue
-    raise Trouble(f'no kernel of Janus in {jupyter_runtime_dir()}: name its connection file with --existing', 3)
+
+
+def about(file):
+    """What tells a kernel from others: where it is, and since when it runs."""
+    begun = time.strftime('%d %b %H:%M', time.localtime(os.path.getmtime(file)))
+    try:
+        kernel = Kernel(file)
+        state = kernel.state()
+        kernel.close()
+    except Trouble as trouble:
+        return f'{file}  since {begun}, {trouble}'
+    return f'{file}  since {begun}, at node {state["node"]} of {state["nodes"]}' + (', runs a cell' if state['busy'] else '')
+
+
+def chosen():
+    """The kernel that runs; where there are several, the one that is chosen."""
+    files = list(running())
+    if not files:
+        raise Trouble(f'no kernel of Janus in {jupyter_runtime_dir()}: name its connection file with --existing', 3)
+    if len(files) == 1:
+        return files[0]
+    said = f'{len(files)} kernels of Janus run'
+    if not sys.stdin.isatty() or not sys.stderr.isatty():
+        raise Trouble('\n    '.join([said + ': name one with --existing FILE', *map(about, files)]), 2)
+    print('\n'.join([said + ':', *(f'{number:4}  {about(file)}' for number, file in enumerate(files, 1))]), file=sys.stderr)
+    print('which number? ', end='', file=sys.stderr, flush=True)
+    answer = sys.stdin.readline().strip()
+    if not answer.isdecimal() or not 1 <= int(answer) <= len(files):
+        raise Trouble('none was chosen', 2)
+    return files[int(answer) - 1]
 
 
 def is_connection_file(name):
@@ -553,7 +585,7 @@ def main(words):
     signal.signal(signal.SIGTERM, signal.default_int_handler)
     kernel = None
     try:
-        kernel = Kernel(file or newest())
+        kernel = Kernel(file or chosen())
         return check(kernel) if is_check else save(kernel, words[0] if words else None)
     except Trouble as trouble:
         print(f'janus-save-session: {trouble}', file=sys.stderr)

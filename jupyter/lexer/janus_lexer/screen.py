@@ -8,7 +8,6 @@ import curses
 import locale
 import os
 import re
-import shutil
 import signal
 import sys
 import textwrap
@@ -18,8 +17,8 @@ import unicodedata
 sys.path.insert(0, os.path.dirname(os.path.realpath(__file__)))          # not as janus_lexer, which needs Pygments
 
 from cells import VERSION  # noqa: E402
-from refusals import REFUSALS  # noqa: E402
-from steps import CALL, Child, Ended, Walk  # noqa: E402
+from refusals import REFUSALS, advice  # noqa: E402
+from steps import CALL, Child, Ended, Walk, program  # noqa: E402
 
 HELP = '''Right, Space  one step on                     Left, Backspace  one step back
               (a number typed before: so many)
@@ -176,7 +175,7 @@ class Screen:
     def words_of(self, view):
         said = ', '.join([*view.said[:1], *view.read])
         number = int(view.said[0].split()[1]) if view.is_fault() else 0
-        return said + (': ' + REFUSALS[number][1] if number in REFUSALS else '')
+        return said + (': ' + advice(number, view.is_inverse) if number in REFUSALS else '')
 
     def go(self, move, is_search=False):
         """Moves, and remembers where it was. A search that finds nothing ends at an end of the cell, which is told."""
@@ -422,14 +421,6 @@ class Screen:
             self.scout.look()
             if key >= 0 and key != curses.KEY_RESIZE and self.obey(key):
                 return
-
-
-def program(given):
-    """Where janus-steps is: as given, beside this program, in PATH, or in the tree."""
-    here = os.path.dirname(os.path.abspath(sys.argv[0]))
-    tree = os.path.join(os.path.dirname(os.path.realpath(__file__)), *['..'] * 3, 'crates', 'janus_steps', 'out', 'janus_steps')
-    found = [given] if given else [f'{here}/janus-steps', shutil.which('janus-steps') or '', tree]
-    return next((it for it in found if it and os.access(it, os.X_OK) and not os.path.isdir(it)), None)
 
 
 def words_of(given):

@@ -1,4 +1,4 @@
-"""What is probably meant where a text is refused with 30 or 31, which of its causes 40 to 43 has, and what 45 counts, as page/slips.js says it in the
+"""What is probably meant where a text is refused with 30, 31 or 34, which of its causes 40 to 43 has, and what 45 counts, as page/slips.js says it in the
 notebook: the same rules, and the same texts test both."""
 import re
 from types import SimpleNamespace
@@ -8,6 +8,7 @@ KEYWORDS = set('call delocal do else empty fi from if int local loop main nil po
 OPENS = {'fi': 'if', 'until': 'from', 'delocal': 'local', ')': '(', ']': '['}
 CLOSER = {'if': '`fi` with its second test', 'from': '`until` with its test', 'local': '`delocal`', '(': '`)`', '[': '`]`'}
 CHANGES = ('+=', '-=', '^=')
+SHIFT = 'there are no shifts: multiply or divide by a power of two'
 FOREIGN, CHARACTERS, CALLED, COLONS = {}, {}, {}, {}
 USES = {'push': '`push(x, s)` moves the number of the variable `x` onto the stack `s`', 'top': '`top(s)` is the newest number of the stack `s`',
         'pop': '`pop(x, s)` moves the newest number of the stack `s` into the variable `x`', 'empty': '`empty(s)` is 1 if the stack `s` is empty'}
@@ -39,8 +40,23 @@ told(FOREIGN, '`if` ends with `fi` and its second test', 'endif')
 told(FOREIGN, 'write `else if .. fi .. fi ..`: each `if` has its own `fi`, with a second test', 'elif', 'elseif', 'elsif')
 told(FOREIGN, 'write `int` or `stack`', 'var', 'let')
 told(FOREIGN, 'write `int`: 0 is false', 'bool')
-told(FOREIGN, 'numbers are whole: write `int`', 'float')
-told(FOREIGN, 'words of the language are written in lower case', 'IF', 'If', 'FROM', 'From', 'PROCEDURE', 'Procedure', 'CALL', 'LOCAL', 'INT', 'Int')
+told(FOREIGN, 'numbers are whole: write `int`', 'float', 'double')
+told(FOREIGN, 'the kinds are `int` and `stack`', 'bit', 'nat', 'char', 'string', 'unsigned', 'integer', 'i32', 'u32', 'long')
+told(FOREIGN, 'an array is declared by `int a[10]`', 'array')
+told(FOREIGN, 'there are no constants: a number that nothing changes is one', 'const')
+told(FOREIGN, 'a console is left by Ctrl-D, and a notebook by closing it', 'exit', 'quit', 'bye')
+told(FOREIGN, 'the language is on one page of the documents, and Tab completes names', 'help')
+told(FOREIGN, 'write `^`', 'xor')
+told(FOREIGN, SHIFT, 'shl', 'shr')
+told(FOREIGN, 'write `x += 1`', 'inc')
+told(FOREIGN, 'write `x -= 1`', 'dec')
+told(FOREIGN, 'a variable is changed by `+=`, `-=` or `^=`', 'set')
+told(FOREIGN, 'write `skip`, which does nothing', 'nop', 'pass')
+told(FOREIGN, 'the second test of an `if` or a loop asserts', 'assert')
+told(FOREIGN, 'a procedure is run backward by `uncall p(..)`', 'reverse', 'inverse', 'invert')
+told(FOREIGN, 'a loop is `from .. loop .. until ..`', 'od', 'done')
+told(FOREIGN, 'a loop ends only where the test after `until` holds', 'break', 'continue')
+told(FOREIGN, 'write an `if` for each case', 'switch', 'case')
 told(CHARACTERS, 'there are no texts, only numbers', '"', "'", '`', '\u201c', '\u201d', '\u2018', '\u2019')
 told(CHARACTERS, 'statements follow one another without `;`', ';')
 told(CHARACTERS, 'there is no `?`: write an `if`', '?')
@@ -64,6 +80,10 @@ told(CHARACTERS, 'write `>=`', '\u2265')
 told(CHARACTERS, 'no assignment forgets the old value: write `+=`, `-=` or `^=`', '\u2190')
 told(CALLED, 'two numbers are swapped by `x <=> y`; a procedure of your own is called by `call swap(..)`', 'swap')
 told(CALLED, 'no function gives a length: an array has that of its declaration, and `empty(s)` is 1 if the stack `s` is empty', 'len', 'length', 'size')
+told(CALLED, 'there are no functions that give a value: an `if` chooses between two', 'abs', 'max', 'min')
+told(CALLED, 'there are no functions that give a value: a loop finds it', 'sqrt')
+told(CALLED, 'there are no powers: multiply', 'pow')
+told(CALLED, 'nothing is left to chance, since it could not be taken back', 'random')
 told(COLONS, 'after the test of an `if` comes `then`, without a `:`', 'if', 'elif')
 told(COLONS, 'a loop is `from .. loop .. until ..`', 'while', 'for', 'from')
 told(COLONS, 'a procedure begins with `procedure`, and no `:` follows its head', 'def', 'function', 'proc')
@@ -96,9 +116,18 @@ def open_before(tokens):
     return found
 
 
-def look(code, at):
+def tokens_of(code):
+    return [(it[0], it.start()) for it in TOKEN.finditer(code) if not it[0].startswith('//')]
+
+
+def declared_in(lists):
+    """The names that texts declare or define."""
+    return {after[0] for tokens in lists for before, after in zip(tokens, tokens[1:]) if before[0] in ('int', 'stack', 'procedure')}
+
+
+def look(code, at, cells=()):
     """The place and what stands around it; a text is empty where there is no token."""
-    tokens = [(it[0], it.start()) for it in TOKEN.finditer(code) if not it[0].startswith('//')]
+    tokens = tokens_of(code)
     index = next((k for k, it in enumerate(tokens) if it[1] >= at), len(tokens))
 
     def text(k):
@@ -108,29 +137,47 @@ def look(code, at):
     first = tokens.index((inner, begun)) if inner else 0
     around = [tokens[k][0] if k >= 0 else '' for k in (first - 1, first - 2)] if inner == '(' else ['', '']
     return SimpleNamespace(code=code, tokens=tokens, index=index, text=text, here=text(0), before=text(-1), earlier=text(-2), after=text(1), inner=inner,
-                           begun=first + 1 if inner else index, line=code.count('\n', 0, begun) + 1, called=around[0], word=around[1])
+                           begun=first + 1 if inner else index, line=code.count('\n', 0, begun) + 1, called=around[0], word=around[1],
+                           declared=declared_in([tokens, *map(tokens_of, cells)]))
 
 
 def foreign(it):
     if it.here + it.after in ('/*', '(*') or it.before + it.here == '/*' or it.index == 0 and it.here + it.after == '--':
         return 'a comment begins with `//`'
     k = foreign_word(it)
-    return None if k is None else f'`{it.text(k)}` is not a word of Janus: {FOREIGN[it.text(k)]}'
+    if k is None:
+        return None
+    said = word_of_others(it.text(k))
+    if it.text(k) == 'end' and not it.inner and any(one[0] == 'procedure' for one in it.tokens[:it.index]):
+        said = 'a procedure goes on to the next one, or to the end of the cell'
+    if it.text(k) == 'not' and is_name(it.text(k + 1)):
+        said = f'write `{it.text(k + 1)} = 0`'
+    return f'`{it.text(k)}` is not a word of Janus: {said}'
+
+
+def word_of_others(text):
+    """What is said of a word of another language, or of one of this with capitals, or None."""
+    has_capitals = text not in KEYWORDS and text.lower() in KEYWORDS
+    return FOREIGN.get(text) or ('words of the language are written in lower case' if has_capitals else None)
 
 
 def foreign_word(it):
-    """Where a word of another language is: 0 at the place, -1 before it, or None."""
+    """Where a word of another language is: 0 at the place, -1 before it, -2 where it was read as a name and a statement after it, or None."""
     for k in (0, -1):
-        is_used = it.text(k - 1) in ('call', 'uncall', 'procedure', 'int', 'stack', '(', ',', '[') or it.text(k + 1) in (*CHANGES, '=')
-        if it.text(k) in FOREIGN and not is_used:
+        is_head = it.text(k - 1) in ('call', 'uncall', 'procedure', 'int', 'stack', '(', ',', '[')
+        is_used = is_head or it.text(k + 1) in (*CHANGES, '=') or it.text(k) in it.declared
+        if word_of_others(it.text(k)) and not is_used:
             return k
-    return None
+    return -2 if it.earlier == 'not' and is_name(it.before) and wants_value(it.text(-3)) else None
 
 
 def number(it):
     hexadecimal = re.fullmatch('x([0-9A-Fa-f]+)', it.before)
     if hexadecimal and it.earlier == '0':
         return f'there are no hexadecimal numbers: `0{it.before}` is {int(hexadecimal[1], 16)}'
+    for base, found in (2, re.fullmatch('b([01]+)', it.before)), (8, re.fullmatch('o([0-7]+)', it.before)):
+        if found and it.earlier == '0':
+            return f'numbers are decimal: `0{it.before}` is {int(found[1], base)}'
     if it.here == ',' and is_number(it.before) and is_number(it.after):
         return 'an array has one index' if it.inner == '[' else f'a number is written without a comma: `{it.before}{it.after}`'
     exponent = re.fullmatch('[eE]([0-9]*)', it.before)
@@ -145,6 +192,10 @@ def equals(it):
         return None
     if it.before == '=':
         return 'equality is one `=`'
+    if it.word == 'procedure':
+        return 'a parameter has no value of its own: a call lends it a variable'
+    if it.after == '=' and is_name(it.before) and it.earlier not in ('int', 'stack'):
+        return f'a test alone is not a statement, and equality is one `=`: change `{it.before}` by `+=`, `-=` or `^=`'
     if it.before in ('<', '>'):
         return f'write `{it.before}=` without a space'
     if is_name(it.before) and it.earlier == 'stack':
@@ -162,15 +213,25 @@ def equals(it):
 def operator(it):
     if it.after == '=' and it.here in ('-', '*', '/', '%', '&', '|', '+', '^', '&&', '||'):
         return f'write `{it.here}=` without a space' if it.here in ('-', '+', '^') else 'only `+=`, `-=` and `^=` can be taken back'
+    if (it.here, it.after, it.text(2)) == ('*', '*', '=') or it.here in ('<', '>') and it.after == it.here + '=':
+        return 'only `+=`, `-=` and `^=` can be taken back'
     if it.here in ('+', '-') and it.after == it.here:
-        return f'write `{it.before if is_name(it.before) else it.text(2) if is_name(it.text(2)) else "x"} {it.here}= 1`'
+        return f'write `{changed(it) or "x"} {it.here}= 1`'
+    if (it.here, it.after, it.text(2)) == ('<', '-', '>') or (it.here, it.after) == ('<', '>') and is_name(it.before):
+        return 'a swap is written `<=>`' + (', and different `!=`' if it.after == '>' else '')
+    if (it.here, it.after) == ('-', '>'):
+        return 'there is no `->`: `x += y` adds `y` to `x`, and `x <=> y` swaps them'
+    if it.here == it.earlier == '<=>':
+        return '`<=>` swaps two variables: write a statement for each swap'
+    if it.here == '<=>' and not is_name(it.before) and it.before != ']' and not is_number(it.before):
+        return 'before `<=>` the name of a variable is needed'
     if it.here == '<' and it.after == '-' and is_name(it.before):
         return CHARACTERS['\u2190']
     if it.here in ('<', '>') and it.before == it.here:
-        return 'there are no shifts: multiply or divide by a power of two'
+        return SHIFT
     if it.here == it.before == '*':
         return 'there are no powers: multiply'
-    if it.here == '+' and it.before in ('-', '+', '*', '/', '%', '(', '=', '<', '>'):
+    if it.here == '+' and it.before in (*CHANGES, '-', '+', '*', '/', '%', '(', '=', '<', '>'):
         return 'a number has no sign `+`: leave it out'
     if it.here == '>' and it.before == '<':
         return 'write `!=` for different'
@@ -189,7 +250,51 @@ def stacks(it):
     return 'two names are needed here: ' + USES[it.called] if it.here == ')' and it.called in ('push', 'pop') else None
 
 
+def changed(it):
+    """What a sign such as `++` at the place is to change: the name or the element around it, or None."""
+    if it.before == ']':
+        begin, depth = it.index - 1, 1
+        while begin > 0 and depth:
+            begin -= 1
+            depth += {']': 1, '[': -1}.get(it.tokens[begin][0], 0)
+        if begin > 0:
+            return it.code[it.tokens[begin - 1][1]:it.tokens[it.index - 1][1] + 1]
+    return next((one for one in (it.before, it.text(2)) if is_name(one)), None)
+
+
+def head(it):
+    """In the head of a procedure."""
+    is_first, name = it.before in ('(', ','), it.text(3) if (it.after, it.text(2)) == ('[', ']') else it.after
+    if it.here == ')' and it.before == ',':
+        return 'after `,` a parameter is needed'
+    if it.here in ('int', 'stack') and not is_first:
+        return 'a `,` is missing before this parameter'
+    if it.here in ('&', '*') and it.before == 'int':
+        return f'leave out `{it.here}`: a procedure works on the variables that a call lends it'
+    if is_first and is_name(it.here) and is_name(name):
+        return f'`{it.here}` is not a kind: write `int {name}{"[]" if it.after == "[" or it.here == "array" else ""}`'
+    return None
+
+
+def lent(it):
+    """Among the names of a call."""
+    if not it.here and is_name(it.before):
+        return None                                                       # the parenthesis is open
+    if is_name(it.here) and is_name(it.before):
+        return f'a `,` is missing between `{it.before}` and `{it.here}`'
+    if (it.here, it.after) == ('[', ']'):
+        return f'an array is lent by its name alone: write `{it.before}`'
+    if it.here in ('int', 'stack'):
+        return 'a call names its variables without their kinds'
+    if it.before in ('(', ',') and it.here in (',', ')', ''):
+        return 'the name of a variable is missing here'
+    return 'only names of variables can be used here: put the value into a variable or a local first'
+
+
 def parameters(it):
+    said = head(it) if it.word == 'procedure' else None
+    if said:
+        return said
     if it.word == 'procedure' and it.before in ('(', ',') and is_name(it.here):
         return f'each parameter needs its kind: `int {it.here}`, `int {it.here}[]` or `stack {it.here}`'
     if it.before == '[' and it.text(-3) == 'int' and it.text(-4) in ('(', ','):
@@ -197,7 +302,7 @@ def parameters(it):
     if it.here in ('call', 'uncall') and wants_value(it.before):
         return f'after `{it.before}` a value is needed, and a procedure returns none: `{it.here}` changes the variables that are lent to it'
     if it.called in ('push', 'pop') or it.word in ('call', 'uncall'):
-        return 'only names of variables can be used here: put the value into a variable or a local first'
+        return lent(it)
     if it.called in ('empty', 'top'):
         return 'the name of a stack is needed here'
     if it.before in ('call', 'uncall'):
@@ -206,12 +311,44 @@ def parameters(it):
         return f'write `{it.earlier} {it.before}(..)`, with the names in parentheses'
     if it.here != '(' or not is_name(it.before):
         return None
-    is_value = wants_value(it.earlier)
-    called = f'a procedure returns no value: `call {it.before}(..)` changes the variables that are lent to it' if is_value else ''
-    return CALLED.get(it.before) or called or f'a procedure is called by `call {it.before}(..)`'
+    if it.before in CALLED:
+        return CALLED[it.before]
+    if it.earlier == 'int' and is_number(it.after):
+        return f'the length of an array is in brackets: `int {it.before}[{it.after}]`'
+    if wants_value(it.earlier):
+        element = f', and an element of an array is `{it.before}[{it.after}]`' if it.text(2) == ')' else ''
+        return f'a procedure returns no value: `call {it.before}(..)` changes the variables that are lent to it{element}'
+    return f'a procedure is called by `call {it.before}(..)`'
 
 
 def declaration(it):
+    return kinds(it) or brackets(it) or places(it)
+
+
+def kinds(it):
+    """Of what declares a name."""
+    is_test = (it.earlier if it.before == '(' else it.before) in ('if', 'from', 'until', 'fi')
+    if it.here == 'int' and is_test:
+        return f'a test declares nothing: declare `{it.after or ".."}` in front of it, or as a `local`'
+    if (it.here, it.before, it.after) == ('[', 'int', ']') and is_name(it.text(2)):
+        is_head = it.word == 'procedure'
+        return f'the brackets come after the name: `int {it.text(2)}[]`' if is_head else f'the length comes after the name: `int {it.text(2)}[10]`'
+    if it.here == '[' and is_name(it.before) and it.earlier == 'stack':
+        return f'a stack has no length: write `stack {it.before}`'
+    if it.here == ',' and is_name(it.before) and it.earlier == 'int' and it.after in ('int', 'stack'):
+        return 'declarations follow one another without `,`'
+    if is_name(it.before) and is_name(it.earlier) and it.text(-3) in ('int', 'stack') and it.text(-4) not in ('local', 'delocal'):
+        return f'each name needs its own kind: `{it.text(-3)} {it.earlier} {it.text(-3)} {it.before}`'
+    if is_name(it.before) and it.earlier in ('int', 'stack') and it.text(-3) == 'delocal':
+        return f'the value at its end is missing: `delocal {it.earlier} {it.before} = {"nil" if it.earlier == "stack" else ".."}`'
+    if it.here == 'main' or (it.before, it.earlier) == ('main', 'procedure'):
+        return 'a whole program has `procedure main()`, with the parentheses'
+    if it.here == 'nil' and wants_value(it.before):
+        return '`nil` is no value: a local stack begins and ends with it'
+    return '`uncall` is one word' if (it.here, it.before) == ('call', 'un') else None
+
+
+def brackets(it):
     if (it.earlier, it.before, it.here) == ('main', '(', 'int'):
         return '`main` has no parameters: its declarations follow `main()`'
     is_sized = it.here == '[' and is_number(it.after) and it.text(2) == ']' and is_name(it.text(3))
@@ -221,6 +358,10 @@ def declaration(it):
         return f'a stack has no length: write `stack {it.text(3) if is_sized else "s"}`'
     if it.here == ',' and is_name(it.before) and it.earlier == 'int':
         return f'each name needs its own kind: `int {it.before} int {it.after or ".."}`'
+    return None
+
+
+def places(it):
     if it.here in KEYWORDS and it.before in ('int', 'stack', 'procedure', 'call', 'uncall'):
         return f'`{it.here}` is a word of the language: a name is needed here'
     if it.before in ('local', 'delocal'):
@@ -276,6 +417,8 @@ def after_test(it):
 def lists(it):
     if it.here == '[' and it.before == ']':
         return 'an array has one index'
+    if it.here == ']' and it.before == '[':
+        return 'the index is missing'
     if it.here != ',' or it.inner in ('(', '['):
         return None
     if is_number(it.before) or it.before == ')':
@@ -297,6 +440,11 @@ def test(it):
 def statement(it):
     if it.before == ')' and any(one[0] == 'procedure' for one in it.tokens[:it.index]):
         return 'a procedure has at least one statement after its head'
+    if it.before in CALLED:
+        return CALLED[it.before]
+    is_on_line = it.index > 1 and '\n' not in it.code[it.tokens[it.index - 2][1]:it.tokens[it.index - 1][1]]
+    if not it.here and is_name(it.before) and (is_name(it.earlier) or is_number(it.earlier)) and is_on_line:
+        return f'between `{it.earlier}` and `{it.before}` an operator is missing, or a statement begins there: `{it.before} += ..`'
     if not it.here and is_name(it.before):
         return f'a name alone is not a statement: `{it.before} += ..` changes it, and a cell shows what it mentions'
     if it.before in CHANGES or re.fullmatch(r'&&|\|\||!=|<=|>=|[-+*/%^&|<>=]', it.before):
@@ -315,10 +463,19 @@ RULES = (foreign, number, equals, operator, stacks, parameters, declaration, lis
 
 def character(code, at):
     """What is meant by a character that means nothing."""
-    one, last = code[at:at + 1], code[at - 1:at]
+    one, last, it = code[at:at + 1], code[at - 1:at] if at else '', look(code, at)
     names = [it for it in TOKEN.findall(code[:at]) if not it.startswith('//')]
+    is_line_begin, is_line_end = not code[:at].split('\n')[-1].strip(' \t'), not code[at + 1:].split('\n')[0].strip(' \t\r')
     if one == ':':
-        return colon(code, at)
+        return f'the kind comes before the name: `int {it.before or "x"}`' if it.word == 'procedure' else colon(code, at)
+    if one == ';' and it.inner == '(':
+        return 'names in parentheses are separated by `,`'
+    if one == '?' and (is_line_begin or is_line_end):
+        return 'there is no `?`: a cell shows the names that it mentions'
+    if one == '!' and is_line_begin:
+        return "commands of a shell can't be given here"
+    if one == '{' and it.before == '=':
+        return 'there are no lists: the elements of an array start at 0, and `+=` gives them their values'
     if one == '.' and names and is_name(names[-1]):
         return 'there is no `.` after a name: a stack is used by `push(x, s)`, `pop(x, s)`, `top(s)` and `empty(s)`'
     if one == '.' and not is_number(last):
@@ -333,6 +490,21 @@ def colon(code, at):
     if code[at + 1:at + 2] == '=':
         return 'there is no `:=`: a variable is changed by `+=`, `-=` or `^=`'
     return COLONS.get(head, 'there is no `:`: leave it out')
+
+
+def other_end(it):
+    """Of a `delocal` that fits no local that is open, what it has to be."""
+    at = it.index - 1 if it.before == 'delocal' else it.index - 2
+    texts = [one[0] for one in it.tokens]
+    opened = [it.tokens.index(one) for one in open_before(it.tokens[:max(at, 0)]) if one[0] == 'local']
+    if not opened or opened[-1] + 2 >= len(texts):
+        return None
+    kind, name = texts[opened[-1] + 1:opened[-1] + 3]
+    said = f'`{name}` of line {it.code.count(chr(10), 0, it.tokens[opened[-1]][1]) + 1}'
+    ended = texts[at + 2] if at + 2 < len(texts) else ''
+    if ended != name and any(texts[one + 2] == ended for one in opened):
+        return f'the local {said} began later, so it ends first: write its `delocal` before that of `{ended}`'
+    return f'this ends the local {said}: write `delocal {kind} {name} = ..`'
 
 
 def declared(it):
@@ -429,12 +601,12 @@ def arity(it, earlier):
     return f'the procedure `{it.here}` has {wanted} parameter{"" if wanted == 1 else "s"}, and {said}'
 
 
-NAMES = {40: declared, 41: unknown, 42: other_kind, 43: itself, 45: arity}
+NAMES = {34: other_end, 40: declared, 41: unknown, 42: other_kind, 43: itself, 45: arity}
 
 
-def word(refused, code, at):
+def word(refused, code, at, earlier=()):
     """Where the word begins that the sentence is about, where the kernel's place is behind it, or None."""
-    it = look(code, at) if refused == 31 else None
+    it = look(code, at, earlier) if refused == 31 else None
     k = foreign_word(it) if it and ' is not a word of Janus' in (foreign(it) or '') else None
     return None if k is None else it.tokens[it.index + k][1]
 
@@ -443,7 +615,7 @@ def meant(refused, code, at, earlier=()):
     """The sentence for a refusal's number at a place of the text, or None. Some need the texts of earlier cells."""
     said = None
     if refused == 31:
-        it = look(code, at)
+        it = look(code, at, earlier)
         said = next((words for words in (rule(it) for rule in RULES) if words), None)
     elif refused == 30:
         said = character(code, at)

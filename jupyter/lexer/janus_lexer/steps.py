@@ -2,7 +2,9 @@
 import os
 import re
 import select
+import shutil
 import subprocess
+import sys
 import time
 
 ASK = 'where\nshow\ncalls\ncount\n'
@@ -12,6 +14,14 @@ VALUE = re.compile(r'(\w+)(?:\[\d+\]|\(\d+\))? =')
 CALL = re.compile(r'(?:un)?call (\w+) line (\d+) column \d+')
 STOP = re.compile(r'(?:begin|end|before|test|entry|exit|again)\b')      # a statement begins or a test is made
 STOPPED = 'stopped, and brought back to where it was'
+
+
+def program(given=None):
+    """Where janus-steps is: as given, beside the program that runs, in PATH, or in the tree."""
+    here = os.path.dirname(os.path.abspath(sys.argv[0]))
+    tree = os.path.join(os.path.dirname(os.path.realpath(__file__)), *['..'] * 3, 'crates', 'janus_steps', 'out', 'janus_steps')
+    found = [given] if given else [f'{here}/janus-steps', shutil.which('janus-steps') or '', tree]
+    return next((it for it in found if it and os.access(it, os.X_OK) and not os.path.isdir(it)), None)
 
 
 class Ended(Exception):

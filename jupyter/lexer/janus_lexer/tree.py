@@ -124,6 +124,7 @@ class Tree:
         self.parent[node], self.depth[node], self.text[node] = self.position, None if depth is None else depth + 1, text
         self.journal.append(node)
         self.position, self.redo = node, 0
+        return node
 
     def fits(self, answer):
         """Whether a move is known to begin where the kernel is thought to be."""
@@ -205,8 +206,20 @@ class Tree:
             self.text[node] = self.text[node] or text
 
     def codes(self):
-        """The texts that are known of the cells on the path."""
-        return [self.text[node] for node in self.path() if node]
+        """The texts that are known of the cells on the path, the oldest first."""
+        return [self.text[node] for node in sorted(self.path()) if node]
+
+    def nodes_above(self):
+        """The nodes from the start to the position, without the start, if all of them and their texts are known, else None."""
+        start, *nodes = sorted(self.path())
+        return nodes if self.is_known and start == 0 and all(self.text[it].strip() for it in nodes) else None
+
+    def way(self, answer):
+        """The nodes that a move ran back, the newest first, and those that it ran again, while the position is as before it; None where they aren't known."""
+        if not self.is_known or not self.fits(answer):
+            return None
+        back = [self.above(self.position, steps) for steps in range(answer['undone'])]
+        return back, [self.above(answer['node'], steps) for steps in range(answer['redone'])][::-1]
 
     # ---- what is drawn
     def children(self):
@@ -246,18 +259,19 @@ class Heard:
         self.clock, self.count, self.unsure = 0, 0, 0                     # ends of jobs; the highest count; moves of which it isn't known where they began
         self.early, self.asked, self.is_missing, self.doubted = [], 0, False, None  # doubted: the last state, if it wasn't taken
         self.silent, self.spoken, self.moves = 0, 0, 0                    # silent cells, other jobs, and moves among these since the last state
+        self.way = None                                                   # which nodes the last move ran, as far as that is known
 
     def hear(self, message):
         parent, content, kind = message['parent_header'], message['content'], message['msg_type']
         if parent.get('msg_type') not in ('execute_request', 'comm_msg'):
             return
         new = SimpleNamespace(type=parent['msg_type'], session=parent.get('session'), clock=self.clock, unsure=self.unsure, count=None, text='',
-                              has_failed=False, answer={})
+                              failed=None, node=None, answer={})
         job = self.jobs.setdefault(parent['msg_id'], new)
         if kind == 'execute_input':
             job.count, job.text = content['execution_count'], content['code']
         elif kind == 'error':
-            job.has_failed = True
+            job.failed = content['evalue']
         elif kind == 'comm_msg':
             job.answer = content.get('data', {})
         elif kind == 'status' and content['execution_state'] == 'idle':
@@ -282,17 +296,18 @@ class Heard:
 
     def cell(self, job):
         self.spoken, self.count = self.spoken + 1, max(self.count, job.count)
-        if job.has_failed:
+        if job.failed:
             return
         if self.unsure > job.unsure:                                      # a move that was heard first may have come after it
             self.is_missing = True
         if self.tree.is_known:
-            self.tree.cell(job.text)
+            job.node = self.tree.cell(job.text)
         elif self.early is not None:
             self.early.append(job.text)
 
     def moved(self, job, answer):
         is_among_others, fits = self.clock > job.clock, self.tree.fits(answer)
+        self.way = self.tree.way(answer)
         self.clock, self.spoken, self.moves, self.unsure = self.clock + 1, self.spoken + 1, self.moves + 1, self.unsure + (not fits)
         if not self.tree.is_known:
             self.early = None

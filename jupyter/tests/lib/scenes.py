@@ -197,7 +197,8 @@ def waiting(stage):
     page.interrupt()
     second.heard(asked, 'idle', 200)
     stands(page, 3, 4, FORWARD, 'after the stop the undo is done', 120)
-    comes('and the message is gone', lambda: message(page) == '')
+    comes('and the message says which cell it took back',
+          lambda: (message(page) == 'Undid node 4, In [4] uncall fib(x1, x2, n).', message(page)))
 
 
 # ---- several frontends
