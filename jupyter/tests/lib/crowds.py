@@ -181,6 +181,7 @@ def flood(stage):
     page, frontend = stage.page, stage.frontend()
     page.run(1)
     stands(page, 1, 1)
+    stillness.piled_up(page, frontend, panel, 'Jupyter.janus.conversation')
     page.js(METER)
     out, clicks, watch = [], [], stillness.Watch(page.driver)
     page.js(stillness.BEGIN)

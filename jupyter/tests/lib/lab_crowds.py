@@ -107,6 +107,7 @@ def flood(stage):
     page, frontend = stage.page, stage.frontend()
     run(page, 1)
     stands(page, 1, 1)
+    stillness.piled_up(page, frontend, lab_page, 'janus_history.found().conversation')
     page.js(METER)
     gaps, own = beats(page, frontend, 5)
     work = page.js('return window.work')
