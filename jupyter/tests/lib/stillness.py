@@ -11,6 +11,11 @@ EVERY = .005            # s, between two looks at how long the threads have wait
 BEGIN = '''window.beats = []; var last = performance.timeOrigin + performance.now();
     window.beat = setInterval(function () { var now = performance.timeOrigin + performance.now(); window.beats.push([last, now]); last = now; }, 10)'''
 END = 'clearInterval(window.beat); return window.beats'
+# A meter on what parts of the page take: `meter(owner, name)` for each of its calls.
+METER = '''window.work = {total: 0, goes: []};
+    function meter(owner, name) { var old = owner[name]; owner[name] = function () { var begun = performance.now(), out = old.apply(this, arguments);
+        var ended = performance.now(), from = performance.timeOrigin; window.work.total += ended - begun;
+        if (ended - begun > 5) window.work.goes.push([from + begun, from + ended]); return out; }; }'''
 HOLD, PILED = 1500, 200 # ms for which the page is held up, and cells of another frontend meanwhile
 TOGETHER = 3            # broadcasts that are heard before other work has its turn, at most
 # Behind `var it = the conversation;`: holds the page up for so long, and counts the broadcasts that are heard between two turns of other work.
@@ -75,6 +80,12 @@ class Watch(threading.Thread):
                 waited = looks[last][2] - looks[first][2] - (begun - times[first]) - (times[last] - ended)
             out.append(ended - begun - max(0, waited))
         return sorted(out)
+
+
+def metered(page, watch):
+    """The longest that a call under the meter took, without the waits for a processor, and what all took, in ms."""
+    work = page.js('return window.work')
+    return max(watch.own(work['goes']), default=0), work['total']
 
 
 def piled_up(page, frontend, view, conversation):
