@@ -15,9 +15,7 @@ WORK = 100              # ms, the longest that the page's own parts may take in 
 MOST_OPEN = 400         # cells that were sent and have no reply, at most
 STILL, GOAL = 100, 50   # ms, the longest that the page may not look at anything, and what is aimed at
 # A meter on what the page's own parts take.
-METER = '''window.work = {longest: 0, total: 0};
-    function meter(owner, name) { var old = owner[name]; owner[name] = function () { var begun = performance.now(), out = old.apply(this, arguments);
-        var took = performance.now() - begun; window.work.total += took; window.work.longest = Math.max(window.work.longest, took); return out; }; }
+METER = stillness.METER + '''
     meter(Jupyter.janus.conversation, 'hear'); meter(Jupyter.janus, 'update'); meter(Jupyter.janus, 'keep');
     meter(Jupyter.janus.panel.tree, 'place')'''
 
@@ -181,6 +179,7 @@ def flood(stage):
     page, frontend = stage.page, stage.frontend()
     page.run(1)
     stands(page, 1, 1)
+    stillness.piled_up(page, frontend, panel, 'Jupyter.janus.conversation')
     page.js(METER)
     out, clicks, watch = [], [], stillness.Watch(page.driver)
     page.js(stillness.BEGIN)
@@ -199,9 +198,9 @@ def flood(stage):
     figure('cells sent, in seconds', (out[0][0], round(out[0][1], 1)))
     figure('the page\'s beats of 10 ms: median, longest, ms', (round(gaps[len(gaps) // 2], 1), round(gaps[-1], 1)))
     figure('the History button while it went on, median and longest, ms', (round(sorted(clicks)[len(clicks) // 2] * 1000), round(max(clicks) * 1000)))
-    work = page.js('return window.work')
-    figure('the page\'s own parts: longest in one go, in all, ms', (round(work['longest'], 1), round(work['total'])))
-    check(work['longest'] < WORK, f'the page\'s own parts never take {WORK} ms in one go', work)
+    longest, total = stillness.metered(page, watch)
+    figure('the page\'s own parts: longest in one go, in all, ms', (round(longest, 1), round(total)))
+    check(longest < WORK, f'the page\'s own parts never take {WORK} ms in one go', longest)
     figure('the longest without the waits for a processor, ms', [round(it, 1) for it in own[-3:]])
     figure(f'beats that came more than {GOAL} ms late, in all and without such waits', (sum(it > GOAL for it in gaps), sum(it > GOAL for it in own)))
     check(own[-1] < STILL, f'the page never stands still for {STILL} ms', own[-5:], gaps[-5:])

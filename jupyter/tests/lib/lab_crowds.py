@@ -30,9 +30,7 @@ DRAWN = '''var t = janus_history.found().panel.tree, most = t.box.scrollHeight -
     return {scrolled: middle(scrolled), jumped: middle(jumped), most: Math.max.apply(null, scrolled.concat(jumped)),
         elements: t.svg.getElementsByTagName("*").length, lanes: t.layout.lines.length}'''
 # A meter on what the extension takes in one go, which is called once.
-METER = S + '''window.work = {longest: 0, total: 0};
-    function meter(owner, name) { var old = owner[name]; owner[name] = function () { var begun = performance.now(), out = old.apply(this, arguments);
-        var took = performance.now() - begun; window.work.total += took; window.work.longest = Math.max(window.work.longest, took); return out; }; }
+METER = S + stillness.METER + '''
     meter(s.conversation, 'hear'); meter(s.conversation, 'release_all'); meter(s, 'update'); meter(s, 'keep'); meter(s.panel.tree, 'place')'''
 
 
@@ -90,7 +88,7 @@ def ten_thousand(stage):
 
 
 def beats(page, frontend, seconds):
-    """The gaps between the page's beats under 1,000 cells a second, rising, and the same without the machine's doing."""
+    """The gaps between the page's beats under 1,000 cells a second, rising, the same without the machine's doing, and what the extension took."""
     out, watch = [], stillness.Watch(page.driver)
     page.js(stillness.BEGIN)
     thread = threading.Thread(target=paced, args=(frontend, seconds, 1000, out), daemon=True)
@@ -100,23 +98,23 @@ def beats(page, frontend, seconds):
     time.sleep(.1)
     watch.end()
     figure('cells sent, in seconds', (out[0][0], round(out[0][1], 1)))
-    return sorted(ended - begun for begun, ended in came), watch.own(came)
+    return sorted(ended - begun for begun, ended in came), watch.own(came), *stillness.metered(page, watch)
 
 
 def flood(stage):
     page, frontend = stage.page, stage.frontend()
     run(page, 1)
     stands(page, 1, 1)
+    stillness.piled_up(page, frontend, lab_page, 'janus_history.found().conversation')
     page.js(METER)
-    gaps, own = beats(page, frontend, 5)
-    work = page.js('return window.work')
+    gaps, own, longest, total = beats(page, frontend, 5)
     figure('the page\'s beats of 10 ms: median, longest, ms', (round(gaps[len(gaps) // 2], 1), [round(it, 1) for it in gaps[-3:]]))
-    figure('the extension: longest in one go, in all, ms', (round(work['longest'], 1), round(work['total'])))
+    figure('the extension: longest in one go, in all, ms', (round(longest, 1), round(total)))
     figure('the longest without the waits for a processor, ms', [round(it, 1) for it in own[-3:]])
     figure(f'beats that came more than {GOAL} ms late, in all and without such waits', (sum(it > GOAL for it in gaps), sum(it > GOAL for it in own)))
     check(own[-1] < STILL, f'the page never stands still for {STILL} ms', own[-5:], gaps[-5:])
-    check(work['longest'] < WORK, f'the extension never takes {WORK} ms in one go', work)
-    check(work['total'] < SHARE * sum(gaps), 'nor a fifth of the time in all', work, sum(gaps))
+    check(longest < WORK, f'the extension never takes {WORK} ms in one go', longest)
+    check(total < SHARE * sum(gaps), 'nor a fifth of the time in all', total, sum(gaps))
     now = frontend.ask('state')         # behind all its cells
     stands(page, now['node'], now['nodes'], now['world'], 'behind the flood the panel stands where the kernel stands', 300)
     figure('nodes, and those that are open since the server held broadcasts back', (now['nodes'], page.js(BRIEF)['unknown']))
