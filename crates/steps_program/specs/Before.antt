@@ -120,8 +120,11 @@ node_come (NotPosted f) = None
 node_come (Finished o) = node_of o
 
 -- what is written of a cell: its number, and what came of it
+abbrev pub cell_words : ℕ → List ℕ
+cell_words n = counted_text (codes "cell ") n ++ codes " "
+
 abbrev pub cell_line : ℕ → Came → List ℕ
-cell_line n came = counted_text (codes "cell ") n ++ (codes " " ++ ended_line (came_line came))
+cell_line n came = cell_words n ++ ended_line (came_line came)
 
 -- a text runs as a cell
 pub record RunsAs (text : Text) (old new : Stage) (out : List ℕ) : Type 0 where

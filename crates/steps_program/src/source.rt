@@ -7,8 +7,8 @@ ghost use Rattle.kernel_core.specs.Request.{request_of};
 ghost use Rattle.kernel_core.specs.Runs.{Machine as TheMachine};
 ghost use Rattle.cells_program.specs.Lines.{is_blank as is_blank_text};
 ghost use Rattle.cells_program.specs.State.{Idle};
-ghost use Rattle.steps_program.specs.Before.{CommandLeads, Finds, IsServed, LineLeads, Moves, RunsAs, RunsIf, Stage, begun_behind, cell_of, cells_in};
-ghost use Rattle.steps_program.specs.Before.{counted_with, ends_before as ends_before_of, first_stage, is_cell as is_cell_of, kept_as, node_of, ran_in};
+ghost use Rattle.steps_program.specs.Before.{CommandLeads, Finds, IsServed, LineLeads, Moves, RunsAs, RunsIf, Stage, begun_behind, cell_of, cell_words};
+ghost use Rattle.steps_program.specs.Before.{cells_in, counted_with, ends_before as ends_before_of, first_stage, is_cell as is_cell_of, kept_as, node_of, ran_in};
 ghost use Rattle.steps_program.specs.Before.{runs_before, stage_of, taken, text_of, with_line};
 ghost use Rattle.steps_program.specs.Places.{source_of as source_of_node};
 
@@ -344,6 +344,18 @@ fn runs(source: &Source, command: Command) -> bool
     }
 }
 
+/// Writes which cell runs, at once: a reader who waits for its end knows which one to walk through.
+fn announce<W: Write>(writer: &mut W, number: usize) -> Result<(), WriteFailed>
+    ensures { OnOk result (Appends (W.contents writer.old) (W.contents writer.new) (cell_words number)) }
+{
+    send_counted(writer, "cell ", number as u64)?;
+    send(writer, b" ")?;
+    match writer.flush() {
+        Ok(()) => Ok(()),
+        Err(_) => Err(WriteFailed),
+    }
+}
+
 /// Runs a cell; its source is kept where it becomes a node.
 fn run_cell<L: Ledger, W: Write>(
     alloc: Global,
@@ -361,8 +373,7 @@ fn run_cell<L: Ledger, W: Write>(
 {
     let text = String::from_str(alloc, source.text.as_str())?;
     let code = CellText::new(alloc, text)?;
-    send_counted(writer, "cell ", reading.number as u64)?;
-    send(writer, b" ")?;
+    announce(writer, reading.number)?;
     let job = Job::Cell {
         code,
         silent: false,

@@ -45,6 +45,12 @@ returns-in-Came g c =
     let b = g.W.Write.contents c.send_came.new.writer in
     said_so c.args.sources.now c.args.walk.now c.args.reply (reply.Came c.in-Came.came) c.in-Came.is a b c.send_came.result c.send_came.ensures
 
+pub returns-in-Sought : goal.returns-in-Sought
+returns-in-Sought g c =
+    let a = g.W.Write.contents c.args.writer.now in
+    let b = g.W.Write.contents c.send_sought.new.writer in
+    said_so c.args.sources.now c.args.walk.now c.args.reply (reply.Sought c.in-Sought.came) c.in-Sought.is a b c.send_sought.result c.send_sought.ensures
+
 pub returns-in-Names : goal.returns-in-Names
 returns-in-Names g c =
     let a = g.W.Write.contents c.args.writer.now in

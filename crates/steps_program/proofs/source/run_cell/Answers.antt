@@ -1,11 +1,10 @@
-use Rattle.std.proofs.Common.{◌≡◌, ◌∙◌, ℕ, List, ◌++◌, codes, string_bytes, false, true, refl, subst}
+use Rattle.std.proofs.Common.{◌≡◌, ◌∙◌, ℕ, List, string_bytes, false, true, refl, subst}
 use Rattle.exact_write.proofs.SendLemmas.{appends_join}
 use Rattle.kernel_core.specs.Request.{RunCell}
-use Rattle.kernel_text.specs.Lines.{counted_text}
 use Rattle.cells_program.specs.Lines.{ended_line}
 use Rattle.cells_program.specs.Served.{Finished, NotPosted, Serves}
 use Rattle.cells_program.specs.Transcript.{came_line}
-use Rattle.steps_program.specs.Before.{cell_line}
+use Rattle.steps_program.specs.Before.{cell_line, cell_words}
 use Rattle.steps_program.specs.declared.source.TheConstants.{STEPS}
 use Rattle.steps_program.proofs.source.run_cell.Goals as goal
 
@@ -23,10 +22,8 @@ returns-in_ok-keep-in-Ok-clause-runs g c =
         left = c.in_ok-keep-in-Ok.ensures new;
         is = refl;
       },
-      appends_join (g.W.Write.contents c.args.writer.now) (g.W.Write.contents c.send_counted.new.writer) (g.W.Write.contents c.send_outcome.new.writer)
-          (counted_text (codes "cell ") c.args.reading.now.number) (codes " " ++ ended_line (came_line came)) c.in_ok-send_counted.ensures.ok
-          (appends_join (g.W.Write.contents c.send_counted.new.writer) (g.W.Write.contents c.send.new.writer) (g.W.Write.contents c.send_outcome.new.writer)
-          (codes " ") (ended_line (came_line came)) c.in_ok-send.ensures.ok c.in_ok-send_outcome-in-Ok.ensures.ok),
+      appends_join (g.W.Write.contents c.args.writer.now) (g.W.Write.contents c.announce.new.writer) (g.W.Write.contents c.send_outcome.new.writer)
+          (cell_words c.args.reading.now.number) (ended_line (came_line came)) c.in_ok-announce.ensures c.in_ok-send_outcome-in-Ok.ensures.ok,
     )
 
 pub returns-in_ok-send_post_fault-in-Err-clause-runs : goal.returns-in_ok-send_post_fault-in-Err-clause-runs
@@ -43,8 +40,6 @@ returns-in_ok-send_post_fault-in-Err-clause-runs g c =
         left = refl;
         is = refl;
       },
-      appends_join (g.W.Write.contents c.args.writer.now) (g.W.Write.contents c.send_counted.new.writer) (g.W.Write.contents c.send_post_fault.new.writer)
-          (counted_text (codes "cell ") c.args.reading.now.number) (codes " " ++ ended_line (came_line came)) c.in_ok-send_counted.ensures.ok
-          (appends_join (g.W.Write.contents c.send_counted.new.writer) (g.W.Write.contents c.send.new.writer) (g.W.Write.contents c.send_post_fault.new.writer)
-          (codes " ") (ended_line (came_line came)) c.in_ok-send.ensures.ok c.in_ok-send_post_fault-in-Err.ensures.ok),
+      appends_join (g.W.Write.contents c.args.writer.now) (g.W.Write.contents c.announce.new.writer) (g.W.Write.contents c.send_post_fault.new.writer)
+          (cell_words c.args.reading.now.number) (ended_line (came_line came)) c.in_ok-announce.ensures c.in_ok-send_post_fault-in-Err.ensures.ok,
     )
