@@ -5,7 +5,10 @@ use Rattle.std.specs.Io.KnownBytes.{Appends}
 use Rattle.exact_write.proofs.SendLemmas.{appends_join}
 use Rattle.kernel_history.specs.OpenCell.{IsOpenCell}
 use Rattle.kernel_history.specs.declared.open_cell.OpenCell.{OpenCell}
-use Rattle.kernel_machine.specs.Runs.{Machine, new_machine}
+use Rattle.cells_program.specs.Served.{lane}
+use Rattle.kernel_machine.specs.Request.{RunCell}
+use Rattle.kernel_machine.specs.Runs.{Machine, new_machine, IsPost, IsBegin}
+use Rattle.kernel_machine.specs.declared.outcome.Begun.TheVariants.{Going}
 use Rattle.kernel_runner.specs.Runner.{Is, Inside}
 use Rattle.kernel_runner.specs.declared.program.Program.{Program}
 use Rattle.kernel_runner.specs.declared.runner.Runner.{Runner}
@@ -31,6 +34,11 @@ stands_inside {L} inside o w e f h = record {
   job = h.job
       ∙ ap (λ (p : Program). state.Inside (record { work = state.Posted (cell_of_program p); count = h.at.count; heading = GoesOn })) (sym f);
 }
+
+pub begun : {E : Type 0} (old posted new : Machine) (text : List ℕ) (number : ℕ) (r : Result (Unit {0}) E) →
+    IsPost old lane (RunCell text false true) (Ok number) posted → OnOk r (IsBegin posted Going new) → OnOk r (Begins old text new)
+begun old posted new text number (Ok u) p b = (posted, number, p, b)
+begun old posted new text number (Err e) p b = tt
 
 pub enters : {L E : Type 0} (old : Machine) (text : List ℕ) (inside : Machine) (r : Result (Walk L) E) → Begins old text inside →
     IfOk r (StandsInside inside) → IfOk r (Enters old text)

@@ -15,10 +15,10 @@ ghost use Rattle.steps_program.specs.Walked.{Begins, Enters, StandsInside, Tells
 
 use crate::command::Command;
 use crate::reply::answer;
-use crate::source::{Source, Stray, count_cells, run_before};
+use crate::source::{Source, Stray, count_cells, job_of, run_before};
 use crate::talk::{Reply, obey};
-use cells_program::{Begun, CellText, Job, Kernel, WriteFailed, send_outcome, send_post_fault};
-use std::alloc::Global;
+use cells_program::{Begun, Kernel, WriteFailed, send_outcome, send_post_fault};
+use std::alloc::{AllocError, Global};
 use std::io::{BufRead, Write};
 use std::marker::Brand;
 use std::sync::ledger::{Blank, Ledger};
@@ -45,6 +45,12 @@ pub enum RunFault {
 impl From<WriteFailed> for RunFault {
     fn from(_: WriteFailed) -> RunFault {
         RunFault::Write
+    }
+}
+
+impl From<AllocError> for RunFault {
+    fn from(_: AllocError) -> RunFault {
+        RunFault::Memory
     }
 }
 
@@ -209,17 +215,7 @@ fn begin<L: Ledger, W: Write>(
     ensures begins { OnOk result (Begins kernel.old.machine text.now kernel.new.machine) }
     ensures silent { OnOk result (writer.new ≡ writer.old) }
 {
-    let Ok(owned) = String::from_str(alloc, text) else {
-        return Err(RunFault::Memory);
-    };
-    let Ok(code) = CellText::new(alloc, owned) else {
-        return Err(RunFault::Memory);
-    };
-    let job = Job::Cell {
-        code,
-        silent: false,
-        store: true,
-    };
+    let job = job_of(alloc, text)?;
     match kernel.post(0, job) {
         Ok(_) => begin_posted(kernel, writer),
         Err(fault) => {

@@ -1,15 +1,15 @@
 //! The cells of a file: those before the one that is walked through are run, and the lines between them obeyed.
 
-ghost use Rattle.std.specs.Prelude.{◌≡◌, ℕ, List, [], None, Some, IfOk, OnOk, map, string_bytes};
+ghost use Rattle.std.specs.Prelude.{◌≡◌, ℕ, List, [], None, Some, IfOk, OnOk, false, true, map, string_bytes};
 ghost use Rattle.std.specs.Io.KnownBytes.{Appends};
 ghost use Rattle.std.specs.Option.{MatchOption};
-ghost use Rattle.kernel_core.specs.Request.{request_of};
+ghost use Rattle.kernel_core.specs.Request.{RunCell, request_of};
 ghost use Rattle.kernel_core.specs.Runs.{Machine as TheMachine};
 ghost use Rattle.cells_program.specs.Lines.{is_blank as is_blank_text};
 ghost use Rattle.cells_program.specs.State.{Idle};
 ghost use Rattle.steps_program.specs.Before.{CommandLeads, Finds, IsServed, LineLeads, Moves, RunsAs, RunsIf, Stage, begun_behind, cell_of, cell_words};
-ghost use Rattle.steps_program.specs.Before.{cells_in, counted_with, ends_before as ends_before_of, first_stage, is_cell as is_cell_of, kept_as, node_of, ran_in};
-ghost use Rattle.steps_program.specs.Before.{runs_before, stage_of, taken, text_of, with_line};
+ghost use Rattle.steps_program.specs.Before.{cells_in, counted_with, ends_before as ends_before_of, first_stage, is_cell as is_cell_of, kept_as, node_of};
+ghost use Rattle.steps_program.specs.Before.{ran_in, runs_before, stage_of, taken, text_of, with_line};
 ghost use Rattle.steps_program.specs.Places.{source_of as source_of_node};
 
 use crate::place::split_line;
@@ -189,7 +189,7 @@ pub(crate) struct Counted {
 
 impl Counted {
     /// What it comes to with one line more.
-    fn with(self, line: &str) -> Counted
+    fn added(self, line: &str) -> Counted
         ensures { result ≡ counted_with self line.now }
     {
         if is_command_line(line) {
@@ -221,10 +221,10 @@ pub(crate) fn count_cells(file: &str) -> usize
     };
     let mut rest = file;
     while let Some((line, more)) = split_line(rest) {
-        counted = counted.with(line);
+        counted = counted.added(line);
         rest = more;
     }
-    counted.with(rest).number
+    counted.added(rest).number
 }
 
 /// Runs the cells of a file that stand before the one of a number, obeys the lines between them, and gives the source of that cell, and those of the others.
@@ -344,6 +344,19 @@ fn runs(source: &Source, command: Command) -> bool
     }
 }
 
+/// A job that runs a text as a cell; the only error is want of memory.
+pub(crate) fn job_of(alloc: Global, text: &str) -> Result<Job, AllocError>
+    ensures { IfOk result (λ job. request_of job ≡ RunCell text.now false true) }
+{
+    let text = String::from_str(alloc, text)?;
+    let code = CellText::new(alloc, text)?;
+    Ok(Job::Cell {
+        code,
+        silent: false,
+        store: true,
+    })
+}
+
 /// Writes which cell runs, at once: a reader who waits for its end knows which one to walk through.
 fn announce<W: Write>(writer: &mut W, number: usize) -> Result<(), WriteFailed>
     ensures { OnOk result (Appends (W.contents writer.old) (W.contents writer.new) (cell_words number)) }
@@ -371,14 +384,8 @@ fn run_cell<L: Ledger, W: Write>(
     ensures runs { OnOk result ((out : List ℕ) × RunsAs (text_of source) (stage_of kernel.old.machine reading.old) (stage_of kernel.new.machine reading.new) out
         × Appends (W.contents writer.old) (W.contents writer.new) out) }
 {
-    let text = String::from_str(alloc, source.text.as_str())?;
-    let code = CellText::new(alloc, text)?;
+    let job = job_of(alloc, source.text.as_str())?;
     announce(writer, reading.number)?;
-    let job = Job::Cell {
-        code,
-        silent: false,
-        store: true,
-    };
     match serve_job(kernel, STEPS, job) {
         Ok(outcome) => {
             send_outcome(writer, &outcome)?;

@@ -18,7 +18,7 @@ loop-line-preserved c =
       c.loop-line.invariant.1
           ∙ ap (λ (ls : List (List ℕ)). fold counted_with c.loop-line.counted ls)
           (first_of c.loop-line.rest.now c.in-Some.line.now c.in-Some.more.now cut.0 cut.1 cut.2)
-          ∙ ap (λ (k : Counted). fold counted_with k (lines_of c.in-Some.more.now)) (sym c.with-counted.ensures),
+          ∙ ap (λ (k : Counted). fold counted_with k (lines_of c.in-Some.more.now)) (sym c.added-counted.ensures),
     )
 
 pub returns : goal.returns
@@ -26,4 +26,4 @@ returns c =
     sym (ap (λ (k : Counted). k.number)
     (c.loop-line.invariant.1
     ∙ ap (λ (ls : List (List ℕ)). fold counted_with c.loop-line.counted ls) (only_one c.loop-line.rest.now c.in_default.ensures.cut)
-    ∙ sym c.with.ensures))
+    ∙ sym c.added.ensures))

@@ -81,7 +81,7 @@ returns-clause-found g c =
     let d = g.W.Write.contents c.read_line-2.new.writer in
     let led = c.in_ok-read_line-2.ensures.leads in
     let all = one_more c.args.number c.args.file.now c.args.kernel.now.machine a b (stage_of m c.loop-line.reading) (lines_of rest)
-        c.loop-line.invariant.1.2 d s rest [] (only_one rest c.in_default.ensures.cut) (sym (c.if-ends_before-2.ensures m)) led.0 led.1 led.2 in (
+    c.loop-line.invariant.1.2 d s rest [] (only_one rest c.in_default.ensures.cut) (sym (c.if-ends_before-2.ensures m)) led.0 led.1 led.2 in (
       s,
       all.out,
       found_last c.args.number c.args.file.now c.args.kernel.now.machine a d s [] all refl (c.if-not-is_cell.ensures last),

@@ -12,7 +12,7 @@ abbrev pub invariant-loop-line : goal.invariant-loop-line
 invariant-loop-line g l =
     shadow (Utf8 l.rest)
     × ((l.kernel.machine.state.job ≡ Idle) × (l.kernel.machine.queue ≡ [])
-    × ReadSoFar l.number l.fn.file l.fn.kernel.machine (g.W.Write.contents l.fn.writer) (g.W.Write.contents l.writer) (stage_of l.kernel.machine l.reading)
+    × ReadSoFar l.fn.number l.fn.file l.fn.kernel.machine (g.W.Write.contents l.fn.writer) (g.W.Write.contents l.writer) (stage_of l.kernel.machine l.reading)
     (lines_of l.rest))
 
 abbrev pub decreases-loop-line : goal.decreases-loop-line

@@ -1,6 +1,6 @@
-use Rattle.std.proofs.Common.{◌≡◌, ◌∙◌, ℕ, List, string_bytes, false, true, refl, subst}
+use Rattle.std.proofs.Common.{◌≡◌, ◌∙◌, ℕ, List, string_bytes, false, true, refl, ap, subst}
 use Rattle.exact_write.proofs.SendLemmas.{appends_join}
-use Rattle.kernel_core.specs.Request.{RunCell}
+use Rattle.kernel_core.specs.Request.{Request, RunCell}
 use Rattle.cells_program.specs.Lines.{ended_line}
 use Rattle.cells_program.specs.Served.{Finished, NotPosted, Serves}
 use Rattle.cells_program.specs.Transcript.{came_line}
@@ -13,12 +13,12 @@ returns-in_ok-keep-in-Ok-clause-runs g c =
     let old = c.args.kernel.now.machine in
     let new = c.serve_job.new.kernel.machine in
     let came = Finished c.in-Ok.outcome in
-    let same = c.in_ok-code.ensures ∙ c.in_ok-text.ensures.ok ∙ c.as_str.ensures.value in (
+    let same = c.in_ok-job.ensures ∙ ap (λ (t : List ℕ). RunCell t false true) c.as_str.ensures.value in (
       cell_line c.args.reading.now.number came,
       record {
         came = came;
         machine = new;
-        serves = subst (λ (t : List ℕ). Serves STEPS old (RunCell t false true) came new) same c.in-Ok.ensures.ok;
+        serves = subst (λ (r : Request). Serves STEPS old r came new) same c.in-Ok.ensures.ok;
         left = c.in_ok-keep-in-Ok.ensures new;
         is = refl;
       },
@@ -31,12 +31,12 @@ returns-in_ok-send_post_fault-in-Err-clause-runs g c =
     let old = c.args.kernel.now.machine in
     let new = c.serve_job.new.kernel.machine in
     let came = NotPosted c.in-Err.fault in
-    let same = c.in_ok-code.ensures ∙ c.in_ok-text.ensures.ok ∙ c.as_str.ensures.value in (
+    let same = c.in_ok-job.ensures ∙ ap (λ (t : List ℕ). RunCell t false true) c.as_str.ensures.value in (
       cell_line c.args.reading.now.number came,
       record {
         came = came;
         machine = new;
-        serves = subst (λ (t : List ℕ). Serves STEPS old (RunCell t false true) came new) same c.in-Err.ensures.err;
+        serves = subst (λ (r : Request). Serves STEPS old r came new) same c.in-Err.ensures.err;
         left = refl;
         is = refl;
       },
