@@ -3,16 +3,16 @@ use Rattle.std.proofs.Common.{◌≡◌, ◌∙◌, ℕ, List, [], ◌∷◌, �
 use Rattle.std.specs.Prelude.{Option, Result, Ok, Err, OnOk, IfOk}
 use Rattle.std.specs.Io.KnownBytes.{Appends}
 use Rattle.exact_write.proofs.SendLemmas.{appends_join}
-use Rattle.kernel_history.specs.OpenCell.{IsOpenCell}
-use Rattle.kernel_history.specs.declared.open_cell.OpenCell.{OpenCell}
+use Rattle.steps_walk.specs.OpenCell.{IsOpenCell}
+use Rattle.steps_walk.specs.open_cell.OpenCell.{OpenCell}
 use Rattle.cells_program.specs.Served.{lane}
 use Rattle.kernel_machine.specs.Request.{RunCell}
 use Rattle.kernel_machine.specs.Runs.{Machine, new_machine, IsPost, IsBegin}
 use Rattle.kernel_machine.specs.declared.outcome.Begun.TheVariants.{Going}
-use Rattle.kernel_runner.specs.Runner.{Is, Inside}
-use Rattle.kernel_runner.specs.declared.program.Program.{Program}
-use Rattle.kernel_runner.specs.declared.runner.Runner.{Runner}
-use Rattle.kernel_runner.specs.Program.{cell_of_program}
+use Rattle.steps_walk.specs.Runner.{Is, Inside}
+use Rattle.steps_walk.specs.program.Program.{Program}
+use Rattle.steps_walk.specs.runner.Runner.{Runner}
+use Rattle.steps_walk.specs.Program.{cell_of_program}
 use Rattle.kernel_machine.specs.Language.{Forward}
 use Rattle.kernel_machine.specs.State as state
 use Rattle.kernel_machine.specs.declared.heading.Heading.TheVariants.{GoesOn}

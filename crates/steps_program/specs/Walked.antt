@@ -7,8 +7,8 @@ use Rattle.kernel_machine.specs.State as state
 use Rattle.kernel_machine.specs.State.{here}
 use Rattle.kernel_machine.specs.declared.heading.Heading.TheVariants.{GoesOn}
 use Rattle.kernel_machine.specs.declared.outcome.Begun.TheVariants.{Going}
-use Rattle.kernel_runner.specs.Program.{cell_of_program}
-use Rattle.kernel_runner.specs.Runner.{Place, Is, Inside}
+use Rattle.steps_walk.specs.Program.{cell_of_program}
+use Rattle.steps_walk.specs.Runner.{Place, Is, Inside}
 use Rattle.cells_program.specs.Served.{lane}
 use Rattle.steps_walk.specs.declared.walk.Walk.{Walk}
 use Rattle.steps_walk.specs.Walk.{runner_of, program_of, IsWalking}

@@ -9,7 +9,7 @@ ghost use Rattle.cells_program.specs.Lines.{is_blank as is_blank_text};
 ghost use Rattle.cells_program.specs.State.{Idle};
 ghost use Rattle.steps_program.specs.Before.{CommandLeads, Finds, IsServed, LineLeads, Moves, RunsAs, RunsIf, Stage, begun_behind, cell_of, cell_words};
 ghost use Rattle.steps_program.specs.Before.{cells_in, counted_with, ends_before as ends_before_of, first_stage, is_cell as is_cell_of, kept_as, node_of};
-ghost use Rattle.steps_program.specs.Before.{ran_in, runs_before, stage_of, taken, text_of, with_line};
+ghost use Rattle.steps_program.specs.Before.{counted_on as counted_on_of, ran_in, runs_before, stage_of, taken, text_of, with_line};
 ghost use Rattle.steps_program.specs.Places.{source_of as source_of_node};
 
 use crate::place::split_line;
@@ -118,9 +118,7 @@ impl Reading {
         ensures left { (m : TheMachine) → stage_of m self.new ≡ taken (stage_of m self.old) }
     {
         let text = std::mem::replace(&mut self.gathered, String::new(alloc));
-        if !is_blank(text.as_str()) {
-            self.number = self.number.saturating_add(1);
-        }
+        self.number = counted_on(is_blank(text.as_str()), self.number);
         Source {
             text,
             first_line: self.first_line,
@@ -177,6 +175,17 @@ impl Reading {
             return Err(AllocError);
         }
         Ok(())
+    }
+}
+
+/// The number of a text behind so many others: a blank one is not counted.
+fn counted_on(blank: bool, number: usize) -> usize
+    ensures { result ≡ counted_on_of blank number }
+{
+    if blank {
+        number
+    } else {
+        number.saturating_add(1)
     }
 }
 
