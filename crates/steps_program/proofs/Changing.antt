@@ -1,6 +1,6 @@
 -- What a test of two facts tells.
 use Rattle.std.proofs.Common.{◌≡◌, Bool, true, false, not, refl, ◌⊎◌, inl, inr, ⊎_elim}
-use Rattle.std.specs.Prelude.{IsTrue, ◌↔◌, ◌≢◌}
+use Rattle.std.specs.Prelude.{IsTrue, ◌↔◌}
 
 no : false ≡ true → ⊥
 no e = cc

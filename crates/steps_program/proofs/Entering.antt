@@ -60,11 +60,11 @@ walked m text texts input a b w (Ok u) walks enters (told, tells, sent) = (w, to
 walked m text texts input a b w (Err e) walks enters h = tt
 
 -- behind what is written of the cells before
-module _ {L E : Type 0} (cell : Option ℕ) (file : List ℕ) (input a b c : Option (List ℕ)) (m : Machine) (texts : List Text) (text : Text) where
+module _ (L : Type 0) {E : Type 0} (cell : Option ℕ) (file : List ℕ) (input a b c : Option (List ℕ)) (m : Machine) (texts : List Text) (text : Text) where
   pub whole : (s : Stage) (before : List ℕ) → Finds (sought cell file) file new_machine s before → s.machine ≡ m → texts ≡ s.ran → text ≡ cell_of s →
       Appends a b before → (r : Result (Unit {0}) E) → OnOk r (Walks L m text.0 (texts ++ text ∷ []) input b c) →
       OnOk r (Goes (WalksThrough L cell file input) a c)
-  whole s before finds at are is sent (Ok u) (w, told, walks, enters, tells, more) = (
+  whole s before finds at are is sent (Ok u) (w, told, walks, entered, tells, more) = (
     before ++ told,
     record {
       stage = s;
@@ -72,7 +72,7 @@ module _ {L E : Type 0} (cell : Option ℕ) (file : List ℕ) (input a b c : Opt
       finds = finds;
       walk = w;
       walks = walks;
-      enters = subst (λ (n : Machine). Enters n s.gathered w) (sym at) (subst (λ (t : List ℕ). Enters m t w) (ap (λ (t : Text). t.0) is) enters);
+      enters = subst (λ (n : Machine). Enters n s.gathered w) (sym at) (subst (λ (t : List ℕ). Enters m t w) (ap (λ (t : Text). t.0) is) entered);
       told = told;
       tells = subst (λ (l : List Text). TellsWalk l w input told) (ap₂ (λ (xs : List Text) (x : Text). xs ++ x ∷ []) are is) tells;
       is = refl;

@@ -1,7 +1,7 @@
 -- What of a file is run before the cell that is walked through, and what is written of that.
 use Rattle.std.specs.Prelude.{◌≡◌, ℕ, Bool, true, false, not, ◌&&◌, nat_eq, if◌then◌else◌, List, [], ◌∷◌, ◌++◌, map, fold, codes, string_bytes}
 use Rattle.std.specs.Prelude.{Option, None, Some}
-use Rattle.kernel_core.specs.Runs.{Machine, new_machine}
+use Rattle.kernel_core.specs.Runs.{Machine}
 use Rattle.kernel_core.specs.Request.{RunCell}
 use Rattle.kernel_core.specs.Request as request
 use Rattle.kernel_core.specs.outcome.Outcome.{Outcome}

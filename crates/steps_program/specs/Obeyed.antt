@@ -1,5 +1,5 @@
 -- What a command does to the walk, and what there is to tell then.
-use Rattle.std.specs.Prelude.{◌≡◌, ◌⊎◌, ℕ, Bool, true, false, List, Err}
+use Rattle.std.specs.Prelude.{◌≡◌, ℕ, Bool, true, false, List, Err}
 use Rattle.std.specs.Borrow.{Bor}
 use Rattle.janus_syntax.specs.Text.{HasExp, IsParsedExp}
 use Rattle.janus_syntax.specs.Tree.{exp_view}
@@ -16,7 +16,7 @@ use Rattle.steps_program.specs.declared.kept.Kept.{Kept}
 use Rattle.steps_program.specs.declared.source.Source.{Source}
 use Rattle.steps_program.specs.declared.talk.Reply.{Reply}
 use Rattle.steps_program.specs.declared.talk.Reply.TheVariants as reply
-use Rattle.steps_program.specs.Counted.{GoesOn, GoesBack, ComesBack, all_steps}
+use Rattle.steps_program.specs.Counted.{GoesOn, ComesBack, all_steps}
 use Rattle.steps_program.specs.Going.{GoesTo, GoesBackTo}
 use Rattle.steps_program.specs.Kept.{value_in}
 

@@ -15,7 +15,7 @@ returns-in-Ok-run_before g c =
     subst (λ (k : ℕ). Finds k file new_machine s out) (c.number_of-number.ensures ∙ ap (sought c.args.cell) c.as_str-text.ensures.value)
     (subst (λ (t : List ℕ). Finds n t new_machine s out) c.as_str-text.ensures.value
     (subst (λ (m : Machine). Finds n c.as_str-text.result.now m s out) c.in-Ok.ensures.machine found.2)) in
-    whole c.args.cell file (g.R.Read.remaining c.args.reader.now) (g.W.Write.contents c.args.writer.now)
+    whole _ c.args.cell file (g.R.Read.remaining c.args.reader.now) (g.W.Write.contents c.args.writer.now)
     (g.W.Write.contents c.run_before.new.writer) (g.W.Write.contents c.walk_behind.new.writer) c.run_before.new.kernel.machine
     (map text_of c.in-Ok-run_before.found.1.items) (text_of c.in-Ok-run_before.found.0) s out finds found.3 found.4 found.5 found.6
     c.walk_behind.result c.walk_behind.ensures

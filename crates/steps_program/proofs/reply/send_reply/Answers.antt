@@ -1,6 +1,4 @@
 use Rattle.std.proofs.Common.{codes, refl, ap}
-use Rattle.steps_walk.specs.Runner.{count_of}
-use Rattle.steps_walk.specs.Walk.{runner_of}
 use Rattle.steps_program.specs.declared.talk.Reply.TheVariants as reply
 use Rattle.steps_program.specs.Told.{refused_line, bad_command, no_memory, counted_line}
 use Rattle.steps_program.proofs.Saying.{said, said_so, said_nothing}

@@ -4,7 +4,7 @@ use Rattle.kernel_text.specs.Lines.{counted_text}
 use Rattle.steps_program.specs.Before.{cell_words}
 use Rattle.steps_program.proofs.source.announce.Goals as goal
 
-pub returns-in-Ok : goal.returns-in_ok-send-in-Ok
+pub returns-in-Ok : goal.returns-in-Ok
 returns-in-Ok g c =
     appends_kept (g.W.Write.contents c.args.writer.now) (g.W.Write.contents c.send.new.writer) (g.W.Write.contents c.flush.new.self)
     (cell_words c.args.number)

@@ -1,5 +1,5 @@
-use Rattle.std.proofs.Common.{ℕ, List, [], refl, rules, sym, subst}
-use Rattle.steps_program.specs.Before.{Stage, first_stage, stage_of}
+use Rattle.std.proofs.Common.{[], refl, rules, sym, subst}
+use Rattle.steps_program.specs.Before.{Stage, stage_of}
 use Rattle.steps_program.specs.Places.{lines_of}
 use Rattle.steps_program.proofs.Leading.{ReadSoFar, none_read, one_more, found_before, found_last}
 use Rattle.steps_program.proofs.Lines.{first_of, shorter, only_one}
@@ -65,8 +65,8 @@ returns-then-ends_before-2-clause-found g c =
       found_before c.args.number c.args.file.now c.args.kernel.now.machine (g.W.Write.contents c.args.writer.now) (g.W.Write.contents c.loop-line.writer)
           s (lines_of rest) so_far rest [] (only_one rest c.in_default.ensures.cut) (c.if-ends_before-2.ensures m),
       refl,
-      c.found-2.ensures.ran m,
-      c.found-2.ensures.source m,
+      c.found-then-ends_before-2.ensures.ran m,
+      c.found-then-ends_before-2.ensures.source m,
       so_far.sent,
     )
 
@@ -86,7 +86,7 @@ returns-clause-found g c =
       all.out,
       found_last c.args.number c.args.file.now c.args.kernel.now.machine a d s [] all refl (c.if-not-is_cell.ensures last),
       refl,
-      c.found-3.ensures.ran last,
-      c.found-3.ensures.source last,
+      c.found-2.ensures.ran last,
+      c.found-2.ensures.source last,
       all.sent,
     )

@@ -1,4 +1,4 @@
-use Rattle.std.proofs.Common.{◌≡◌, ◌∙◌, ℕ, List, string_bytes, false, true, refl, ap, subst}
+use Rattle.std.proofs.Common.{◌∙◌, ℕ, List, false, true, refl, ap, subst}
 use Rattle.exact_write.proofs.SendLemmas.{appends_join}
 use Rattle.kernel_core.specs.Request.{Request, RunCell}
 use Rattle.cells_program.specs.Lines.{ended_line}
@@ -11,7 +11,7 @@ use Rattle.steps_program.proofs.source.run_cell.Goals as goal
 pub returns-in_ok-keep-in-Ok-clause-runs : goal.returns-in_ok-keep-in-Ok-clause-runs
 returns-in_ok-keep-in-Ok-clause-runs g c =
     let old = c.args.kernel.now.machine in
-    let new = c.serve_job.new.kernel.machine in
+    let new = c.serve.new.kernel.machine in
     let came = Finished c.in-Ok.outcome in
     let same = c.in_ok-job.ensures ∙ ap (λ (t : List ℕ). RunCell t false true) c.as_str.ensures.value in (
       cell_line c.args.reading.now.number came,
@@ -29,7 +29,7 @@ returns-in_ok-keep-in-Ok-clause-runs g c =
 pub returns-in_ok-send_post_fault-in-Err-clause-runs : goal.returns-in_ok-send_post_fault-in-Err-clause-runs
 returns-in_ok-send_post_fault-in-Err-clause-runs g c =
     let old = c.args.kernel.now.machine in
-    let new = c.serve_job.new.kernel.machine in
+    let new = c.serve.new.kernel.machine in
     let came = NotPosted c.in-Err.fault in
     let same = c.in_ok-job.ensures ∙ ap (λ (t : List ℕ). RunCell t false true) c.as_str.ensures.value in (
       cell_line c.args.reading.now.number came,

@@ -1,4 +1,4 @@
-use Rattle.std.proofs.Common.{◌≡◌, ◌∙◌, List, [], string_bytes, ap}
+use Rattle.std.proofs.Common.{◌∙◌, [], string_bytes, ap}
 use Rattle.exact_write.proofs.SendLemmas.{appends_none}
 use Rattle.cells_program.specs.Lines.{is_blank}
 use Rattle.steps_program.specs.Before.{RunsAs, RunsIf, Text, runs_before, stage_of, text_of}
