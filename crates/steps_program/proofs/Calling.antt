@@ -1,7 +1,6 @@
 -- Open calls that are told one after the other.
 use Rattle.std.proofs.Common.{◌≡◌, ℕ, zero, suc, ◌+◌, List, ◌++◌, refl, sym, subst, add-one}
-use Rattle.std.specs.Prelude.{Option, Result, Ok, Err, OnOk}
-use Rattle.std.specs.Io.KnownBytes.{Appends}
+use Rattle.std.specs.Prelude.{Option}
 use Rattle.exact_write.proofs.SendLemmas.{appends_join}
 use Rattle.steps_walk.specs.declared.walk.Walk.{Walk}
 use Rattle.steps_program.specs.declared.source.Source.{Source}

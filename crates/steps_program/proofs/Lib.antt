@@ -13,3 +13,5 @@ pub mod Words
 pub mod Listing
 pub mod Changing
 pub mod Reading
+pub mod Leading
+pub mod Entering

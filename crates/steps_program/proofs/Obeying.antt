@@ -16,7 +16,7 @@ use Rattle.steps_program.specs.declared.source.Source.{Source}
 use Rattle.steps_program.specs.declared.talk.Reply.{Reply}
 use Rattle.steps_program.specs.declared.talk.Reply.TheVariants as reply
 use Rattle.steps_program.specs.Counted.{GoesOn, GoesBack, ComesBack, came_back}
-use Rattle.steps_program.specs.Obeyed.{Obeys, Comes, IsLedUntil, IsLedByChange}
+use Rattle.steps_program.specs.Obeyed.{Obeys, Comes, Seeks, IsLedUntil, IsLedByChange}
 
 module _ {L : Type 0} (sources : List Source) (old new : Walk L) where
   left : new ≡ old → Moves old new
@@ -24,6 +24,7 @@ module _ {L : Type 0} (sources : List Source) (old new : Walk L) where
 
   comes : (goes : Came → Type 0) → ((to : Came) → goes to → Moves old new) → (r : Reply) → Comes goes r → Moves old new
   comes goes f (reply.Came to) h = f to h
+  comes goes f (reply.Sought to) h = absurd h
   comes goes f (reply.Refused fault) h = absurd h
   comes goes f reply.Unknown h = absurd h
   comes goes f reply.NoMemory h = absurd h
@@ -34,8 +35,22 @@ module _ {L : Type 0} (sources : List Source) (old new : Walk L) where
   comes goes f reply.Count h = absurd h
   comes goes f reply.Nothing h = absurd h
 
+  seeks : (goes : Came → Type 0) → ((to : Came) → goes to → Moves old new) → (r : Reply) → Seeks goes r → Moves old new
+  seeks goes f (reply.Sought to) h = f to h
+  seeks goes f (reply.Came to) h = absurd h
+  seeks goes f (reply.Refused fault) h = absurd h
+  seeks goes f reply.Unknown h = absurd h
+  seeks goes f reply.NoMemory h = absurd h
+  seeks goes f reply.Names h = absurd h
+  seeks goes f reply.Place h = absurd h
+  seeks goes f reply.Calls h = absurd h
+  seeks goes f reply.Lines h = absurd h
+  seeks goes f reply.Count h = absurd h
+  seeks goes f reply.Nothing h = absurd h
+
   until : (onward : Bool) (text : List ℕ) (r : Reply) → IsLedUntil sources onward text old new r → Moves old new
-  until onward text (reply.Came to) h = h.2.moves
+  until onward text (reply.Sought to) h = h.2.moves
+  until onward text (reply.Came to) h = absurd h
   until onward text (reply.Refused fault) h = left h.1
   until onward text reply.Unknown h = absurd h
   until onward text reply.NoMemory h = absurd h
@@ -47,7 +62,8 @@ module _ {L : Type 0} (sources : List Source) (old new : Walk L) where
   until onward text reply.Nothing h = absurd h
 
   change : (onward : Bool) (name : Bor (List ℕ)) (r : Reply) → IsLedByChange sources onward name old new r → Moves old new
-  change onward name (reply.Came to) h = h.2.moves
+  change onward name (reply.Sought to) h = h.2.moves
+  change onward name (reply.Came to) h = absurd h
   change onward name (reply.Refused fault) h = absurd h
   change onward name reply.Unknown h = absurd h
   change onward name reply.NoMemory h = left h
@@ -63,8 +79,8 @@ module _ {L : Type 0} (sources : List Source) (old new : Walk L) where
   obeyed (Back n) r h = comes _ (λ to g. g.back.moves) r h
   obeyed Next r h = comes _ (λ to g. g.moves) r h
   obeyed Finish r h = comes _ (λ to g. g.moves) r h
-  obeyed (To line) r h = comes _ (λ to g. g.moves) r h
-  obeyed (BackTo line) r h = comes _ (λ to g. g.moves) r h
+  obeyed (To line) r h = seeks _ (λ to g. g.moves) r h
+  obeyed (BackTo line) r h = seeks _ (λ to g. g.moves) r h
   obeyed ToFault r h = comes _ (λ to g. g.moves) r h
   obeyed ToEnd r h = comes _ (λ to g. g.moves) r h
   obeyed ToStart r h = comes _ (λ to g. g.back.moves) r h

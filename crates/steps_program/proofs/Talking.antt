@@ -1,9 +1,8 @@
 -- Commands of lines that are obeyed one after the other.
-use Rattle.std.proofs.Common.{◌≡◌, ◌∙◌, ◌⊎◌, inl, inr, ℕ, ◌+◌, List, [], ◌∷◌, ◌++◌, length, Bool, true, false, refl, ap, sym, subst}
+use Rattle.std.proofs.Common.{◌≡◌, ◌∙◌, inl, inr, ℕ, ◌+◌, List, [], ◌∷◌, ◌++◌, length, true, false, refl, ap, sym, subst}
 use Rattle.std.proofs.Common.{arith, append-nil, length-append}
 use Rattle.std.specs.Prelude.{Option, None, Some, Result, Ok, Err, OnOk, OnErr, unwrap_or}
 use Rattle.std.specs.Io.BufRead.{take_through, drop_through}
-use Rattle.std.specs.Io.KnownBytes.{Appends}
 use Rattle.exact_write.specs.Sent.{SentSome}
 use Rattle.exact_write.proofs.SendLemmas.{appends_join, sent_first, sent_then}
 use Rattle.steps_walk.specs.declared.walk.Walk.{Walk}
@@ -13,8 +12,8 @@ use Rattle.steps_program.specs.declared.talk.Reply.TheVariants.{Place}
 use Rattle.steps_program.specs.Commands.{Quit, asked, asked_of}
 use Rattle.steps_program.specs.Counted.{all_steps}
 use Rattle.steps_program.specs.Told.{Answers}
-use Rattle.steps_program.specs.Transcript.{Serves, Talks, Silent, Further, Talked, Transcribes}
-use Rattle.steps_program.specs.Transcript.{Reads, Unread, ReadOn, ReadsTo, ReadsSome, ReadsAll, ReadsLine, IsRead}
+use Rattle.steps_program.specs.Transcript.{Serves, Silent, Further, Talked, Transcribes}
+use Rattle.steps_program.specs.Transcript.{Reads, Unread, ReadOn, ReadsTo, ReadsSome, ReadsAll, ReadsLine}
 use Rattle.steps_program.proofs.Telling.{Goes}
 
 -- a beginning of octets went out, of which this holds

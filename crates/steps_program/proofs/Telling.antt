@@ -1,9 +1,9 @@
 -- What is written, one piece after the other.
-use Rattle.std.proofs.Common.{◌≡◌, ◌∙◌, ℕ, suc, ◌+◌, List, [], ◌∷◌, ◌++◌, refl, ap, sym, subst, append_assoc, append-nil, add-one}
-use Rattle.std.specs.Prelude.{Option, None, Some, Result, Ok, Err, OnOk, OnErr}
+use Rattle.std.proofs.Common.{ℕ, List, [], ◌++◌, sym, append-nil}
+use Rattle.std.specs.Prelude.{Option, Result, Ok, Err, OnOk, OnErr}
 use Rattle.std.specs.Io.KnownBytes.{Appends, Keeps}
 use Rattle.exact_write.specs.Sent.{SentSome}
-use Rattle.exact_write.proofs.SendLemmas.{appends_none, appends_join, appends_kept, sent_first, sent_then}
+use Rattle.exact_write.proofs.SendLemmas.{appends_join, appends_kept}
 
 -- ---- what goes out has a fact
 

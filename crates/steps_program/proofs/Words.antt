@@ -1,9 +1,9 @@
 -- The words of a line.
-use Rattle.std.proofs.Common.{◌≡◌, ◌∙◌, ℕ, ◌<◌, Bool, nat_lt, List, length, if◌then◌else◌, refl, sym, ap, ap₂, arith, true, false}
+use Rattle.std.proofs.Common.{◌≡◌, ◌∙◌, ℕ, ◌<◌, nat_lt, List, length, if◌then◌else◌, sym, ap, ap₂, arith, false}
 use Rattle.std.specs.List.{position_or_len, before_first, after_first}
 use Rattle.std.specs.Str.{trim}
 use Rattle.std.proofs.lemmas.Bool.{lt-ltb}
-use Rattle.steps_program.specs.Commands.{Asked, asked_by, asked_with, asked_alone, is_space}
+use Rattle.steps_program.specs.Commands.{asked_by, asked_with, asked_alone, is_space}
 
 -- a space parts them
 pub parted : (line first word : List ℕ) → position_or_len is_space line < length line → first ≡ before_first is_space line →

@@ -1,5 +1,5 @@
 -- Where a command goes that is looked at behind each step, and which steps it passes on the way there.
-use Rattle.std.specs.Prelude.{◌≡◌, ◌≢◌, ◌↔◌, ℕ, Bool, true, false, ◌&&◌, nat_eq, nat_le, nat_lt, IsTrue, List, Some}
+use Rattle.std.specs.Prelude.{◌≡◌, ◌≢◌, ◌↔◌, ◌⊎◌, ◌<◌, ℕ, Bool, true, false, ◌&&◌, nat_eq, nat_le, nat_lt, IsTrue, List, Some}
 use Rattle.std.specs.Option.{option_eq}
 use Rattle.janus_meaning.specs.Fault.{Res}
 use Rattle.janus_meaning.specs.Syntax.{Name}
@@ -35,11 +35,11 @@ pub record TellsOnLine {L : Type 0} (sources : List Source) (line : ℕ) (w : Wa
   pub stands : TellsStand w told
   pub is : there ≡ (is_stop told.0.inverse told.1.part && option_eq nat_eq (line_at (source_of sources told.0.node) told.1.span) (Some line))
 
--- whether so many calls are open, and the value of a name there is another one than this
+-- whether the call is left that is open with so many, or as many are open and the value of a name there is another one than this
 pub record TellsChange {L : Type 0} (name : Name) (depth : ℕ) (old : Res Val) (w : Walk L) (there : Bool) : Type 0 where
   pub value : Res Val
   pub has : IsValueHere w name value
-  pub is : IsTrue there ↔ (calls_in w ≡ depth) × (value ≢ old)
+  pub is : IsTrue there ↔ ((calls_in w < depth) ⊎ ((calls_in w ≡ depth) × (value ≢ old)))
 
 -- whether the walk is where a command goes
 abbrev pub IsThere : {L : Type 0} → List Source → Goal → Walk L → Bool → Type 0

@@ -6,3 +6,5 @@ pub mod Going
 pub mod Obeyed
 pub mod Told
 pub mod Transcript
+pub mod Before
+pub mod Walked

@@ -1,5 +1,5 @@
 -- What a command does to the walk, and what there is to tell then.
-use Rattle.std.specs.Prelude.{◌≡◌, ◌⊎◌, ℕ, Bool, true, false, List, Err}
+use Rattle.std.specs.Prelude.{◌≡◌, ℕ, Bool, true, false, List, Err}
 use Rattle.std.specs.Borrow.{Bor}
 use Rattle.janus_syntax.specs.Text.{HasExp, IsParsedExp}
 use Rattle.janus_syntax.specs.Tree.{exp_view}
@@ -16,7 +16,7 @@ use Rattle.steps_program.specs.declared.kept.Kept.{Kept}
 use Rattle.steps_program.specs.declared.source.Source.{Source}
 use Rattle.steps_program.specs.declared.talk.Reply.{Reply}
 use Rattle.steps_program.specs.declared.talk.Reply.TheVariants as reply
-use Rattle.steps_program.specs.Counted.{GoesOn, GoesBack, ComesBack, all_steps}
+use Rattle.steps_program.specs.Counted.{GoesOn, ComesBack, all_steps}
 use Rattle.steps_program.specs.Going.{GoesTo, GoesBackTo}
 use Rattle.steps_program.specs.Kept.{value_in}
 
@@ -41,15 +41,21 @@ abbrev pub Comes : (Came → Type 0) → Reply → Type 0
 Comes goes (reply.Came to) = goes to
 Comes goes _ = ⊥
 
+-- the same of a search
+abbrev pub Seeks : (Came → Type 0) → Reply → Type 0
+Seeks goes (reply.Sought to) = goes to
+Seeks goes _ = ⊥
+
 -- until the expression holds that the text is; or the text is refused, and nothing changes
 abbrev pub IsLedUntil : {L : Type 0} → List Source → Bool → List ℕ → Walk L → Walk L → Reply → Type 0
-IsLedUntil sources onward text old new (reply.Came to) = (exp : Bor Exp) × HasExp text (exp_view exp.now) × IsLed sources onward (Holds exp) old new to
+IsLedUntil sources onward text old new (reply.Sought to) = (exp : Bor Exp) × HasExp text (exp_view exp.now) × IsLed sources onward (Holds exp) old new to
 IsLedUntil sources onward text old new (reply.Refused fault) = IsParsedExp text (Err fault) × (new ≡ old)
 IsLedUntil sources onward text old new _ = ⊥
 
--- until the value of a name is another one than where the command began; or there was no memory to keep that, and nothing changes
+-- until the value of a name is another one than where the command began, or the call is left in which it began; or there was no memory to keep that, and
+-- nothing changes
 abbrev pub IsLedByChange : {L : Type 0} → List Source → Bool → Bor (List ℕ) → Walk L → Walk L → Reply → Type 0
-IsLedByChange sources onward name old new (reply.Came to) =
+IsLedByChange sources onward name old new (reply.Sought to) =
     (kept : Kept) × IsValueHere old name.now (value_in kept) × IsLed sources onward (Changes name (calls_in old) kept) old new to
 IsLedByChange sources onward name old new reply.NoMemory = new ≡ old
 IsLedByChange sources onward name old new _ = ⊥
@@ -61,8 +67,8 @@ Obeys sources (command.Step n) old new r = Comes (GoesOn n old new) r
 Obeys sources (command.Back n) old new r = Comes (ComesBack n old new) r
 Obeys sources command.Next old new r = Comes (IsLed sources true (Next (calls_in old)) old new) r
 Obeys sources command.Finish old new r = Comes (IsLed sources true (Fewer (calls_in old)) old new) r
-Obeys sources (command.To line) old new r = Comes (IsLed sources true (Line line) old new) r
-Obeys sources (command.BackTo line) old new r = Comes (IsLed sources false (Line line) old new) r
+Obeys sources (command.To line) old new r = Seeks (IsLed sources true (Line line) old new) r
+Obeys sources (command.BackTo line) old new r = Seeks (IsLed sources false (Line line) old new) r
 Obeys sources command.ToFault old new r = Comes (GoesOn all_steps old new) r
 Obeys sources command.ToEnd old new r = Comes (GoesOn all_steps old new) r
 Obeys sources command.ToStart old new r = Comes (ComesBack all_steps old new) r

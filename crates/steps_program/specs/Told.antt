@@ -258,6 +258,17 @@ pub record TellsCame {L : Type 0} (sources : List Source) (to : Came) (w : Walk 
   pub reads : TellsMore sources to w more
   pub is : out ≡ came_text (count_of (runner_of w)) to ++ (step ++ more)
 
+-- what is told before that of a search, which may end where it has found nothing
+abbrev pub sought_text : Came → List ℕ
+sought_text came.There = []
+sought_text came.End = codes "not found\n"
+sought_text came.Start = codes "not found\n"
+sought_text (came.Fault fault) = codes "not found\n"
+sought_text came.Memory = []
+
+abbrev pub TellsSought : {L : Type 0} → List Source → Came → Walk L → List ℕ → Type 0
+TellsSought sources to w out = (rest : List ℕ) × TellsCame sources to w rest × (out ≡ sought_text to ++ rest)
+
 -- ---- the names in sight
 
 -- each with its value, the oldest first; a name that has none stands alone
@@ -360,6 +371,7 @@ TellsLines sources w out = (told : Level × Spot) × TellsStand w told × (out �
 
 abbrev pub Tells : {L : Type 0} → List Source → Reply → Walk L → List ℕ → Type 0
 Tells sources (reply.Came to) w out = TellsCame sources to w out
+Tells sources (reply.Sought to) w out = TellsSought sources to w out
 Tells sources (reply.Refused fault) w out = out ≡ refused_line fault
 Tells sources reply.Unknown w out = out ≡ bad_command
 Tells sources reply.NoMemory w out = out ≡ no_memory

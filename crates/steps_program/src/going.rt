@@ -14,7 +14,7 @@ use crate::source::{Source, source_of};
 use cells_program::Fault;
 use std::alloc::{AllocError, Global};
 use std::sync::ledger::Ledger;
-use steps_walk::{Exp, Level, Progress, Spot, Walk, is_holding, value_of};
+use steps_walk::{Exp, Guesses, Level, Progress, Spot, Walk, is_holding, value_of};
 
 /// Where a command has led.
 #[derive(Clone, Copy)]
@@ -42,7 +42,7 @@ pub(crate) enum Goal<'a> {
     Line(usize),
     /// Until an expression over the names in sight holds.
     Holds(&'a Exp),
-    /// Until the value of a name, where so many calls are open, is another one than this.
+    /// Until the value of a name, where so many calls are open, is another one than this, or fewer are open.
     Changes(&'a str, usize, Kept),
 }
 
@@ -57,12 +57,19 @@ pub(crate) fn keep_value<L: Ledger>(
     let Some(sight) = walk.sight_here() else {
         return Err(AllocError);
     };
-    let kept = Kept::of(alloc, value_of(walk, &sight, name))?;
+    let mut guesses = Guesses::new();
+    let kept = Kept::of(alloc, value_of(walk, &sight, name, &mut guesses))?;
     Ok(kept)
 }
 
-/// Whether so many calls are open, and the value of a name there is another one than was kept.
-fn is_changed<L: Ledger>(walk: &Walk<L>, name: &str, depth: usize, old: &Kept) -> bool
+/// Whether so many calls are open, and the value of a name there is another one than was kept; or the call is left in which it was kept.
+fn is_changed<L: Ledger>(
+    walk: &Walk<L>,
+    name: &str,
+    depth: usize,
+    old: &Kept,
+    guesses: &mut Guesses,
+) -> bool
     requires walking { IsWalking walk.now }
     requires met { IsMetHere walk.now }
     ensures { TellsChange name.now depth (value_in old.now) walk.now result }
@@ -70,8 +77,13 @@ fn is_changed<L: Ledger>(walk: &Walk<L>, name: &str, depth: usize, old: &Kept) -
     let Some(sight) = walk.sight_here() else {
         unreachable!()
     };
-    let is_old = old.is(value_of(walk, &sight, name));
-    if walk.open_calls() != depth {
+    guesses.begin();
+    let is_old = old.is(value_of(walk, &sight, name, guesses));
+    let calls = walk.open_calls();
+    if calls < depth {
+        return true;
+    }
+    if calls != depth {
         return false;
     }
     !is_old
@@ -103,7 +115,12 @@ fn line_at(sources: &[Source], level: &Level, spot: Spot) -> Option<usize>
 }
 
 /// Whether the walk stands where a command goes.
-fn is_there<L: Ledger>(walk: &Walk<L>, sources: &[Source], goal: &Goal<'_>) -> bool
+fn is_there<L: Ledger>(
+    walk: &Walk<L>,
+    sources: &[Source],
+    goal: &Goal<'_>,
+    guesses: &mut Guesses,
+) -> bool
     requires walking { IsWalking walk.now }
     requires met { IsMetHere walk.now }
     ensures { IsThere sources.now goal.now walk.now result }
@@ -112,8 +129,8 @@ fn is_there<L: Ledger>(walk: &Walk<L>, sources: &[Source], goal: &Goal<'_>) -> b
         Goal::Next(depth) => walk.open_calls() <= *depth && walk.is_at_stop(),
         Goal::Fewer(depth) => walk.open_calls() < *depth,
         Goal::Line(line) => is_on_line(walk, sources, *line),
-        Goal::Holds(exp) => is_holding(walk, *exp),
-        Goal::Changes(name, depth, old) => is_changed(walk, *name, *depth, old),
+        Goal::Holds(exp) => is_holding(walk, *exp, guesses),
+        Goal::Changes(name, depth, old) => is_changed(walk, *name, *depth, old, guesses),
     }
 }
 
@@ -123,6 +140,7 @@ fn arrived<L: Ledger>(
     walk: &mut Walk<L>,
     sources: &[Source],
     goal: &Goal<'_>,
+    guesses: &mut Guesses,
 ) -> Option<Came>
     requires { IsWalking walk.old }
     ensures kept { KeepsMet walk.old walk.new }
@@ -132,7 +150,7 @@ fn arrived<L: Ledger>(
     if walk.meet_here(alloc).is_err() {
         return Some(Came::Memory);
     }
-    if is_there(walk, sources, goal) {
+    if is_there(walk, sources, goal, guesses) {
         return Some(Came::There);
     }
     None
@@ -145,6 +163,7 @@ fn step_on<L: Ledger>(
     walk: &mut Walk<L>,
     sources: &[Source],
     goal: &Goal<'_>,
+    guesses: &mut Guesses,
 ) -> Option<Came>
     requires { IsWalking walk.old }
     ensures walks { IsWalking walk.new }
@@ -155,7 +174,7 @@ fn step_on<L: Ledger>(
     match walk.on(1) {
         Progress::Ended(_) => Some(Came::End),
         Progress::Stopped(_, fault) => Some(Came::Fault(fault)),
-        Progress::Went => arrived(alloc, walk, sources, goal),
+        Progress::Went => arrived(alloc, walk, sources, goal, guesses),
     }
 }
 
@@ -171,8 +190,9 @@ pub(crate) fn go_on<L: Ledger>(
     ensures moves { Moves walk.old walk.new }
     ensures goes { GoesTo sources.now goal.now walk.old walk.new result }
 {
+    let mut guesses = Guesses::new();
     loop {
-        if let Some(came) = step_on(alloc, walk, sources, goal) {
+        if let Some(came) = step_on(alloc, walk, sources, goal, &mut guesses) {
             return came;
         }
     }
@@ -190,9 +210,10 @@ pub(crate) fn go_back<L: Ledger>(
     ensures moves { Moves walk.old walk.new }
     ensures goes { GoesBackTo sources.now goal.now walk.old walk.new result }
 {
+    let mut guesses = Guesses::new();
     for _ in 0..walk.count() {
         walk.back(1);
-        if let Some(came) = arrived(alloc, walk, sources, goal) {
+        if let Some(came) = arrived(alloc, walk, sources, goal, &mut guesses) {
             return came;
         }
     }

@@ -5,10 +5,8 @@
 //! as far as the first place at which their goal is met, or to the end, a fault or the start (`Going`). What looks at the walk, as a line that is refused,
 //! changes nothing (`Obeyed`). Each answer is what a definition says of the walk behind the command, or that there is no memory for it (`Told`). All that is
 //! written, from where the walk begins, is the answers to the lines that are read (`Transcript`). Where the writer fails, the walk has done what was asked for
-//! last, and a beginning of that went out.
-//!
-//! Not said are which text of the file is walked through, and what is written while the cells before it are run. That is compared with a model by
-//! checks/steps.
+//! last, and a beginning of that went out. Before it stands what comes of the cells of the file that are run before, and the walk is one through the cell that
+//! is looked for, by its number or the last, as a new kernel enters it behind them (`Before`, `Walked`: the contract of `run`).
 //!
 //! The modules, in the order in which a reader needs them: `source` (the cells of a file), `command` (what a line asks for), `place` (lines and columns),
 //! `kept` (a value that is kept), `going` (how far a command goes), `talk` (commands that are obeyed), `output` (what is written), `reply` (the answers),

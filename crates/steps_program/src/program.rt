@@ -1,19 +1,24 @@
 //! All of it over a file's text.
-ghost use Rattle.std.specs.Prelude.{◌≡◌, ◌<◌, ℕ, List, IfOk, OnOk, OnErr, string_bytes};
+ghost use Rattle.std.specs.Prelude.{◌≡◌, ◌∷◌, ◌++◌, [], ◌<◌, ℕ, List, IfOk, OnOk, OnErr, map, string_bytes};
 ghost use Rattle.std.specs.Io.KnownBytes.{Appends, Keeps};
+ghost use Rattle.std.specs.declared.marker.Brand.{Brand as TheBrand};
 ghost use Rattle.exact_write.specs.Sent.{SentSome};
 ghost use Rattle.kernel_machine.specs.LegalState.{IsLegalState};
+ghost use Rattle.kernel_machine.specs.Runs.{IsBegin, new_machine};
 ghost use Rattle.steps_walk.specs.Walk.{IsWalking, Moves};
+ghost use Rattle.steps_walk.specs.declared.walk.Walk.{Walk as TheWalk};
 ghost use Rattle.steps_program.specs.declared.talk.Reply.TheVariants.{Place};
+ghost use Rattle.steps_program.specs.Before.{Finds, Stage, cell_of, sought, text_of};
 ghost use Rattle.steps_program.specs.Told.{Answers};
 ghost use Rattle.steps_program.specs.Transcript.{ReadsAll, ReadsLine, ReadsSome, Serves, Talked, Transcribes};
+ghost use Rattle.steps_program.specs.Walked.{Begins, Enters, StandsInside, TellsWalk, WalksThrough};
 
 use crate::command::Command;
 use crate::reply::answer;
-use crate::source::{Source, Stray, count_cells, run_before};
+use crate::source::{Source, Stray, count_cells, job_of, run_before};
 use crate::talk::{Reply, obey};
-use cells_program::{Begun, CellText, Job, Kernel, WriteFailed, send_outcome, send_post_fault};
-use std::alloc::Global;
+use cells_program::{Begun, Kernel, WriteFailed, send_outcome, send_post_fault};
+use std::alloc::{AllocError, Global};
 use std::io::{BufRead, Write};
 use std::marker::Brand;
 use std::sync::ledger::{Blank, Ledger};
@@ -43,6 +48,12 @@ impl From<WriteFailed> for RunFault {
     }
 }
 
+impl From<AllocError> for RunFault {
+    fn from(_: AllocError) -> RunFault {
+        RunFault::Memory
+    }
+}
+
 impl From<Stray> for RunFault {
     fn from(stray: Stray) -> RunFault {
         match stray {
@@ -55,13 +66,20 @@ impl From<Stray> for RunFault {
 
 /// Walks through a cell of a file, by its number from 1, or through the last one: the cells before it are run, and then commands are read and obeyed until
 /// there are none, or `quit`.
+///
+/// What is written is what comes of the cells before, as a new kernel serves them, and then the transcript of a walk through the one that is looked for: where
+/// it begins, and the answers to the lines that are read. Of a run that ends with a fault nothing is said here. The clause speaks of a reader and a writer
+/// whose octets are known, as those over memory; of others, as std's `Stdin` and `Stdout`, which tell none, it says nothing.
 pub fn run<R: BufRead + Drop, W: Write>(
     alloc: Global,
     file: &String,
     cell: Option<usize>,
     reader: &mut R,
     writer: &mut W,
-) -> Result<(), RunFault> {
+) -> Result<(), RunFault>
+    ensures { OnOk result ((out : List ℕ) × WalksThrough TheBrand cell (string_bytes file.now) (R.remaining reader.old) out
+        × Appends (W.contents writer.old) (W.contents writer.new) out) }
+{
     run_counted::<Brand, R, W>(alloc, Blank::new(2), file, cell, reader, writer)
 }
 
@@ -77,33 +95,71 @@ fn run_counted<L: Ledger, R: BufRead + Drop, W: Write>(
     requires name { blank.name ≡ L.name }
     requires parts { blank.parts ≡ L.parts }
     requires two { 1 < L.parts }
+    ensures { OnOk result ((out : List ℕ) × WalksThrough L cell (string_bytes file.now) (R.remaining reader.old) out
+        × Appends (W.contents writer.old) (W.contents writer.new) out) }
 {
     let Ok(mut kernel) = Kernel::<L>::new(alloc, blank) else {
         return Err(RunFault::Memory);
     };
-    let number = match cell {
-        Some(number) => number,
-        None => count_cells(file.as_str()),
-    };
-    let (source, mut sources) = match run_before(
-        alloc,
-        &mut kernel,
-        file.as_str(),
-        number,
-        writer,
-    ) {
-        Ok(found) => found,
+    let text = file.as_str();
+    let number = number_of(text, cell);
+    match run_before(alloc, &mut kernel, text, number, writer) {
+        Ok(found) => walk_behind(alloc, kernel, found, reader, writer),
         Err(stray) => {
             kernel.discard();
-            return Err(RunFault::from(stray));
+            Err(RunFault::from(stray))
         }
-    };
-    let walk = enter(alloc, kernel, source.text.as_str(), writer)?;
-    if sources.push(source).is_err() {
-        walk.discard();
-        return Err(RunFault::Memory);
     }
-    walk_through(alloc, walk, sources.as_slice(), reader, writer)
+}
+
+/// The number of the cell that is looked for, or of the last one.
+fn number_of(file: &str, cell: Option<usize>) -> usize
+    ensures { result ≡ sought cell file.now }
+{
+    match cell {
+        Some(number) => number,
+        None => count_cells(file),
+    }
+}
+
+/// Begins the cell that was found, and walks through it.
+fn walk_behind<L: Ledger, R: BufRead + Drop, W: Write>(
+    alloc: Global,
+    kernel: Kernel<L>,
+    found: (Source, Vec<Source>),
+    reader: &mut R,
+    writer: &mut W,
+) -> Result<(), RunFault>
+    ensures { OnOk result ((walk : TheWalk L) × (out : List ℕ) × IsWalking walk × Enters kernel.machine (string_bytes found.0.text) walk
+        × TellsWalk (map text_of found.1.items ++ text_of found.0 ∷ []) walk (R.remaining reader.old) out
+        × Appends (W.contents writer.old) (W.contents writer.new) out) }
+{
+    let (source, sources) = found;
+    let walk = enter(alloc, kernel, source.text.as_str(), writer)?;
+    walk_among(alloc, walk, sources, source, reader, writer)
+}
+
+/// Walks through a cell, whose text stands behind those of the cells before it.
+fn walk_among<L: Ledger, R: BufRead + Drop, W: Write>(
+    alloc: Global,
+    walk: Walk<L>,
+    sources: Vec<Source>,
+    source: Source,
+    reader: &mut R,
+    writer: &mut W,
+) -> Result<(), RunFault>
+    requires { IsWalking walk }
+    ensures { OnOk result ((out : List ℕ) × TellsWalk (map text_of sources.items ++ text_of source ∷ []) walk (R.remaining reader.old) out
+        × Appends (W.contents writer.old) (W.contents writer.new) out) }
+{
+    let mut sources = sources;
+    match sources.push(source) {
+        Ok(()) => walk_through(alloc, walk, sources.as_slice(), reader, writer),
+        Err(_) => {
+            walk.discard();
+            Err(RunFault::Memory)
+        }
+    }
 }
 
 /// Begins a cell, and takes it out of the kernel, to be walked through. Where its text is refused, that is told.
@@ -113,13 +169,25 @@ fn enter<L: Ledger, W: Write>(
     text: &str,
     writer: &mut W,
 ) -> Result<Walk<L>, RunFault>
-    ensures { IfOk result IsWalking }
+    ensures walks { IfOk result IsWalking }
+    ensures enters { IfOk result (Enters kernel.machine text.now) }
+    ensures silent { OnOk result (writer.new ≡ writer.old) }
 {
     let mut kernel = kernel;
-    if let Err(fault) = begin(alloc, &mut kernel, text, writer) {
-        kernel.discard();
-        return Err(fault);
+    match begin(alloc, &mut kernel, text, writer) {
+        Ok(()) => taken_out(alloc, kernel),
+        Err(fault) => {
+            kernel.discard();
+            Err(fault)
+        }
     }
+}
+
+/// Takes the open cell out of the kernel, to be walked through.
+fn taken_out<L: Ledger>(alloc: Global, kernel: Kernel<L>) -> Result<Walk<L>, RunFault>
+    ensures walks { IfOk result IsWalking }
+    ensures stands { IfOk result (StandsInside kernel.machine) }
+{
     legal_law(&kernel);
     let Some(open) = kernel.into_open_cell() else {
         return Err(RunFault::Refused);
@@ -143,22 +211,25 @@ fn begin<L: Ledger, W: Write>(
     kernel: &mut Kernel<L>,
     text: &str,
     writer: &mut W,
-) -> Result<(), RunFault> {
-    let Ok(text) = String::from_str(alloc, text) else {
-        return Err(RunFault::Memory);
-    };
-    let Ok(code) = CellText::new(alloc, text) else {
-        return Err(RunFault::Memory);
-    };
-    let job = Job::Cell {
-        code,
-        silent: false,
-        store: true,
-    };
-    if let Err(fault) = kernel.post(0, job) {
-        send_post_fault(writer, fault)?;
-        return Err(RunFault::Refused);
+) -> Result<(), RunFault>
+    ensures begins { OnOk result (Begins kernel.old.machine text.now kernel.new.machine) }
+    ensures silent { OnOk result (writer.new ≡ writer.old) }
+{
+    let job = job_of(alloc, text)?;
+    match kernel.post(0, job) {
+        Ok(_) => begin_posted(kernel, writer),
+        Err(fault) => {
+            send_post_fault(writer, fault)?;
+            Err(RunFault::Refused)
+        }
     }
+}
+
+/// Begins the cell that is posted.
+fn begin_posted<L: Ledger, W: Write>(kernel: &mut Kernel<L>, writer: &mut W) -> Result<(), RunFault>
+    ensures begins { OnOk result (IsBegin kernel.old.machine Begun.Going kernel.new.machine) }
+    ensures silent { OnOk result (writer.new ≡ writer.old) }
+{
     match kernel.begin() {
         Begun::Going => Ok(()),
         Begun::Ended(outcome) => {

@@ -4,7 +4,7 @@ ghost use Rattle.std.specs.Io.KnownBytes.{Appends};
 ghost use Rattle.exact_write.specs.Sent.{SentSome};
 ghost use Rattle.steps_walk.specs.Runner.{count_of};
 ghost use Rattle.steps_walk.specs.Walk.{runner_of};
-ghost use Rattle.steps_program.specs.Told.{Answers, Tells, TellsCame, TellsMore, TellsReads, came_text, no_memory, refused_line};
+ghost use Rattle.steps_program.specs.Told.{Answers, Tells, TellsCame, TellsMore, TellsReads, TellsSought, came_text, no_memory, refused_line, sought_text};
 
 use crate::going::Came;
 use crate::output::{
@@ -114,6 +114,33 @@ fn send_came<L: Ledger, W: Write>(
     send_more(alloc, writer, walk, sources, came)
 }
 
+/// Writes that nothing was found, where a search has ended elsewhere.
+fn send_not_found<W: Write>(writer: &mut W, came: Came) -> Result<(), WriteFailed>
+    ensures { OnOk result (Appends (W.contents writer.old) (W.contents writer.new) (sought_text came)) }
+{
+    match came {
+        Came::End => send(writer, b"not found\n"),
+        Came::Start => send(writer, b"not found\n"),
+        Came::Fault(_) => send(writer, b"not found\n"),
+        Came::There => Ok(()),
+        Came::Memory => Ok(()),
+    }
+}
+
+/// Writes where a search has led, and before that whether it has found nothing.
+fn send_sought<L: Ledger, W: Write>(
+    alloc: Global,
+    writer: &mut W,
+    walk: &Walk<L>,
+    sources: &[Source],
+    came: Came,
+) -> Result<(), WriteFailed>
+    ensures { OnOk result ((out : List ℕ) × TellsSought sources.now came walk.now out × Appends (W.contents writer.old) (W.contents writer.new) out) }
+{
+    send_not_found(writer, came)?;
+    send_came(alloc, writer, walk, sources, came)
+}
+
 /// Writes what there is to tell.
 fn send_reply<L: Ledger, W: Write>(
     alloc: Global,
@@ -126,6 +153,7 @@ fn send_reply<L: Ledger, W: Write>(
 {
     match reply {
         Reply::Came(came) => send_came(alloc, writer, walk, sources, came),
+        Reply::Sought(came) => send_sought(alloc, writer, walk, sources, came),
         Reply::Refused(fault) => send_refused(writer, fault),
         Reply::Unknown => send(writer, b"refused 80 BadCommand\n"),
         Reply::NoMemory => send_no_memory(writer),

@@ -18,6 +18,8 @@ use steps_walk::{Walk, parse_exp};
 pub(crate) enum Reply {
     /// Where the walk has come.
     Came(Came),
+    /// Where it has come that has sought a place; it may have found none.
+    Sought(Came),
     /// Why the text of an expression is refused.
     Refused(SyntaxFault),
     /// That nobody knows the command.
@@ -58,7 +60,7 @@ fn until<L: Ledger>(
     ensures led { IsLedUntil sources.now is_onward text.now walk.old walk.new result }
 {
     match parse_exp(alloc, text) {
-        Ok(exp) => Reply::Came(go(alloc, walk, sources, Goal::Holds(&exp), is_onward)),
+        Ok(exp) => Reply::Sought(go(alloc, walk, sources, Goal::Holds(&exp), is_onward)),
         Err(fault) => Reply::Refused(fault),
     }
 }
@@ -78,7 +80,7 @@ fn watch<L: Ledger>(
     match keep_value(alloc, walk, name) {
         Ok(old) => {
             let goal = Goal::Changes(name, walk.open_calls(), old);
-            Reply::Came(go(alloc, walk, sources, goal, is_onward))
+            Reply::Sought(go(alloc, walk, sources, goal, is_onward))
         }
         Err(_) => Reply::NoMemory,
     }
@@ -161,8 +163,8 @@ pub(crate) fn obey<L: Ledger>(
             Reply::Came(go(alloc, walk, sources, goal, true))
         }
         Command::Finish => Reply::Came(finish(alloc, walk, sources)),
-        Command::To(line) => Reply::Came(go(alloc, walk, sources, Goal::Line(line), true)),
-        Command::BackTo(line) => Reply::Came(go(alloc, walk, sources, Goal::Line(line), false)),
+        Command::To(line) => Reply::Sought(go(alloc, walk, sources, Goal::Line(line), true)),
+        Command::BackTo(line) => Reply::Sought(go(alloc, walk, sources, Goal::Line(line), false)),
         Command::ToFault | Command::ToEnd => Reply::Came(step(alloc, walk, u64::MAX)),
         Command::ToStart => Reply::Came(step_back(alloc, walk, u64::MAX)),
         Command::Until(text) => until(alloc, walk, sources, text, true),

@@ -8,6 +8,11 @@ pub mod Sights
 pub mod Values
 -- Of kernel_runner, given again.
 pub use Rattle.kernel_runner.specs.Runner
+pub use Rattle.kernel_runner.specs.Program
+pub use Rattle.kernel_runner.specs.declared.program
+-- Of kernel_history, given again.
+pub use Rattle.kernel_history.specs.OpenCell
+pub use Rattle.kernel_history.specs.declared.open_cell
 -- Of kernel_machine, given again.
 pub use Rattle.kernel_machine.specs.declared.progress
 pub use Rattle.kernel_runner.specs.declared.runner

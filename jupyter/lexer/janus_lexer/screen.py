@@ -177,15 +177,14 @@ class Screen:
         number = int(view.said[0].split()[1]) if view.is_fault() else 0
         return said + (': ' + advice(number, view.is_inverse) if number in REFUSALS else '')
 
-    def go(self, move, is_search=False):
+    def go(self, move):
         """Moves, and remembers where it was. A search that finds nothing ends at an end of the cell, which is told."""
         at = self.walk.view.count
         move()
         if self.walk.view.count != at:
             self.before = at
         self.arrive()
-        said = self.walk.view.said[:1]
-        if is_search and said and not said[0].startswith('refused') and not self.walk.was_stopped():
+        if self.walk.view.is_missing:
             self.message = f"not found: {self.message}; ' leads back to step {at}"
 
     def waits(self):
@@ -353,7 +352,7 @@ class Screen:
     def seek(self, command, words, given=''):
         found = self.prompt(words, given)
         if found:
-            self.go(lambda: self.walk.go(f'{command} {found}'), is_search=True)
+            self.go(lambda: self.walk.go(f'{command} {found}'))
         return found
 
     def watch(self, command, words):

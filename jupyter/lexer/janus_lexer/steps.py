@@ -13,6 +13,7 @@ PLACE = re.compile(r'step (\d+)(?: line (\d+) column (\d+))?(?: (.+?))?(?: in (\
 VALUE = re.compile(r'(\w+)(?:\[\d+\]|\(\d+\))? =')
 CALL = re.compile(r'(?:un)?call (\w+) line (\d+) column \d+')
 STOP = re.compile(r'(?:begin|end|before|test|entry|exit|again)\b')      # a statement begins or a test is made
+MISSING = 'not found'                                                 # a search has ended where it found nothing
 STOPPED = 'stopped, and brought back to where it was'
 
 
@@ -29,8 +30,8 @@ class Ended(Exception):
 
 
 class View:
-    """What the program tells after a command: `raw` is all of the command's own answer, `said` the lines of it that aren't about a place, and `read` the
-    names that a fault's step reads, with their values."""
+    """What the program tells after a command: `raw` is all of the command's own answer, `said` the lines of it that aren't about a place, `is_missing`
+    that a search found nothing, and `read` the names that a fault's step reads, with their values."""
     def __init__(self, answer):
         lines = answer.split('\n')[:-2]                                   # without the line of `count`, which `where` has too
         last = max(at for at, it in enumerate(lines) if PLACE.match(it))
@@ -42,7 +43,8 @@ class View:
         self.values = [(VALUE.match(it)[1], it) for it in rest if VALUE.match(it)]
         self.calls = [it for it in rest if CALL.match(it)]
         self.raw = lines[:last]
-        self.said = [it for it in self.raw if not PLACE.match(it) and not it.startswith('  ')]
+        said = [it for it in self.raw if not PLACE.match(it) and not it.startswith('  ')]
+        self.is_missing, self.said = MISSING in said, [it for it in said if it != MISSING]
         self.read = [it.strip() for it in self.raw if it.startswith('  ')][bool(self.line):] if self.is_fault() else []
         self.is_stop = bool(STOP.match(self.words)) and self.words != 'before skip'       # a part that was left out, mostly
 

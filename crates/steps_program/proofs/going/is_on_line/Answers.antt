@@ -1,4 +1,4 @@
-use Rattle.std.proofs.Common.{◌≡◌, ◌∙◌, Bool, ◌&&◌, ℕ, ap}
+use Rattle.std.proofs.Common.{◌∙◌, ◌&&◌, ℕ, ap}
 use Rattle.std.specs.Prelude.{Option, Some, nat_eq}
 use Rattle.std.specs.Option.{option_eq}
 use Rattle.steps_program.specs.Places.{line_at, source_of}

@@ -1,6 +1,6 @@
 use mir.Syntax.{w32}
 use mir.Val.{SFits}
-use Rattle.std.proofs.Common.{◌≡◌, ◌∙◌, Some, ap, refl, rules}
+use Rattle.std.proofs.Common.{◌∙◌, Some, ap, refl, rules}
 use Rattle.std.proofs.lemmas.Int.{to_z-of_z}
 use Rattle.janus_memory.specs.Stacks.{held}
 use Rattle.steps_program.proofs.Stacked.{one_more}

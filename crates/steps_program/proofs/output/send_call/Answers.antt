@@ -1,4 +1,4 @@
-use Rattle.std.proofs.Common.{◌++◌, refl}
+use Rattle.std.proofs.Common.{refl}
 use Rattle.steps_walk.specs.Standing.{name_of}
 use Rattle.steps_program.specs.Places.{source_of}
 use Rattle.steps_program.specs.Told.{TellsCall, callee_text, caller_text}

@@ -1,4 +1,4 @@
-use Rattle.std.proofs.Common.{◌≡◌, ℕ, List, codes, refl, ◌∙◌, sym, subst, arith}
+use Rattle.std.proofs.Common.{◌≡◌, codes, refl, ◌∙◌, sym, subst, arith}
 use Rattle.steps_walk.specs.Walk.{calls_in}
 use Rattle.steps_program.specs.Told.{TellsCalls, TellsFirstCalls, TellsSomeCalls}
 use Rattle.steps_program.proofs.Calling.{some_calls}

@@ -1,6 +1,5 @@
-use Rattle.std.proofs.Common.{[], ◌++◌, refl, subst, sym, add-one}
-use Rattle.exact_write.proofs.SendLemmas.{appends_none, appends_join}
-use Rattle.steps_program.specs.Told.{TellsFirstCalls}
+use Rattle.std.proofs.Common.{[], refl}
+use Rattle.exact_write.proofs.SendLemmas.{appends_none}
 use Rattle.steps_program.proofs.Calling.{one_more}
 use Rattle.steps_program.proofs.output.send_each_call.Goals as goal
 

@@ -1,4 +1,4 @@
-use Rattle.std.proofs.Common.{◌≡◌, List, [], ◌++◌, codes, ◌∙◌, sym}
+use Rattle.std.proofs.Common.{◌≡◌, List, [], codes, ◌∙◌, sym}
 use Rattle.std.specs.Prelude.{slice_get}
 use Rattle.exact_write.proofs.SendLemmas.{appends_none}
 use Rattle.janus_meaning.specs.Syntax.{Name}

@@ -1,7 +1,6 @@
-use Rattle.std.proofs.Common.{◌≡◌, List, [], ap, ◌∙◌}
+use Rattle.std.proofs.Common.{◌≡◌, List, ap, ◌∙◌}
 use Rattle.std.specs.Global.{Vec}
-use Rattle.std.specs.Prelude.{Result, Ok, Err}
-use Rattle.exact_write.proofs.SendLemmas.{appends_none}
+use Rattle.std.specs.Prelude.{Result, Ok}
 use Rattle.janus_meaning.specs.Syntax.{Name}
 use Rattle.janus_syntax.specs.Text.{IsLexed}
 use Rattle.janus_syntax.specs.declared.fault.SyntaxFault.{SyntaxFault}
@@ -9,7 +8,6 @@ use Rattle.janus_syntax.specs.declared.token.Token.{Token}
 use Rattle.steps_walk.specs.Sights.{AreInSight}
 use Rattle.steps_walk.specs.Walk.{slots_in}
 use Rattle.steps_program.specs.Told.{TellsTokens, reads_text}
-use Rattle.steps_program.proofs.Reading.{quiet}
 use Rattle.steps_program.proofs.Telling.{more}
 use Rattle.steps_program.proofs.output.send_text.Goals as goal
 

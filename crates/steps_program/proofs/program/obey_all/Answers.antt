@@ -1,4 +1,4 @@
-use Rattle.std.proofs.Common.{ℕ, ◌+◌, List, [], ◌∷◌, ◌++◌, string_bytes, ap, ◌∙◌, sym, subst, arith}
+use Rattle.std.proofs.Common.{◌+◌, [], ◌∷◌, ◌++◌, string_bytes, ap, ◌∙◌, sym, subst, arith}
 use Rattle.exact_write.proofs.SendLemmas.{appends_none}
 use Rattle.steps_walk.proofs.Moving.{stays, further}
 use Rattle.steps_program.specs.Commands.{asked_of}

@@ -1,7 +1,6 @@
-use Rattle.std.proofs.Common.{ℕ, List}
 use Rattle.steps_program.specs.Transcript.{Serves}
 use Rattle.steps_program.proofs.Obeying.{obeyed}
-use Rattle.steps_program.proofs.Telling.{Goes, flushed, not_flushed}
+use Rattle.steps_program.proofs.Telling.{flushed, not_flushed}
 use Rattle.steps_program.proofs.program.obey_one.Goals as goal
 
 pub returns-in-Ok-clause-moves : goal.returns-in-Ok-clause-moves

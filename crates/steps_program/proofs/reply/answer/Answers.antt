@@ -1,4 +1,4 @@
-use Rattle.std.proofs.Common.{◌≡◌, ℕ, List, inl, inr, refl, sym, subst}
+use Rattle.std.proofs.Common.{inl, inr, refl, sym, subst}
 use Rattle.steps_program.specs.Told.{Answers, no_memory}
 use Rattle.steps_program.proofs.Telling.{told, told_some}
 use Rattle.steps_program.proofs.reply.answer.Goals as goal

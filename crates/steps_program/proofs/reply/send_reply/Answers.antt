@@ -1,6 +1,4 @@
 use Rattle.std.proofs.Common.{codes, refl, ap}
-use Rattle.steps_walk.specs.Runner.{count_of}
-use Rattle.steps_walk.specs.Walk.{runner_of}
 use Rattle.steps_program.specs.declared.talk.Reply.TheVariants as reply
 use Rattle.steps_program.specs.Told.{refused_line, bad_command, no_memory, counted_line}
 use Rattle.steps_program.proofs.Saying.{said, said_so, said_nothing}
@@ -44,6 +42,12 @@ returns-in-Came g c =
     let a = g.W.Write.contents c.args.writer.now in
     let b = g.W.Write.contents c.send_came.new.writer in
     said_so c.args.sources.now c.args.walk.now c.args.reply (reply.Came c.in-Came.came) c.in-Came.is a b c.send_came.result c.send_came.ensures
+
+pub returns-in-Sought : goal.returns-in-Sought
+returns-in-Sought g c =
+    let a = g.W.Write.contents c.args.writer.now in
+    let b = g.W.Write.contents c.send_sought.new.writer in
+    said_so c.args.sources.now c.args.walk.now c.args.reply (reply.Sought c.in-Sought.came) c.in-Sought.is a b c.send_sought.result c.send_sought.ensures
 
 pub returns-in-Names : goal.returns-in-Names
 returns-in-Names g c =

@@ -1,6 +1,6 @@
-use Rattle.std.proofs.Common.{ap, ◌∙◌, sym}
+use Rattle.std.proofs.Common.{ap, ◌∙◌}
 use Rattle.std.specs.Str.{trim}
-use Rattle.steps_program.specs.Commands.{asked_by, asked_with, asked_alone}
+use Rattle.steps_program.specs.Commands.{asked_by}
 use Rattle.steps_program.proofs.Words.{parted, whole}
 use Rattle.steps_program.proofs.command.Command.read.Goals as goal
 

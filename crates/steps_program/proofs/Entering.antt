@@ -1,0 +1,82 @@
+-- A cell that is begun, and the walk from there.
+use Rattle.std.proofs.Common.{◌≡◌, ◌∙◌, ℕ, List, [], ◌∷◌, ◌++◌, false, true, refl, ap, ap₂, sym, subst}
+use Rattle.std.specs.Prelude.{Option, Result, Ok, Err, OnOk, IfOk}
+use Rattle.std.specs.Io.KnownBytes.{Appends}
+use Rattle.exact_write.proofs.SendLemmas.{appends_join}
+use Rattle.steps_walk.specs.OpenCell.{IsOpenCell}
+use Rattle.steps_walk.specs.open_cell.OpenCell.{OpenCell}
+use Rattle.cells_program.specs.Served.{lane}
+use Rattle.kernel_machine.specs.Request.{RunCell}
+use Rattle.kernel_machine.specs.Runs.{Machine, new_machine, IsPost, IsBegin}
+use Rattle.kernel_machine.specs.declared.outcome.Begun.TheVariants.{Going}
+use Rattle.steps_walk.specs.Runner.{Is, Inside}
+use Rattle.steps_walk.specs.program.Program.{Program}
+use Rattle.steps_walk.specs.runner.Runner.{Runner}
+use Rattle.steps_walk.specs.Program.{cell_of_program}
+use Rattle.kernel_machine.specs.Language.{Forward}
+use Rattle.kernel_machine.specs.State as state
+use Rattle.kernel_machine.specs.declared.heading.Heading.TheVariants.{GoesOn}
+use Rattle.steps_walk.specs.declared.walk.Walk.{Walk}
+use Rattle.steps_walk.specs.Walk.{runner_of, program_of, IsWalking}
+use Rattle.steps_program.specs.Before.{Stage, Text, Finds, cell_of, sought}
+use Rattle.steps_program.proofs.Telling.{Goes}
+use Rattle.steps_program.specs.Walked.{Begins, StandsInside, Enters, TellsWalk, WalksThrough}
+
+-- the walk has the runner and the program of an open cell
+pub stands_inside : {L : Type 0} (inside : Machine) (o : OpenCell L) (w : Walk L) → runner_of w ≡ o.runner → program_of w ≡ o.program →
+    IsOpenCell inside.state o → StandsInside inside w
+stands_inside {L} inside o w e f h = record {
+  at = h.at;
+  stands = subst (λ (r : Runner L). Is r (Inside (program_of w) h.at false)) (sym e)
+      (subst (λ (p : Program). Is o.runner (Inside p h.at false)) (sym f) h.stands);
+  code = h.code ∙ ap (λ (p : Program). Forward (cell_of_program p)) (sym f);
+  world = h.world;
+  job = h.job
+      ∙ ap (λ (p : Program). state.Inside (record { work = state.Posted (cell_of_program p); count = h.at.count; heading = GoesOn })) (sym f);
+}
+
+pub begun : {E : Type 0} (old posted new : Machine) (text : List ℕ) (number : ℕ) (r : Result (Unit {0}) E) →
+    IsPost old lane (RunCell text false true) (Ok number) posted → OnOk r (IsBegin posted Going new) → OnOk r (Begins old text new)
+begun old posted new text number (Ok u) p b = (posted, number, p, b)
+begun old posted new text number (Err e) p b = tt
+
+pub enters : {L E : Type 0} (old : Machine) (text : List ℕ) (inside : Machine) (r : Result (Walk L) E) → Begins old text inside →
+    IfOk r (StandsInside inside) → IfOk r (Enters old text)
+enters old text inside (Ok w) begins stands = record { inside = inside; begins = begins; stands = stands }
+enters old text inside (Err e) begins stands = tt
+
+pub anyway : {A E : Type 0} (P : Type 0) (r : Result A E) → P → OnOk r P
+anyway P (Ok x) h = h
+anyway P (Err e) h = tt
+
+-- the walk is entered, and then its transcript is written
+abbrev pub Walks : (L : Type 0) → Machine → List ℕ → List Text → Option (List ℕ) → Option (List ℕ) → Option (List ℕ) → Type 0
+Walks L m text texts input a b =
+    (w : Walk L) × (told : List ℕ) × IsWalking w × Enters m text w × TellsWalk texts w input told × Appends a b told
+
+pub walked : {L E : Type 0} (m : Machine) (text : List ℕ) (texts : List Text) (input a b : Option (List ℕ)) (w : Walk L) (r : Result (Unit {0}) E) →
+    IsWalking w → Enters m text w → OnOk r (Goes (TellsWalk texts w input) a b) → OnOk r (Walks L m text texts input a b)
+walked m text texts input a b w (Ok u) walks enters (told, tells, sent) = (w, told, walks, enters, tells, sent)
+walked m text texts input a b w (Err e) walks enters h = tt
+
+-- behind what is written of the cells before
+module _ (L : Type 0) {E : Type 0} (cell : Option ℕ) (file : List ℕ) (input a b c : Option (List ℕ)) (m : Machine) (texts : List Text) (text : Text) where
+  pub whole : (s : Stage) (before : List ℕ) → Finds (sought cell file) file new_machine s before → s.machine ≡ m → texts ≡ s.ran → text ≡ cell_of s →
+      Appends a b before → (r : Result (Unit {0}) E) → OnOk r (Walks L m text.0 (texts ++ text ∷ []) input b c) →
+      OnOk r (Goes (WalksThrough L cell file input) a c)
+  whole s before finds at are is sent (Ok u) (w, told, walks, entered, tells, more) = (
+    before ++ told,
+    record {
+      stage = s;
+      before = before;
+      finds = finds;
+      walk = w;
+      walks = walks;
+      enters = subst (λ (n : Machine). Enters n s.gathered w) (sym at) (subst (λ (t : List ℕ). Enters m t w) (ap (λ (t : Text). t.0) is) entered);
+      told = told;
+      tells = subst (λ (l : List Text). TellsWalk l w input told) (ap₂ (λ (xs : List Text) (x : Text). xs ++ x ∷ []) are is) tells;
+      is = refl;
+    },
+    appends_join a b c before told sent more,
+  )
+  whole s before finds at are is sent (Err e) h = tt
