@@ -11,19 +11,19 @@ use Rattle.janus_meaning.specs.Stepping.{Place, To, Halt, live, kept, frames_of}
 use Rattle.janus_memory.specs.Memory.{MemoryState, val_at, reached, stacks_among}
 use Rattle.janus_row.specs.Frames.{IsSeen}
 use Rattle.janus_row.specs.Over.{cells_of, others_of, front_of, names_of}
-use Rattle.janus_row.specs.Rows.{instruction_at, body_at, sight_of}
-use Rattle.janus_row.specs.Slices.{EndsBy, IsSliced, IsStepTo, IsOneStep}
-use Rattle.janus_row.specs.Sound.{World, Sees, TakesStep, IsSound, IsSafeAhead, IsRefused}
+use Rattle.janus_row.specs.Rows.{instruction_at, lead_at, body_at, entry, IsBody, sight_of}
+use Rattle.janus_row.specs.OneStep.{IsStepTo, IsOneStep}
+use Rattle.janus_row.specs.Sound.{World, Sees, TakesStep, IsSound, IsSafeAhead, IsRefused, IsStopped, AreRun}
 use Rattle.janus_row.specs.declared.code.Instruction.{Instruction}
 use Rattle.janus_row.specs.declared.code.Primitive.{Primitive}
 use Rattle.janus_row.specs.declared.code.Row.{Row}
 use Rattle.janus_row.specs.declared.code.Span.{Span}
 use Rattle.janus_row.specs.declared.fault.Stop.{Stop}
-use Rattle.janus_row.specs.declared.slice.Sliced.{Sliced}
+use Rattle.janus_row.specs.declared.slice.Reached.{Reached}
 use Rattle.janus_frames.specs.Calls.{own_names, names_lent, values_lent}
 use Rattle.janus_frames.specs.FramesState.{FramesState, stacks_there}
 use Rattle.janus_frames.specs.Inside.{AreIn, frames_in}
-use Rattle.janus_frames.specs.Run.{HasCellRoom, KeepsCalls, IsSafeRun, IsRunnable, IsRunnableOnce, Runs, RunsOnce, undeclared}
+use Rattle.janus_frames.specs.Run.{HasCellRoom, KeepsCalls, IsSafeRunOn, IsRunnable, IsRunnableOnce, RunsOn, RunsOnce, undeclared}
 use Rattle.janus_frames.specs.Cells.{from}
 use Rattle.janus_frames.specs.declared.frames.OpenCall.{OpenCall}
 use Rattle.janus_frames.proofs.Holding.{names-below}
@@ -136,21 +136,14 @@ module _ (m : MemoryState) (top : ℕ) (calls : List OpenCall) (i : AreIn m top 
 
     -- what is runnable then
     pub runnable-left : ((n : ℕ) → row.width ≤ n → IsSound w n row.instructions.items row.spans.items row.primitives.items)
-        → ((k : ℕ) → w.sight k ≡ sight_of row k) → (at : ℕ) → k ≡ body_at row.instructions.items at
-        → IsRunnable w row at (undeclared (frames_in n (n.base + sight_of row k) calls))
-    runnable-left sound all at e = record {
-      sound = sound;
-      sight = all;
-      size = left-size ∙ ap (sight_of row) e;
-      stacks = left-stacks ∙ ap (λ k. live w.outside.stacks (frames_of (w.places k))) e;
-      values = left-values ∙ ap (λ k. kept w.outside.values (frames_of (w.places k))) e;
-    }
+        → ((k : ℕ) → w.sight k ≡ sight_of row k) → IsRunnable w row k (undeclared (frames_in n (n.base + sight_of row k) calls))
+    runnable-left sound all = record { sound = sound; sight = all; size = left-size; stacks = left-stacks; values = left-values }
 
--- what contracts say of a slice and of one step
-abbrev pub SliceOf : (m n : MemoryState) (at many : ℕ) → Sliced → List Instruction → List Span → List Primitive → Type 0
-SliceOf m n at many out ins es qs =
-    (w : World) (s : Store) → IsSound w (length (cells_of m)) ins es qs → Sees w (body_at ins at) s (cells_of m) (others_of m)
-    → IsSafeAhead w many (w.places at) s → IsSliced w ins at s many out (cells_of n) (others_of n)
+-- what contracts say of a run from an instruction on, and of one step
+abbrev pub RunOf : (m n : MemoryState) (at many : ℕ) → Reached → List Instruction → List Span → List Primitive → Type 0
+RunOf m n at many out ins es qs =
+    (w : World) (s : Store) → IsSound w (length (cells_of m)) ins es qs → Sees w at s (cells_of m) (others_of m)
+    → IsSafeAhead w many (w.places (entry ins at)) s → AreRun w ins at s many out (cells_of n) (others_of n)
 
 abbrev pub StepOf : (m n : MemoryState) (at : ℕ) → Result ℕ Stop → List Instruction → List Span → List Primitive → Type 0
 StepOf m n at out ins es qs =
@@ -169,66 +162,68 @@ module _ (m : MemoryState) (top : ℕ) (calls : List OpenCall) (i : AreIn m top 
     (r : MemoryState) (reach : r ≡ reached m (m.base + row.width)) (wide : length r.contents ≡ length r.numbers)
     (free : r.spare + stacks_among r.contents ≡ live_stack_limit) (n : MemoryState) (before : front_of n ≡ front_of r)
     (size : length (cells_of n) ≡ length (cells_of r)) (spare : n.spare + stacks_among n.contents ≡ live_stack_limit) where
-  -- ---- a slice
+  -- ---- from an instruction on
 
-  module _ (at many : ℕ) (out : Sliced) (lt : body_at row.instructions.items out.at < length row.instructions.items)
-      (slice : SliceOf r n at many out row.instructions.items row.spans.items row.primitives.items) where
-    abbrev k : ℕ
-    k = body_at row.instructions.items out.at
+  module _ (at many : ℕ) (out : Reached) (there : IsBody row.instructions.items out.at)
+      (run : RunOf r n at many out row.instructions.items row.spans.items row.primitives.items) where
+    abbrev beyond : FramesState
+    beyond = frames_in n (n.base + sight_of row out.at) calls
 
-    abbrev after : FramesState
-    after = frames_in n (n.base + sight_of row k) calls
+    ran : (w : World) → IsRunnable w row at (undeclared (frames_in m top calls))
+        → IsSafeAhead w many (w.places (entry row.instructions.items at)) (frames_in m top calls).slots
+        → AreRun w row.instructions.items at (frames_in m top calls).slots many out (cells_of n) (others_of n)
+    ran w a safe = run w (frames_in m top calls).slots (a.sound (length (cells_of r)) (has-cells m top calls i row cells r reach wide))
+        (start m top calls i row cells r reach wide w at (a.sight at) a.size a.stacks a.values) safe
 
-    sliced : (w : World) → IsRunnable w row at (undeclared (frames_in m top calls)) → IsSafeAhead w many (w.places at) (frames_in m top calls).slots
-        → IsSliced w row.instructions.items at (frames_in m top calls).slots many out (cells_of n) (others_of n)
-    sliced w a safe = slice w (frames_in m top calls).slots (a.sound (length (cells_of r)) (has-cells m top calls i row cells r reach wide))
-        (start m top calls i row cells r reach wide w (body_at row.instructions.items at) (a.sight (body_at row.instructions.items at))
-        a.size a.stacks a.values) safe
+    pub run-in : IsSafeRunOn row at many (undeclared (frames_in m top calls)) → AreIn n (n.base + sight_of row out.at) calls
+    run-in asked =
+        let x = ran asked.0 asked.1 asked.2 in
+        left-in m top calls i row cells r reach wide free n before size spare asked.0 out.at (asked.1.sight out.at) there.there x.leads.store x.leads.sees
 
-    pub slice-in : IsSafeRun row at many (undeclared (frames_in m top calls)) → AreIn n (n.base + sight_of row (body_at row.instructions.items out.at)) calls
-    slice-in run =
-        let x = sliced run.0 run.1 run.2 in
-        left-in m top calls i row cells r reach wide free n before size spare run.0 k (run.1.sight k) lt x.store x.sees
+    pub run-kept : IsSafeRunOn row at many (undeclared (frames_in m top calls))
+        → KeepsCalls (frames_in m top calls) (frames_in n (n.base + sight_of row out.at) calls)
+    run-kept asked =
+        let x = ran asked.0 asked.1 asked.2 in
+        left-kept m top calls i row cells r reach wide free n before size spare asked.0 out.at (asked.1.sight out.at) there.there x.leads.store x.leads.sees
 
-    pub slice-kept : IsSafeRun row at many (undeclared (frames_in m top calls))
-        → KeepsCalls (frames_in m top calls) (frames_in n (n.base + sight_of row (body_at row.instructions.items out.at)) calls)
-    slice-kept run =
-        let x = sliced run.0 run.1 run.2 in
-        left-kept m top calls i row cells r reach wide free n before size spare run.0 k (run.1.sight k) lt x.store x.sees
+    pub run-size : IsSafeRunOn row at many (undeclared (frames_in m top calls))
+        → size_of (frames_in n (n.base + sight_of row out.at) calls).slots ≡ sight_of row out.at
+    run-size asked =
+        let x = ran asked.0 asked.1 asked.2 in
+        left-size m top calls i row cells r reach wide free n before size spare asked.0 out.at (asked.1.sight out.at) there.there x.leads.store x.leads.sees
 
-    pub slice-size : IsSafeRun row at many (undeclared (frames_in m top calls))
-        → size_of (frames_in n (n.base + sight_of row (body_at row.instructions.items out.at)) calls).slots
-        ≡ sight_of row (body_at row.instructions.items out.at)
-    slice-size run =
-        let x = sliced run.0 run.1 run.2 in
-        left-size m top calls i row cells r reach wide free n before size spare run.0 k (run.1.sight k) lt x.store x.sees
-
-    pub slice-runs : Runs row at many out (undeclared (frames_in m top calls))
-        (undeclared (frames_in n (n.base + sight_of row (body_at row.instructions.items out.at)) calls))
-    slice-runs = λ w a safe.
-        let x = sliced w a safe in
-        let e = left-slots m top calls i row cells r reach wide free n before size spare w k (a.sight k) lt x.store x.sees in
+    pub run-runs : RunsOn row at many out (undeclared (frames_in m top calls)) (undeclared (frames_in n (n.base + sight_of row out.at) calls))
+    run-runs = λ w a safe.
+        let x = ran w a safe in
+        let e = left-slots m top calls i row cells r reach wide free n before size spare w out.at (a.sight out.at) there.there x.leads.store x.leads.sees in
         record {
-          steps = x.steps ∙ ap (To (w.places out.at)) (sym e);
-          ends = subst (λ s. EndsBy w row.instructions.items many out.taken out.at s out.stop) (sym e) x.ends;
-          again = runnable-left m top calls i row cells r reach wide free n before size spare w k (a.sight k) lt x.store x.sees a.sound a.sight out.at refl;
+          steps = x.leads.steps ∙ ap (To (w.places (entry row.instructions.items out.at))) (sym e);
+          ends = subst (λ s. IsStopped w row.instructions.items out s out.stop) (sym e) x.ends;
+          again = runnable-left m top calls i row cells r reach wide free n before size spare w out.at (a.sight out.at) there.there
+              x.leads.store x.leads.sees a.sound a.sight;
         }
 
-    -- where no step is taken
-    pub slice-stays : IsSafeRun row at many (undeclared (frames_in m top calls)) → IsWritten out.taken r.writes n.writes → out.taken ≡ 0
-        → frames_in n (n.base + sight_of row (body_at row.instructions.items out.at)) calls ≡ frames_in m top calls
-    slice-stays run written none =
-        let w = run.0 in
-        let x = sliced w run.1 run.2 in
-        let e = left-slots m top calls i row cells r reach wide free n before size spare w k (run.1.sight k) lt x.store x.sees in
-        let l = left-kept m top calls i row cells r reach wide free n before size spare w k (run.1.sight k) lt x.store x.sees in
-        let still : To (w.places at) (frames_in m top calls).slots ≡ To (w.places out.at) x.store =
-        subst (λ j. meaning.steps w.outside j (w.places at) (frames_in m top calls).slots ≡ To (w.places out.at) x.store) none x.steps in
+    -- where none is taken
+    pub run-stays : IsSafeRunOn row at many (undeclared (frames_in m top calls))
+        → IsWritten (many - (out.left + lead_at row.instructions.items at)) r.writes n.writes → out.left ≡ many
+        → frames_in n (n.base + sight_of row out.at) calls ≡ frames_in m top calls
+    run-stays asked written none =
+        let w = asked.0 in
+        let x = ran w asked.1 asked.2 in
+        let e = left-slots m top calls i row cells r reach wide free n before size spare w out.at (asked.1.sight out.at) there.there x.leads.store
+        x.leads.sees in
+        let l = left-kept m top calls i row cells r reach wide free n before size spare w out.at (asked.1.sight out.at) there.there x.leads.store
+        x.leads.sees in
+        let zero_left : many - out.left ≡ 0 = omega (arith, none) in
+        let still : To (w.places (entry row.instructions.items at)) (frames_in m top calls).slots
+        ≡ To (w.places (entry row.instructions.items out.at)) x.leads.store =
+        subst (λ j. meaning.steps w.outside j (w.places (entry row.instructions.items at)) (frames_in m top calls).slots
+        ≡ To (w.places (entry row.instructions.items out.at)) x.leads.store) zero_left x.leads.steps in
         let written_is : r.writes ≡ m.writes = ap (λ (r : MemoryState). r.writes) reach in
         let results_is : n.results ≡ m.results = ap (λ b. b.results) before ∙ ap (λ (r : MemoryState). r.results) reach in
-        same-state after (frames_in m top calls)
-        (e ∙ sym (to-place (w.places at) (w.places out.at) (frames_in m top calls).slots x.store still)) l.callers l.room results_is
-        (omega (arith, written, none, written_is))
+        same-state beyond (frames_in m top calls)
+        (e ∙ sym (to-place (w.places (entry row.instructions.items at)) (w.places (entry row.instructions.items out.at)) (frames_in m top calls).slots
+        x.leads.store still)) l.callers l.room results_is (omega (arith, written, none, written_is))
 
   -- ---- one instruction
 

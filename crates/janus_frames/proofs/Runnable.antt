@@ -1,21 +1,20 @@
 -- A row is run over stores of the same names in the same calls, and what a store holds stays right.
-use Rattle.std.proofs.Common.{◌≡◌, ℕ, ◌+◌, ◌<◌, ◌≤◌, List, [], ◌∷◌, length, refl, ap, ◌∙◌, sym, subst, arith, Result, Ok, Err, Bool, true, false, cond}
+use Rattle.std.proofs.Common.{◌≡◌, ℕ, ◌+◌, ◌-◌, ◌<◌, ◌≤◌, List, [], ◌∷◌, length, refl, ap, ◌∙◌, sym, subst, arith, Result, Ok, Err, Bool, true, false, cond}
 use Rattle.std.specs.Prelude.{OnErr}
 use Rattle.janus_meaning.specs.Syntax.{Name}
 use Rattle.janus_meaning.specs.World.{size_of, stacks_in}
 use Rattle.janus_meaning.specs.Stepping as meaning
 use Rattle.janus_meaning.specs.Stepping.{To}
-use Rattle.janus_row.specs.Rows.{instruction_at, is_tick, body_at, sight_of, IsRow}
-use Rattle.janus_row.specs.Sound.{World, IsSafeAhead, IsRefused}
-use Rattle.janus_row.specs.Slices.{EndsBy}
+use Rattle.janus_row.specs.Rows.{instruction_at, is_tick, body_at, entry, sight_of, IsRow}
+use Rattle.janus_row.specs.Sound.{World, IsSafeAhead, IsRefused, IsStopped}
 use Rattle.janus_row.specs.declared.code.Instruction.{Instruction}
 use Rattle.janus_row.specs.declared.code.Row.{Row}
 use Rattle.janus_row.specs.declared.fault.Stop.{Stop}
-use Rattle.janus_row.specs.declared.slice.Sliced.{Sliced}
+use Rattle.janus_row.specs.declared.slice.Reached.{Reached}
 use Rattle.janus_frames.specs.Calls.{Caller, AreShort, names_lent, stacks_lent, values_lent, params_bound, own_names}
 use Rattle.janus_frames.specs.FramesState.{FramesState}
 use Rattle.janus_frames.specs.Kept.{AreHeld, outer_size}
-use Rattle.janus_frames.specs.Run.{HasRowRoom, IsRunnable, IsRunnableOnce, IsRunOnce, RunsOnce, Runs, HasCellRoom, KeepsCalls}
+use Rattle.janus_frames.specs.Run.{HasRowRoom, IsRunnable, IsRunnableOnce, IsRunOnce, RunsOnce, RunsOn, HasCellRoom, KeepsCalls}
 use Rattle.janus_frames.specs.StoreState.{StoreState, state_of}
 use Rattle.janus_frames.proofs.Sizes.{params-few}
 
@@ -52,12 +51,13 @@ module _ (row : Row) (g h : StoreState) (slots : g.slots ≡ h.slots) (callers :
 
 module _ (row : Row) (at : ℕ) (g h i j : StoreState) (old : g.slots ≡ h.slots) (in_old : g.callers ≡ h.callers) (new : i.slots ≡ j.slots)
     (in_new : i.callers ≡ j.callers) where
-  pub runs-as : (m : ℕ) (r : Sliced) → Runs row at m r g i → Runs row at m r h j
-  runs-as m r runs = λ w a safe.
-      let x = runs w (runnable-as row h g (sym old) (sym in_old) w at a) (subst (IsSafeAhead w m (w.places at)) (sym old) safe) in
+  pub runs-on-as : (m : ℕ) (r : Reached) → RunsOn row at m r g i → RunsOn row at m r h j
+  runs-on-as m r runs = λ w a safe.
+      let from = w.places (entry row.instructions.items at) in
+      let x = runs w (runnable-as row h g (sym old) (sym in_old) w at a) (subst (IsSafeAhead w m from) (sym old) safe) in
       record {
-        steps = ap (meaning.steps w.outside r.taken (w.places at)) (sym old) ∙ x.steps ∙ ap (To (w.places r.at)) new;
-        ends = subst (λ s. EndsBy w row.instructions.items m r.taken r.at s r.stop) new x.ends;
+        steps = ap (meaning.steps w.outside (m - r.left) from) (sym old) ∙ x.steps ∙ ap (To (w.places (entry row.instructions.items r.at))) new;
+        ends = subst (λ s. IsStopped w row.instructions.items r s r.stop) new x.ends;
         again = runnable-as row i j new in_new w r.at x.again;
       }
 

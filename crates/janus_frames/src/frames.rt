@@ -1,6 +1,6 @@
 //! The names in sight, each with its value in a cell of one frame, and the frames of the open calls around it.
 
-ghost use Rattle.std.specs.Prelude.{◌≡◌, ◌<◌, ◌≤◌, ◌+◌, ℕ, ℤ, List, [], ◌∷◌, length, reverse, IfOk, OnOk, OnErr, IsTrue, ◌↔◌};
+ghost use Rattle.std.specs.Prelude.{◌≡◌, ◌<◌, ◌≤◌, ◌+◌, ◌-◌, ℕ, ℤ, List, [], ◌∷◌, length, reverse, IfOk, OnOk, OnErr, IsTrue, ◌↔◌};
 ghost use Rattle.std.specs.Prelude.{IfSome, None, true, false, ◌^◌};
 ghost use Rattle.janus_meaning.specs.Fault.{Fine, TopEmpty};
 ghost use Rattle.janus_meaning.specs.Limit.{live_stack_limit, value_limit};
@@ -9,8 +9,8 @@ ghost use Rattle.janus_meaning.specs.Value.{first};
 ghost use Rattle.janus_meaning.specs.World.{size_of};
 ghost use Rattle.janus_meaning.specs.Writes.{IsWritten};
 ghost use Rattle.janus_row.specs.Acts.{Fits};
-ghost use Rattle.janus_row.specs.Rows.{IsRow, IsBody, instruction_at, body_at, sight_of};
-ghost use Rattle.janus_row.specs.Slices.{IsWrittenOnce};
+ghost use Rattle.janus_row.specs.Rows.{IsRow, IsBody, instruction_at, body_at, lead_at, sight_of};
+ghost use Rattle.janus_row.specs.OneStep.{IsWrittenOnce};
 ghost use Rattle.janus_row.specs.Sound.{World};
 ghost use Rattle.janus_slots.specs.Slots.{slot};
 ghost use Rattle.janus_memory.specs.Values.{shown, read_or};
@@ -18,7 +18,7 @@ ghost use Rattle.janus_frames.specs.Cells.{has, from};
 ghost use Rattle.janus_frames.specs.Calls.{CanLend, Enters, AreAlone, Returns, given_back, own_names, names_lent, slots_of, names_of};
 ghost use Rattle.janus_frames.specs.FramesState.{no_frames, names_there, stacks_there, values_there, with_names, HasShape};
 ghost use Rattle.janus_frames.specs.Limits.{call_limit};
-ghost use Rattle.janus_frames.specs.Run.{HasCellRoom, KeepsCalls, IsSafeRun, IsRunnableOnce, Runs, RunsOnce, KeepsValues, undeclared};
+ghost use Rattle.janus_frames.specs.Run.{HasCellRoom, KeepsCalls, IsSafeRunOn, IsRunnableOnce, RunsOn, RunsOnce, KeepsValues, undeclared};
 ghost use Rattle.janus_frames.specs.Shown.{place_in, through, AreLow, IsStored};
 ghost use Rattle.janus_frames.specs.Stores.{IsNumber, IsStack, IsHeldStack, HasElementAt, IsFirstOnTop, rest_of, write};
 ghost use Rattle.janus_frames.specs.Values.{first_of};
@@ -29,8 +29,8 @@ use crate::moves::{give_back, lend};
 use crate::value::Declared;
 use janus_memory::{Memory, Moves, Tally, ValueView};
 use janus_row::code::Row;
-use janus_row::over::{slice_over, take_one_over};
-use janus_row::slice::{Sliced, body_of};
+use janus_row::over::{run_over, take_one_over};
+use janus_row::slice::{Reached, body_of};
 use janus_row::{Stop, fits_wider_law};
 use std::alloc::{AllocError, Global};
 use std::marker::Model;
@@ -323,31 +323,33 @@ impl<L: Ledger> Frames<L> {
         self.memory.tell_results(base + names as usize, moves);
     }
 
-    /// Up to m steps of a row from a place, over the names in sight. Its results take the cells behind those for names.
-    pub(crate) fn run(&mut self, row: &Row, at: usize, m: u64) -> Sliced
+    /// Instructions of a row from one on, with the ticks before them, as long as steps enough are left of m.
+    #[inline(always)]
+    pub(crate) fn run_on(&mut self, row: &Row, at: usize, m: u64) -> Reached
         requires row { IsRow row.now.instructions.items }
         requires fits { Fits row.now.names row.now.width row.now.instructions.items row.now.spans.items row.now.primitives.items }
-        requires stands { at < length row.now.instructions.items }
-        requires few { m + 4294967296 < 2 ^ 64 }
+        requires body { IsBody row.now.instructions.items at }
         requires room { HasCellRoom row.now self.old }
         requires told { self.old.results ≡ names_lent self.old.callers + row.now.names }
-        requires sound { IsSafeRun row.now at m (undeclared self.old) }
-        ensures stands { result.at < length row.now.instructions.items }
-        ensures taken { result.taken ≤ m }
-        ensures run { Runs row.now at m result (undeclared self.old) (undeclared self.new) }
-        ensures size { size_of self.new.slots ≡ sight_of row.now (body_at row.now.instructions.items result.at) }
+        requires sound { IsSafeRunOn row.now at m (undeclared self.old) }
+        ensures there { IsBody row.now.instructions.items result.at }
+        ensures left { result.left ≤ m }
+        // Not even the ticks of the first instruction are counted twice.
+        ensures moved { result.left + lead_at row.now.instructions.items at ≤ m + lead_at row.now.instructions.items result.at }
+        ensures run { RunsOn row.now at m result (undeclared self.old) (undeclared self.new) }
+        ensures size { size_of self.new.slots ≡ sight_of row.now result.at }
         ensures kept { KeepsCalls self.old self.new }
-        ensures written { IsWritten result.taken self.old.writes self.new.writes }
+        ensures written { IsWritten (m - (result.left + lead_at row.now.instructions.items at)) self.old.writes self.new.writes }
         // Only a counted write gives a name another value.
         ensures unwritten { self.new.writes ≡ self.old.writes → KeepsValues self.old.slots self.new.slots }
-        ensures stays { result.taken ≡ 0 → (self.new ≡ self.old) × (result.at ≡ at) }
+        ensures stays { m ≤ result.left + lead_at row.now.instructions.items at → (self.new ≡ self.old) × (result.at ≡ at) × (result.left ≡ m) }
     {
         fits_wider_law();
         let base = self.memory.base();
         self.memory.law();
         self.memory.reach(base + row.width as usize);
         self.memory.law();
-        let sliced = slice_over(
+        let reached = run_over(
             &row.instructions,
             &row.spans,
             &row.primitives,
@@ -356,8 +358,8 @@ impl<L: Ledger> Frames<L> {
             m,
         );
         self.memory.law();
-        self.top = base + sight_at(row, sliced.at);
-        sliced
+        self.top = base + sight_there(row, reached.at);
+        reached
     }
 
     /// The step of one instruction of a row, which is no tick; where it is not taken, the names stay.
@@ -447,6 +449,17 @@ fn sight_at(row: &Row, at: usize) -> usize
 {
     let body = body_of(&row.instructions, at);
     match row.sights.get(body) {
+        Some(sight) => *sight as usize,
+        None => 0,
+    }
+}
+
+/// How many names are in sight at an instruction of a row.
+#[inline(always)]
+fn sight_there(row: &Row, at: usize) -> usize
+    ensures { result ≡ sight_of row.now at }
+{
+    match row.sights.get(at) {
         Some(sight) => *sight as usize,
         None => 0,
     }

@@ -7,10 +7,10 @@
 //! lend those values. A move is no write, nor is it one that a declared name begins or ends, with 0, zeros or an empty stack: the store counts each other
 //! change of a number, an element or a stack, in a ledger of which there is one store; the number that a row opens a local with is such a change. A
 //! declared name is shown with the value that it has now, which is followed inwards through the arguments of the open calls.
-//! A row of `janus_row` is run over the names in sight as they stand: `run` takes as many steps of the meaning as it is told to, and `run_one` that of one
-//! instruction, wherever the row takes the steps of the meaning; the callers' names stay. The store alone has the permit to move values, and gives it to no
-//! run of a row; results are kept behind all cells for names. So a run changes names by counted writes alone: one step counts just as many as its
-//! instruction makes, and where none was counted each name has the value that it had.
+//! A row of `janus_row` is run over the names in sight as they stand: `run_on` takes steps of the meaning from an instruction on, as long as it may, and
+//! `run_one` that of one instruction, wherever the row takes the steps of the meaning; the callers' names stay. The store alone has the permit to move
+//! values, and gives it to no run of a row; results are kept behind all cells for names. So a run changes names by counted writes alone: one step counts
+//! just as many as its instruction makes, and where none was counted each name has the value that it had.
 //! The memory of all stacks, calls, locals, parameters and results is taken with the store, and after that only a declared name takes memory. Which faults
 //! there are is the caller's affair: each call says what must hold, and the store offers the test.
 //! Contracts see what is in sight as a store of `janus_meaning`, and the open calls as the stores that they left behind, where just their arguments

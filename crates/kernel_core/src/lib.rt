@@ -42,7 +42,7 @@ pub use janus_syntax::{
 pub use kernel_history::{
     Args, Book, CountedStore, Cursor, DeclaredNames, EndedCell, HistoryTree, Kind, LinkedCode,
     LinkedProcedure, Names, Node, OpenCall, OpenCell, Procedures, Program, RoomFault, Route, Row,
-    RowSliced, Runner, StackView, Stop, Store, SymbolTable, Tally, Tree, TreeFault, ValueView,
+    RowReached, Runner, StackView, Stop, Store, SymbolTable, Tally, Tree, TreeFault, ValueView,
     View, cell_names, check_exp,
 };
 pub use kernel_machine::{

@@ -51,7 +51,7 @@ pub use crate::view::View;
 pub use cell_tree::{Node, Route, Tree, TreeFault};
 pub use janus_check::{Kind, SymbolTable, cell_names, check_exp};
 pub use janus_row::Stop;
-pub use janus_row::slice::Sliced as RowSliced;
+pub use janus_row::slice::Reached as RowReached;
 pub use kernel_loader::{
     Args, Book, CountedStore, Cursor, DeclaredNames, LinkedCode, LinkedProcedure, Names, OpenCall,
     Procedures, Program, RoomFault, Row, Runner, StackView, Store, Tally, ValueView,

@@ -66,7 +66,7 @@ returns-clause-stands g c =
     let end : c.last-end.result ≡ block_size (block_in (book_of t b u) u.direction) - 1 =
     c.last-end.ensures ∙ ap (λ (k : LaidCode). block_size (code_block all_slots k.linear.code) - 1) c.requires.code in
     let to_go : c.last-cursor.result ≡ block_size (block_in body.book site.way) - 1 =
-    c.last-cursor.ensures ∙ ap (λ (k : LaidCode). block_size (code_block all_slots k.linear.code) - 1) c.laid.ensures in
+    c.last-cursor.ensures ∙ ap (λ (k : LaidCode). block_size (code_block all_slots k.linear.code) - 1) c.laid-body.ensures in
     enters_stands t b u h c.requires.standing c.args.at c.args.room_left site c.requires.here c.if-room_left-cursor.false c.requires.safe body
     (sym c.in-Some.ensures) _ c.bind.new.self c.turned_place.result (c.turned_place.ensures (book_of t b u) end) c.is_turned.result
     c.push_reserved.ensures.items c.is_turned.ensures refl to_go refl refl c.bind.ensures
@@ -82,7 +82,7 @@ returns-clause-steps g c = λ ps k known a.
     let end : c.last-end.result ≡ block_size (block_in (book_of t b u) u.direction) - 1 =
     c.last-end.ensures ∙ ap (λ (k : LaidCode). block_size (code_block all_slots k.linear.code) - 1) c.requires.code in
     let to_go : c.last-cursor.result ≡ block_size (block_in body.book site.way) - 1 =
-    c.last-cursor.ensures ∙ ap (λ (k : LaidCode). block_size (code_block all_slots k.linear.code) - 1) c.laid.ensures in
+    c.last-cursor.ensures ∙ ap (λ (k : LaidCode). block_size (code_block all_slots k.linear.code) - 1) c.laid-body.ensures in
     enters_leads t b u h c.requires.standing c.args.at c.args.room_left site c.requires.here c.if-room_left-cursor.false c.requires.safe body
     (sym c.in-Some.ensures)
     (record {
@@ -108,7 +108,7 @@ returns-clause-agrees g c = λ k a.
     let end : c.last-end.result ≡ block_size (block_in (book_of t b u) u.direction) - 1 =
     c.last-end.ensures ∙ ap (λ (k : LaidCode). block_size (code_block all_slots k.linear.code) - 1) c.requires.code in
     let to_go : c.last-cursor.result ≡ block_size (block_in body.book site.way) - 1 =
-    c.last-cursor.ensures ∙ ap (λ (k : LaidCode). block_size (code_block all_slots k.linear.code) - 1) c.laid.ensures in
+    c.last-cursor.ensures ∙ ap (λ (k : LaidCode). block_size (code_block all_slots k.linear.code) - 1) c.laid-body.ensures in
     enters_agrees t b u h c.requires.standing c.args.at c.args.room_left site c.requires.here c.if-room_left-cursor.false c.requires.safe body
     (sym c.in-Some.ensures) _ c.bind.new.self c.turned_place.result (c.turned_place.ensures (book_of t b u) end) c.is_turned.result
     c.push_reserved.ensures.items c.is_turned.ensures refl to_go refl refl c.bind.ensures k a

@@ -35,7 +35,7 @@ returns-clause-stands g c =
     let end : c.last-end.result ≡ block_size (block_in caller way) - 1 =
     c.last-end.ensures
     ∙ ap (λ (k : LaidCode). block_size (code_block all_slots k.linear.code) - 1)
-    (c.laid.ensures ∙ ap (λ (k : LinkedCode). laid_in k way) (c.running-caller.ensures ∙ ap (λ is. book_in t b (reverse is)) c.deref.ensures.value)) in
+    (c.laid-caller.ensures ∙ ap (λ (k : LinkedCode). laid_in k way) (c.running.ensures ∙ ap (λ is. book_in t b (reverse is)) c.deref.ensures.value)) in
     let placed = c.turned_place-at.ensures caller end in
     let to_go : c.saturating_sub-cursor.result ≡ block_size (block_in caller (caller_way call.uncalled u.direction)) - 1 - suc
     (call_at caller (caller_way call.uncalled u.direction) call.place) =
@@ -59,7 +59,7 @@ returns-clause-steps g c = λ ps k known a.
     let end : c.last-end.result ≡ block_size (block_in caller way) - 1 =
     c.last-end.ensures
     ∙ ap (λ (k : LaidCode). block_size (code_block all_slots k.linear.code) - 1)
-    (c.laid.ensures ∙ ap (λ (k : LinkedCode). laid_in k way) (c.running-caller.ensures ∙ ap (λ is. book_in t b (reverse is)) c.deref.ensures.value)) in
+    (c.laid-caller.ensures ∙ ap (λ (k : LinkedCode). laid_in k way) (c.running.ensures ∙ ap (λ is. book_in t b (reverse is)) c.deref.ensures.value)) in
     let placed = c.turned_place-at.ensures caller end in
     let to_go : c.saturating_sub-cursor.result ≡ block_size (block_in caller (caller_way call.uncalled u.direction)) - 1 - suc
     (call_at caller (caller_way call.uncalled u.direction) call.place) =
@@ -92,7 +92,7 @@ returns-clause-agrees g c = λ k a.
     let end : c.last-end.result ≡ block_size (block_in caller way) - 1 =
     c.last-end.ensures
     ∙ ap (λ (k : LaidCode). block_size (code_block all_slots k.linear.code) - 1)
-    (c.laid.ensures ∙ ap (λ (k : LinkedCode). laid_in k way) (c.running-caller.ensures ∙ ap (λ is. book_in t b (reverse is)) c.deref.ensures.value)) in
+    (c.laid-caller.ensures ∙ ap (λ (k : LinkedCode). laid_in k way) (c.running.ensures ∙ ap (λ is. book_in t b (reverse is)) c.deref.ensures.value)) in
     let placed = c.turned_place-at.ensures caller end in
     let to_go : c.saturating_sub-cursor.result ≡ block_size (block_in caller (caller_way call.uncalled u.direction)) - 1 - suc
     (call_at caller (caller_way call.uncalled u.direction) call.place) =
