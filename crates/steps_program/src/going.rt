@@ -14,7 +14,7 @@ use crate::source::{Source, source_of};
 use cells_program::Fault;
 use std::alloc::{AllocError, Global};
 use std::sync::ledger::Ledger;
-use steps_walk::{Exp, Guesses, Level, Progress, Spot, Walk, is_holding, value_of};
+use steps_walk::{Exp, Level, Progress, Spot, Walk, is_holding, value_of};
 
 /// Where a command has led.
 #[derive(Clone, Copy)]
@@ -57,19 +57,12 @@ pub(crate) fn keep_value<L: Ledger>(
     let Some(sight) = walk.sight_here() else {
         return Err(AllocError);
     };
-    let mut guesses = Guesses::new();
-    let kept = Kept::of(alloc, value_of(walk, &sight, name, &mut guesses))?;
+    let kept = Kept::of(alloc, value_of(walk, &sight, name))?;
     Ok(kept)
 }
 
 /// Whether so many calls are open, and the value of a name there is another one than was kept; or the call is left in which it was kept.
-fn is_changed<L: Ledger>(
-    walk: &Walk<L>,
-    name: &str,
-    depth: usize,
-    old: &Kept,
-    guesses: &mut Guesses,
-) -> bool
+fn is_changed<L: Ledger>(walk: &Walk<L>, name: &str, depth: usize, old: &Kept) -> bool
     requires walking { IsWalking walk.now }
     requires met { IsMetHere walk.now }
     ensures { TellsChange name.now depth (value_in old.now) walk.now result }
@@ -77,8 +70,7 @@ fn is_changed<L: Ledger>(
     let Some(sight) = walk.sight_here() else {
         unreachable!()
     };
-    guesses.begin();
-    let is_old = old.is(value_of(walk, &sight, name, guesses));
+    let is_old = old.is(value_of(walk, &sight, name));
     let calls = walk.open_calls();
     if calls < depth {
         return true;
@@ -115,12 +107,7 @@ fn line_at(sources: &[Source], level: &Level, spot: Spot) -> Option<usize>
 }
 
 /// Whether the walk stands where a command goes.
-fn is_there<L: Ledger>(
-    walk: &Walk<L>,
-    sources: &[Source],
-    goal: &Goal<'_>,
-    guesses: &mut Guesses,
-) -> bool
+fn is_there<L: Ledger>(walk: &Walk<L>, sources: &[Source], goal: &Goal<'_>) -> bool
     requires walking { IsWalking walk.now }
     requires met { IsMetHere walk.now }
     ensures { IsThere sources.now goal.now walk.now result }
@@ -129,8 +116,8 @@ fn is_there<L: Ledger>(
         Goal::Next(depth) => walk.open_calls() <= *depth && walk.is_at_stop(),
         Goal::Fewer(depth) => walk.open_calls() < *depth,
         Goal::Line(line) => is_on_line(walk, sources, *line),
-        Goal::Holds(exp) => is_holding(walk, *exp, guesses),
-        Goal::Changes(name, depth, old) => is_changed(walk, *name, *depth, old, guesses),
+        Goal::Holds(exp) => is_holding(walk, *exp),
+        Goal::Changes(name, depth, old) => is_changed(walk, *name, *depth, old),
     }
 }
 
@@ -140,7 +127,6 @@ fn arrived<L: Ledger>(
     walk: &mut Walk<L>,
     sources: &[Source],
     goal: &Goal<'_>,
-    guesses: &mut Guesses,
 ) -> Option<Came>
     requires { IsWalking walk.old }
     ensures kept { KeepsMet walk.old walk.new }
@@ -150,7 +136,7 @@ fn arrived<L: Ledger>(
     if walk.meet_here(alloc).is_err() {
         return Some(Came::Memory);
     }
-    if is_there(walk, sources, goal, guesses) {
+    if is_there(walk, sources, goal) {
         return Some(Came::There);
     }
     None
@@ -163,7 +149,6 @@ fn step_on<L: Ledger>(
     walk: &mut Walk<L>,
     sources: &[Source],
     goal: &Goal<'_>,
-    guesses: &mut Guesses,
 ) -> Option<Came>
     requires { IsWalking walk.old }
     ensures walks { IsWalking walk.new }
@@ -174,7 +159,7 @@ fn step_on<L: Ledger>(
     match walk.on(1) {
         Progress::Ended(_) => Some(Came::End),
         Progress::Stopped(_, fault) => Some(Came::Fault(fault)),
-        Progress::Went => arrived(alloc, walk, sources, goal, guesses),
+        Progress::Went => arrived(alloc, walk, sources, goal),
     }
 }
 
@@ -190,9 +175,8 @@ pub(crate) fn go_on<L: Ledger>(
     ensures moves { Moves walk.old walk.new }
     ensures goes { GoesTo sources.now goal.now walk.old walk.new result }
 {
-    let mut guesses = Guesses::new();
     loop {
-        if let Some(came) = step_on(alloc, walk, sources, goal, &mut guesses) {
+        if let Some(came) = step_on(alloc, walk, sources, goal) {
             return came;
         }
     }
@@ -210,10 +194,9 @@ pub(crate) fn go_back<L: Ledger>(
     ensures moves { Moves walk.old walk.new }
     ensures goes { GoesBackTo sources.now goal.now walk.old walk.new result }
 {
-    let mut guesses = Guesses::new();
     for _ in 0..walk.count() {
         walk.back(1);
-        if let Some(came) = arrived(alloc, walk, sources, goal, &mut guesses) {
+        if let Some(came) = arrived(alloc, walk, sources, goal) {
             return came;
         }
     }

@@ -5,15 +5,12 @@ ghost use Rattle.janus_meaning.specs.Syntax.{Name};
 ghost use Rattle.janus_meaning.specs.Store.{look, number as number_in, array as array_in, stack as stack_in, element};
 ghost use Rattle.janus_meaning.specs.Value.{value as value_of_exp, first, is_none, both as both_of, either as either_of};
 ghost use Rattle.janus_meaning.specs.Word.{wrap, bit, nonzero, operate as operate_of};
-ghost use Rattle.janus_places.specs.Table.{slot_of};
-ghost use Rattle.janus_slots.specs.Slots.{slot_in};
 ghost use Rattle.janus_syntax.specs.View.{exp_of, operator_of};
 ghost use Rattle.steps_walk.specs.Sights.{AreInSight};
 ghost use Rattle.steps_walk.specs.Walk.{slots_in, IsWalking};
 ghost use Rattle.steps_walk.specs.Standing.{IsMetHere};
 ghost use Rattle.steps_walk.specs.Values.{sighted, told, found_value, found_array, found_stack, holds_as, TellsHolding};
 
-use crate::guesses::Guesses;
 use crate::sight::Sight;
 use crate::walk::Walk;
 use janus_evaluation::{ValueFault, bit_of, holds, negative, operate};
@@ -33,17 +30,16 @@ pub enum NoValue {
     Fault(ValueFault),
 }
 
-/// The value of a name, if it is in sight; the next guess at its slot is tried first.
+/// The value of a name, if it is in sight.
 #[tactic(auto, using(crate::proofs::Values::unknown, crate::proofs::Values::lent_value, crate::proofs::Values::no_value))]
 pub fn value_of<'a, L: Ledger>(
     walk: &'a Walk<L>,
     sight: &Sight<'_>,
     name: &str,
-    guesses: &mut Guesses,
 ) -> Option<ValueView<'a>>
     ensures { (g : List Name) → AreInSight sight.now g → found_value result ≡ look name.now (sighted (slots_in walk.now) g) }
 {
-    let Some(slot) = slot_of_name(sight, name, guesses) else {
+    let Some(slot) = sight.slot(name) else {
         return None;
     };
     match walk.value(slot) {
@@ -52,25 +48,11 @@ pub fn value_of<'a, L: Ledger>(
     }
 }
 
-/// The slot of a name, if it is in sight; the next guess at it is tried first, and then replaced.
-fn slot_of_name(sight: &Sight<'_>, name: &str, guesses: &mut Guesses) -> Option<usize>
-    ensures { (g : List Name) → AreInSight sight.now g → slot_of result ≡ slot_in g name.now }
-{
-    let found = sight.slot_near(name, guesses.guess());
-    guesses.keep(found.unwrap_or(0));
-    found
-}
-
 /// The number of a name that stands for one.
-fn variable<L: Ledger>(
-    walk: &Walk<L>,
-    sight: &Sight<'_>,
-    name: &str,
-    guesses: &mut Guesses,
-) -> Result<i32, NoValue>
+fn variable<L: Ledger>(walk: &Walk<L>, sight: &Sight<'_>, name: &str) -> Result<i32, NoValue>
     ensures { (g : List Name) → AreInSight sight.now g → told result ≡ and_then (look name.now (sighted (slots_in walk.now) g)) number_in }
 {
-    match value_of(walk, sight, name, guesses) {
+    match value_of(walk, sight, name) {
         Some(ValueView::Number(number)) => Ok(number),
         Some(ValueView::Array(_)) | Some(ValueView::Stack(_)) => Err(NoValue::Kind),
         None => Err(NoValue::Unknown),
@@ -82,11 +64,10 @@ fn array<'a, L: Ledger>(
     walk: &'a Walk<L>,
     sight: &Sight<'_>,
     name: &str,
-    guesses: &mut Guesses,
 ) -> Result<&'a [i32], NoValue>
     ensures { (g : List Name) → AreInSight sight.now g → found_array result ≡ and_then (look name.now (sighted (slots_in walk.now) g)) array_in }
 {
-    match value_of(walk, sight, name, guesses) {
+    match value_of(walk, sight, name) {
         Some(ValueView::Array(items)) => Ok(items),
         Some(ValueView::Number(_)) | Some(ValueView::Stack(_)) => Err(NoValue::Kind),
         None => Err(NoValue::Unknown),
@@ -98,11 +79,10 @@ fn stack<'a, L: Ledger>(
     walk: &'a Walk<L>,
     sight: &Sight<'_>,
     name: &str,
-    guesses: &mut Guesses,
 ) -> Result<StackView<'a>, NoValue>
     ensures { (g : List Name) → AreInSight sight.now g → found_stack result ≡ and_then (look name.now (sighted (slots_in walk.now) g)) stack_in }
 {
-    match value_of(walk, sight, name, guesses) {
+    match value_of(walk, sight, name) {
         Some(ValueView::Stack(values)) => Ok(values),
         Some(ValueView::Number(_)) | Some(ValueView::Array(_)) => Err(NoValue::Kind),
         None => Err(NoValue::Unknown),
@@ -195,38 +175,27 @@ fn either(left: Result<i32, NoValue>, right: Result<i32, NoValue>) -> Result<i32
     Ok(bit_of(holds(right?)))
 }
 
-/// The number of an expression over the names in sight, or why it has none; the next guesses at the slots of its names are tried first.
-pub fn number_of<L: Ledger>(
-    walk: &Walk<L>,
-    sight: &Sight<'_>,
-    exp: &Exp,
-    guesses: &mut Guesses,
-) -> Result<i32, NoValue>
+/// The number of an expression over the names in sight, or why it has none.
+pub fn number_of<L: Ledger>(walk: &Walk<L>, sight: &Sight<'_>, exp: &Exp) -> Result<i32, NoValue>
     ensures { (g : List Name) → AreInSight sight.now g → told result ≡ value_of_exp (exp_of exp.now) (sighted (slots_in walk.now) g) }
 {
     match exp {
         Exp::Number(number, _) => Ok(number.cast_signed()),
-        Exp::Variable(name) => variable(walk, sight, name.text.as_str(), guesses),
+        Exp::Variable(name) => variable(walk, sight, name.text.as_str()),
         Exp::Element(name, index) => element(
-            array(walk, sight, name.text.as_str(), guesses),
-            number_of(walk, sight, index, guesses),
+            array(walk, sight, name.text.as_str()),
+            number_of(walk, sight, index),
         ),
-        Exp::Empty(name) => emptiness(stack(walk, sight, name.text.as_str(), guesses)),
-        Exp::Top(name) => newest(stack(walk, sight, name.text.as_str(), guesses)),
-        Exp::Negative(operand) => negated(number_of(walk, sight, operand, guesses)),
+        Exp::Empty(name) => emptiness(stack(walk, sight, name.text.as_str())),
+        Exp::Top(name) => newest(stack(walk, sight, name.text.as_str())),
+        Exp::Negative(operand) => negated(number_of(walk, sight, operand)),
         Exp::Binary(operator, left, right) => combined(
             *operator,
-            number_of(walk, sight, left, guesses),
-            number_of(walk, sight, right, guesses),
+            number_of(walk, sight, left),
+            number_of(walk, sight, right),
         ),
-        Exp::And(left, right) => both(
-            number_of(walk, sight, left, guesses),
-            number_of(walk, sight, right, guesses),
-        ),
-        Exp::Or(left, right) => either(
-            number_of(walk, sight, left, guesses),
-            number_of(walk, sight, right, guesses),
-        ),
+        Exp::And(left, right) => both(number_of(walk, sight, left), number_of(walk, sight, right)),
+        Exp::Or(left, right) => either(number_of(walk, sight, left), number_of(walk, sight, right)),
     }
 }
 
@@ -240,9 +209,8 @@ fn is_true(number: Result<i32, NoValue>) -> bool
     }
 }
 
-/// Whether an expression over the names in sight at the innermost level holds: it has a number, and that isn't 0. The guesses at the slots of its names are
-/// tried first.
-pub fn is_holding<L: Ledger>(walk: &Walk<L>, exp: &Exp, guesses: &mut Guesses) -> bool
+/// Whether an expression over the names in sight at the innermost level holds: it has a number, and that isn't 0.
+pub fn is_holding<L: Ledger>(walk: &Walk<L>, exp: &Exp) -> bool
     requires walking { IsWalking walk.now }
     requires met { IsMetHere walk.now }
     ensures { TellsHolding exp.now walk.now result }
@@ -250,6 +218,5 @@ pub fn is_holding<L: Ledger>(walk: &Walk<L>, exp: &Exp, guesses: &mut Guesses) -
     let Some(sight) = walk.sight_here() else {
         unreachable!()
     };
-    guesses.begin();
-    is_true(number_of(walk, &sight, exp, guesses))
+    is_true(number_of(walk, &sight, exp))
 }

@@ -19,7 +19,7 @@
 //!
 //! The modules, in the order in which a reader needs them: `turning` (steps back, after which a runner faces on), `body` (the bodies of procedures in the texts
 //! of their cells), `walk` (the open cell, its steps, and the bodies that are met), `level` (where it stands, in the cell and in the open calls), `sight` (the
-//! names in sight with their values), `guesses` (slots that are tried first), `evaluation` (an expression over them).
+//! names in sight with their values), `evaluation` (an expression over them).
 //!
 //! The definitions, in specs/, in reading order: `Walking` (what steps back do to where a runner stands), `Where` (what stands in the text at the place to
 //! which steps have led), `Bodies` (which text a call runs), `Walk` (what contracts see of a walk, and how it moves), `Standing` (what is told of where it
@@ -30,14 +30,12 @@
 
 mod body;
 mod evaluation;
-mod guesses;
 mod level;
 mod sight;
 mod turning;
 mod walk;
 
 pub use crate::evaluation::{NoValue, is_holding, number_of, value_of};
-pub use crate::guesses::Guesses;
 pub use crate::level::{Level, Spot};
 pub use crate::sight::Sight;
 pub use crate::walk::Walk;

@@ -1,8 +1,7 @@
 //! The names in sight with their values.
-ghost use Rattle.std.specs.Prelude.{◌≡◌, ◌≤◌, ◌<◌, List, length, reverse, slice_get, Some, IfSome, IfNone, IsSome, IsTrue, IfOk, OnOk, ◌++◌, map, string_bytes};
+ghost use Rattle.std.specs.Prelude.{◌≡◌, ◌≤◌, ◌<◌, List, length, reverse, slice_get, Some, IfSome, IfNone, IsSome, IfOk, OnOk, ◌++◌, map, string_bytes};
 ghost use Rattle.janus_meaning.specs.Syntax.{Name};
 ghost use Rattle.janus_meaning.specs.World.{size_of, listed};
-ghost use Rattle.janus_names.specs.Numbers.{IsNumbered};
 ghost use Rattle.janus_slots.specs.Slots.{slot as slot_name, slot_in};
 ghost use Rattle.janus_places.specs.Table.{places_in, slot_of};
 ghost use Rattle.kernel_runner.specs.Values.{shown};
@@ -37,12 +36,12 @@ impl<'a> Base<'a> {
         }
     }
 
-    /// The slot of the newest of a name; a guess at it is tried first.
-    fn slot(self, name: &str, guess: usize) -> Option<usize>
+    /// The slot of the newest of a name.
+    fn slot(self, name: &str) -> Option<usize>
         ensures { slot_of result ≡ slot_in (base_of self.entry) name.now }
     {
         match self {
-            Base::Declared(names) => declared_slot(names, name, guess),
+            Base::Declared(names) => declared_slot(names, name),
             Base::Parameters(names) => parameter_slot(names, name),
         }
     }
@@ -58,26 +57,13 @@ impl<'a> Base<'a> {
     }
 }
 
-/// The slot of a declared name: its number. A guess at it is tried first, since that costs one look at a name.
-#[tactic(auto, using(crate::proofs::Sights::of_number, crate::proofs::Sights::slot_in_table))]
-fn declared_slot(names: &Names, name: &str, guess: usize) -> Option<usize>
+/// The slot of a declared name: its number.
+#[tactic(auto, using(crate::proofs::Sights::of_number))]
+fn declared_slot(names: &Names, name: &str) -> Option<usize>
     ensures { slot_of result ≡ slot_in (reverse names.now) name.now }
 {
     names.one_number_law();
-    if is_numbered(names, guess, name) {
-        return Some(guess);
-    }
     names.number(name)
-}
-
-/// Whether a name has this number.
-fn is_numbered(names: &Names, number: usize, name: &str) -> bool
-    ensures { IsTrue result → IsNumbered names.now number name.now }
-{
-    if number >= names.len() {
-        return false;
-    }
-    names.name(number) == name
 }
 
 /// The slot of a parameter: how many stand behind it.
@@ -109,19 +95,12 @@ impl<'a> Sight<'a> {
     ghost use Rattle.steps_walk.specs.Sights.{AreInSight};
 
     /// The slot of the newest of this name, which hides the others.
+    #[tactic(auto, using(crate::proofs::InSight::local, crate::proofs::InSight::few_locals, crate::proofs::InSight::under_locals))]
     pub fn slot(&self, name: &str) -> Option<usize>
         ensures { (g : List Name) → AreInSight self.now g → slot_of result ≡ slot_in g name.now }
     {
-        self.slot_near(name, 0)
-    }
-
-    /// The slot of the newest of this name; a guess at it is tried first.
-    #[tactic(auto, using(crate::proofs::InSight::local, crate::proofs::InSight::few_locals, crate::proofs::InSight::under_locals))]
-    pub(crate) fn slot_near(&self, name: &str, guess: usize) -> Option<usize>
-        ensures { (g : List Name) → AreInSight self.now g → slot_of result ≡ slot_in g name.now }
-    {
         let Some(below) = self.table.local(self.at, name) else {
-            return self.base.slot(name, guess);
+            return self.base.slot(name);
         };
         let base = self.base.len();
         if below > usize::MAX - base {

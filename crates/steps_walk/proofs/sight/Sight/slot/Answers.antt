@@ -1,5 +1,5 @@
 use Rattle.steps_walk.proofs.InSight.{local, few_locals, under_locals}
-use Rattle.steps_walk.proofs.sight.Sight.slot_near.Goals as goal
+use Rattle.steps_walk.proofs.sight.Sight.slot.Goals as goal
 
 pub returns-in_default : goal.returns-in_default
 returns-in_default c = λ g h. under_locals c.args.self.now c.args.name.now g h c.slot.result c.in_default.ensures.slot c.slot.ensures
