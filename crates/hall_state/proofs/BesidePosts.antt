@@ -1,7 +1,7 @@
 -- What stands beside the posts, as jobs are posted, end and are told.
 use Rattle.std.proofs.Common.{◌≡◌, ◌∙◌, ℕ, ◌+◌, ◌-◌, ◌<◌, ◌≤◌, suc, Bool, List, [], ◌∷◌, ◌++◌, Option, None, Some, IfSome, IfNone, true, false, true≢false}
 use Rattle.std.proofs.Common.{◌⊎◌, get_or, length, take}
-use Rattle.std.proofs.Common.{slice_get, slice_set, option_map, string_bytes, refl, sym, ap, subst, ⊎_elim, arith, append-nil, length-append}
+use Rattle.std.proofs.Common.{slice_get, slice_set, option_map, string_bytes, refl, sym, ap, subst, inl, inr, ⊎_elim, arith, append-nil, length-append}
 use Rattle.std.proofs.lemmas.Option.{none-some}
 use Rattle.std.proofs.lemmas.Grind.{not_there}
 use mathlib.Core.List.{IsPrefix}
@@ -24,7 +24,7 @@ use Rattle.hall_state.specs.LastEnds.{last_of, EndsNowhere}
 use Rattle.hall_state.specs.JustEnded.{HasJustEnded}
 use Rattle.hall_state.specs.OpenResults.{IsOpen, AreSettled, GoesOn}
 use Rattle.hall_state.specs.PendingResults.{AreMadeIn, WereMade, IsWaiting, HasSettled, AreBeside, IsTold, IsUntold, HasNoEnd, OpensLast, SettlesLast}
-use Rattle.hall_state.specs.PendingResults.{IsToldOrEndless, WasTold, AreKept, AreUntold}
+use Rattle.hall_state.specs.PendingResults.{IsToldOnce, IsToldOrEndless, WasTold, AreKept, AreUntold}
 use Rattle.hall_state.specs.declared.open_result.OpenResult.{OpenResult}
 use Rattle.hall_state.specs.declared.pending_result.PendingResult.{PendingResult}
 use Rattle.hall_state.proofs.Places.{below_or, some_same, there_is, length_set, set_cases, other, append_cases, get_stays, or_stays, or_last, last_added}
@@ -54,6 +54,7 @@ settled_on minutes more n given e h = record {
   ended = h.ended;
   there = get_stays minutes more h.place (Ended n h.outcome h.count h.node) h.there;
   made = λ untold. made_on minutes more n h.outcome given (option_map string_bytes e.shown) e.values.items (h.made untold);
+  spent = h.spent;
 }
 
 -- ---- a new hall
@@ -320,6 +321,7 @@ new_settled settled wished es next m r s h = record {
           are_values = s.values h.outcome m.state.past (get_or wished settled []) h.going;
         });
   };
+  spent = λ told. absurd (true≢false (sym told ∙ s.untold));
 }
 
 -- all of it is there
@@ -391,6 +393,7 @@ beside_told settled minutes wished es next n d b t =
       ended = t.ended ∙ old.ended;
       there = old.there;
       made = λ untold. absurd (true≢false (sym t.told ∙ untold));
+      spent = λ told. (t.none_shown, t.no_values);
     } in record {
       many = ap length t.others ∙ length_set es (n - 1) t.left ∙ b.many;
       wishes = b.wishes;
@@ -432,6 +435,20 @@ made_of_told settled minutes wished es next n d b untold t =
     (subst (λ (o : Outcome). WereMade minutes d.number o given (option_map string_bytes t.kept.shown) t.kept.values.items) (ap (outcome_at d.outcome) same)
     (subst (λ (k : ℕ). WereMade minutes k h.outcome given (option_map string_bytes t.kept.shown) t.kept.values.items) (ap number_at same) made)))
 
+-- to whom it is told later nothing is told of it
+pub told_once : (settled : ℕ) (minutes : List Entry) (wished : List (List WishOf)) (es next : List PendingResult) (n : ℕ) (d : Done) →
+    AreBeside settled minutes wished es → IsTold minutes es n d next → IsToldOnce minutes (get_or wished (n - 1) []) d
+told_once settled minutes wished es next n d b t = by_told t.kept.is_told refl
+  where
+    by_told : (told : Bool) → t.kept.is_told ≡ told → IsToldOnce minutes (get_or wished (n - 1) []) d
+    by_told false is =
+        inl (made_of_told settled minutes wished es next n d b
+        (λ e there. subst (λ (y : PendingResult). y.is_told ≡ false) (some_same (sym t.there ∙ there)) is) t)
+    by_told true is =
+        let done : n - 1 < settled = has_ended settled minutes wished es (n - 1) t.kept t.place b t.there t.was in
+        let nothing = (b.settled (n - 1) t.kept t.there done).spent is in
+        inr (t.shown ∙ nothing.0, ap (λ v. v.items) t.values ∙ nothing.1)
+
 -- where nothing was taken down of an end that is settled there is none
 pub ends_nowhere_settled : (settled : ℕ) (m : Machine) (wished : List (List WishOf)) (es : List PendingResult) (n : ℕ) → IsLegalMachine m →
     n ≤ settled → AreBeside settled m.minutes wished es → HasNoEnd m.minutes es n → EndsNowhere m.minutes n
@@ -467,6 +484,12 @@ pub first_made : (settled : ℕ) (minutes : List Entry) (wished : List (List Wis
     IfSome r (λ d. Q → ∥ WereMade minutes d.number d.outcome (get_or wished (n - 1) []) (option_map string_bytes d.shown) d.values.items ∥₁)
 first_made settled minutes wished es next n None Q b untold told = tt
 first_made settled minutes wished es next n (Some d) Q b untold told = λ _. ∥∥₁_map b (λ a. made_of_told settled minutes wished es next n d a untold told)
+
+pub once_told : (settled : ℕ) (minutes : List Entry) (wished : List (List WishOf)) (es next : List PendingResult) (n : ℕ) (r : Option Done) →
+    ∥ AreBeside settled minutes wished es ∥₁ → IfSome r (λ d. IsTold minutes es n d next) →
+    IfSome r (λ d. ∥ IsToldOnce minutes (get_or wished (n - 1) []) d ∥₁)
+once_told settled minutes wished es next n None b told = tt
+once_told settled minutes wished es next n (Some d) b told = ∥∥₁_map b (λ a. told_once settled minutes wished es next n d a told)
 
 -- who is not the first is told no more
 pub not_first : (r : Option Done) (first : Bool) (P : Done → Type 0) → first ≡ false → IfSome r (λ d. first ≡ true → P d)

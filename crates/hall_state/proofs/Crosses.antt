@@ -1,4 +1,4 @@
--- What lies under the lock may go to other threads, where the types of the ledgers may.
+-- What lies under the lock may go to other threads, where the types of the ledgers may; and so may the passes that are still to be given.
 use denote.RattleType.{RattleType}
 use Rattle.std.specs.declared.sync.ledger.Ledger as Ledger
 use denote.Param.Send.{IsSend, sendable}
@@ -24,10 +24,10 @@ OpenResult-send : IsSend (OpenResult.the_field).row
 OpenResult-send = search (crosses, maps, Making-send, sendable) depth 60 fits 20000
 
 module _ (L : RattleType) (n : HistoryName.Ghosts L.Denot) (l : Ledger.Ghosts L.Denot) where
-  Passes-send : IsSend L → IsSend (Passes.the_field L n l).row
+  pub Passes-send : IsSend L → IsSend (Passes.the_field L n l).row
   Passes-send s = search (crosses, share_send, sendable) depth 60 fits 20000
 
 module _ (W L : RattleType) (w : Ledger.Ghosts W.Denot) (n : HistoryName.Ghosts L.Denot) (l : Ledger.Ghosts L.Denot) where
   pub State-send : IsSend W → IsSend L → IsSend (State.the_field W L n w l).row
-  State-send s t = let a = Kernel-send W w s in let b = Passes-send L n l t in let d = Beside-send L t in
+  State-send s t = let a = Kernel-send W w s in let d = Beside-send L t in
       search (crosses, book_send, Keeper-send, Note-send, Job-send, Outcome-send, Comms-send, PendingResult-send, OpenResult-send, sendable) depth 60 fits 20000

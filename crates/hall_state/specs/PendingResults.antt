@@ -59,7 +59,7 @@ pub record IsTakenOut (old new : PendingResult) : Type 0 where
   pub posted : new.posted ≡ old.posted
   pub ended : new.ended ≡ old.ended
 
--- its job has this number and has ended: its end stands in the minutes, and what was made is kept until it is told
+-- its job has this number and has ended: its end stands in the minutes, and what was made is kept until it is told, and not longer
 pub record HasSettled (minutes : List Entry) (number : ℕ) (given : List WishOf) (e : PendingResult) : Type 0 where
   pub place : ℕ
   pub outcome : Outcome
@@ -68,6 +68,7 @@ pub record HasSettled (minutes : List Entry) (number : ℕ) (given : List WishOf
   pub ended : e.ended ≡ Some place
   pub there : slice_get minutes place ≡ Some (Ended number outcome count node)
   pub made : e.is_told ≡ false → WereMade minutes number outcome given (option_map string_bytes e.shown) e.values.items
+  pub spent : e.is_told ≡ true → (e.shown ≡ None) × (e.values.items ≡ [])
 
 -- ---- beside all posts
 
@@ -105,6 +106,11 @@ pub record IsTold (minutes : List Entry) (old : List PendingResult) (n : ℕ) (d
   pub ended : left.ended ≡ kept.ended
   pub wishes : left.wishes ≡ kept.wishes
   pub others : new ≡ slice_set old (n - 1) left
+
+-- what is told of an end is what was made as the job ended, of these wishes; or nothing of it, where it was told before
+abbrev pub IsToldOnce : List Entry → List WishOf → Done → Type 0
+IsToldOnce minutes given d =
+    WereMade minutes d.number d.outcome given (option_map string_bytes d.shown) d.values.items ⊎ ((d.shown ≡ None) × (d.values.items ≡ []))
 
 -- nobody was told yet of what was made for this number
 abbrev pub IsUntold : List PendingResult → ℕ → Type 0

@@ -3,7 +3,7 @@ ghost use Rattle.std.specs.Prelude.{◌≡◌, ◌++◌, ◌∷◌, [], All, map
 ghost use mathlib.Core.List.{IsPrefix};
 ghost use Rattle.kernel_audit.specs.Minutes as minutes;
 ghost use Rattle.kernel_audit.specs.Notes.{wished_in, has_shutdown, comms_in};
-ghost use Rattle.kernel_audit.specs.declared.note.Note.TheVariants.{Changed};
+ghost use Rattle.kernel_audit.specs.declared.note.Note.TheVariants.{Asked, Changed};
 ghost use Rattle.kernel_audit.specs.Written.{entry_of};
 
 use kernel_audit::{Beside, Comms, Entry, HistoryName, Keeper, Kernel, Note, Pass, Wish};
@@ -33,6 +33,7 @@ pub(crate) fn note_wishes<L: HistoryName>(
     match note {
         Note::Posted(wishes) => wishes,
         Note::Shut => unreachable!(),
+        Note::Asked => unreachable!(),
         Note::Changed(_comms) => unreachable!(),
     }
 }
@@ -51,6 +52,7 @@ pub(crate) fn note_comms<L: HistoryName>(notes: &mut Keeper<Note, Beside<L>>, co
         Note::Changed(comms) => comms,
         Note::Posted(_wishes) => unreachable!(),
         Note::Shut => unreachable!(),
+        Note::Asked => unreachable!(),
     }
 }
 
@@ -63,14 +65,25 @@ pub(crate) fn note_shutdown<L: HistoryName>(notes: &mut Keeper<Note, Beside<L>>)
     notes.extend(&Note::Shut);
 }
 
-/// Shows all of the history to passes, which end with it.
+/// Notes that a question was asked.
+pub(crate) fn note_question<L: HistoryName>(notes: &mut Keeper<Note, Beside<L>>)
+    ensures noted { notes.new ≡ notes.old ++ Asked ∷ [] }
+    ensures wishes { wished_in notes.new ≡ wished_in notes.old }
+    ensures shut { has_shutdown notes.new ≡ has_shutdown notes.old }
+    ensures comms { comms_in notes.new ≡ comms_in notes.old }
+{
+    notes.extend(&Note::Asked);
+}
+
+/// Shows all of the history and of the notes to passes, which end with them.
 pub(crate) fn show_all<L: HistoryName>(
     passes: Vec<Pass<L>>,
     book: &mut Book<L>,
     history: &mut Keeper<Entry, L>,
     notes: &mut Keeper<Note, Beside<L>>,
 )
-    ensures { All (λ p. IsPrefix p.front (map entry_of history.old)) passes.items }
+    ensures fronts { All (λ p. IsPrefix p.front (map entry_of history.old)) passes.items }
+    ensures notes { All (λ p. IsPrefix p.notes notes.old) passes.items }
 {
     for mut pass in passes {
         pass.see(book, history, notes);

@@ -1,11 +1,12 @@
-//! What lies under the hall's lock: one kernel with its open comms, the passes that are still to be given, and what is kept for each job until
-//! who posted it has fetched it.
+//! What lies under the hall's lock: one kernel with its open comms, and what is kept for each job until who posted it has fetched it. The passes that are
+//! still to be given lie outside, with who made the hall: so nobody posts under the lock but for a pass that was handed in.
 //!
 //! To the layer above, which has the lock and the threads, it promises that a post, a turn of the runner, an answer and a change of the comms
 //! are those of the kernel that is here. Each post is counted by its pass and in a ledger, whose book is the number of posts in the minutes;
 //! what is made as a job ends is that of the kernel as it is then, for the wishes that were posted with it, in pieces between which the lock may be
 //! free, and is told once; and at the end the minutes are compared with what the frontends came away with. The minutes are one history, and so are the
-//! notes beside them, of the wishes, of a shutdown and of the open comms: what a pass sees begins with all that it had seen.
+//! notes beside them, of the wishes, of a shutdown, of the questions and of the open comms: what a pass sees begins with all that it had seen, and what two
+//! passes have seen stands in one order (`State::in_one_order`).
 //!
 //! `state` has all of it. `turn` is what the runner does with the kernel and the bell, `pending_result` what stands beside a post, `open_result` what is
 //! being made for a job that has ended, `passes` who may post, `history` how the history follows the minutes, `minutes` what is left at the end.

@@ -9,7 +9,8 @@ use kernel_audit::{Beside, Entry, HistoryName, Keeper, Note, Pass};
 use std::marker::Model;
 use std::sync::ledger::Share;
 
-/// How many passes were given, and the parts of the ledger that none of them has. Contracts see their number.
+/// How many passes were given, and the parts of the ledger that none of them has: so nobody posts who has neither a pass nor these. Contracts see how many
+/// were given.
 #[derive(Drop)]
 pub struct Passes<L: HistoryName> {
     given: u32,
@@ -29,7 +30,7 @@ impl<L: HistoryName> Model for Passes<L> {
 
 impl<L: HistoryName> Passes<L> {
     /// No pass is given.
-    pub(crate) fn new(rest: Share<L>) -> Passes<L>
+    pub fn new(rest: Share<L>) -> Passes<L>
         requires parts { rest.parts ≡ PARTS_OF_POSTS }
         requires amount { rest.amount ≡ 0 }
         ensures { result ≡ 0 }

@@ -10,19 +10,21 @@ ghost use Rattle.kernel_audit.specs.outcome.Phase.TheVariants.{Idle};
 ghost use Rattle.kernel_audit.specs.Answer.{IsAnswer};
 ghost use Rattle.kernel_audit.specs.CommChanges.{IsChange};
 ghost use Rattle.kernel_audit.specs.Written.{entry_of};
-ghost use Rattle.kernel_audit.specs.Notes.{wished_in, has_shutdown, comms_in};
-ghost use Rattle.kernel_audit.specs.declared.note.Note.TheVariants.{Changed};
-ghost use Rattle.kernel_audit.specs.Passes.{pass_of, HasSeen, HasPosted};
+ghost use Rattle.kernel_audit.specs.Notes.{wished_in, has_shutdown, comms_in, IsNotedQuestion};
+ghost use Rattle.kernel_audit.specs.declared.note.Note.TheVariants.{Asked, Changed};
+ghost use Rattle.kernel_audit.specs.Passes.{pass_of, HasSeen, AreInOneOrder, HasPosted};
 ghost use Rattle.hall_state.specs.Turns.{IsTurn};
 ghost use Rattle.hall_state.specs.OpenResults.{AreSettled, left_in};
-ghost use Rattle.hall_state.specs.PendingResults.{IsNewPending, IsTold, WasTold, AreKept, AreUntold, AreBeside, WereMade};
+ghost use Rattle.hall_state.specs.PendingResults.{IsNewPending, IsTold, IsToldOnce, WasTold, AreKept, AreUntold, AreBeside, WereMade};
 ghost use Rattle.hall_state.specs.LastEnds.{EndsNowhere};
-ghost use Rattle.hall_state.specs.declared.limit.TheConstants.{PASSES, PARTS_OF_POSTS, WISHES_OF_A_PIECE};
+ghost use Rattle.hall_state.specs.declared.limit.TheConstants.{PASSES, WISHES_OF_A_PIECE};
 ghost use Rattle.hall_state.specs.declared.pending_result.PendingResult.{PendingResult};
 ghost use Rattle.kernel_audit.specs.Ends.{HasEnd};
 ghost use Rattle.kernel_audit.specs.Audit.{Audited, IsAuditFault};
 
-use crate::history::{follow, note_comms, note_shutdown, note_wishes, show_all};
+use crate::history::{
+    follow, note_comms, note_question, note_shutdown, note_wishes, show_all,
+};
 use crate::limit::WISHES_OF_A_PIECE;
 use crate::minutes::Minutes;
 use crate::open_result::OpenResult;
@@ -37,7 +39,7 @@ use kernel_audit::{
 use kernel_bell::{Bell, RunnerSeat};
 use std::alloc::Global;
 use std::mem;
-use std::sync::ledger::{Book, Ledger, Share};
+use std::sync::ledger::{Book, Ledger};
 
 /// The lock's value. Its type keeps that the book is the number of posts in the minutes, that the minutes are the history, that a shutdown is noted where the
 /// kernel closes, that the open comms are those that are noted, and that one pending result stands beside each post, of the wishes that are noted of it: those
@@ -46,7 +48,6 @@ use std::sync::ledger::{Book, Ledger, Share};
 pub struct State<W: Ledger, L: HistoryName> {
     kernel: Kernel<W>,
     comms: Comms,
-    passes: Passes<L>,
     pending_results: Vec<PendingResult>,
     /// How many of them are settled, the first ones.
     settled: u64,
@@ -65,21 +66,18 @@ pub struct State<W: Ledger, L: HistoryName> {
 }
 
 impl<W: Ledger, L: HistoryName> State<W, L> {
-    /// Around an open kernel with no minutes, where no comm is open, with the book of its posts and all shares in it, the history that its minutes become, and
-    /// that of the notes.
+    /// Around an open kernel with no minutes, where no comm is open, with the book of its posts, the history that its minutes become, and that of the notes.
+    /// Who posts has a share in that book: none is here, so a post is a pass's.
     pub fn new(
         alloc: Global,
         kernel: Kernel<W>,
         book: Book<L>,
-        rest: Share<L>,
         history: NewHistory<Entry>,
         notes: NewHistory<Note>,
     ) -> State<W, L>
         requires fresh { kernel.machine.minutes ≡ [] }
         requires open { kernel.machine.closing ≡ false }
         requires book { book.total ≡ 0 }
-        requires parts { rest.parts ≡ PARTS_OF_POSTS }
-        requires amount { rest.amount ≡ 0 }
         requires history { history ≡ L.history }
         requires notes { notes ≡ L.beside }
         ensures kernel { result.kernel ≡ kernel }
@@ -88,7 +86,6 @@ impl<W: Ledger, L: HistoryName> State<W, L> {
         State {
             kernel,
             comms: Comms::new(alloc),
-            passes: Passes::new(rest),
             pending_results: Vec::new(alloc),
             settled: 0,
             under_way: None,
@@ -175,6 +172,49 @@ impl<W: Ledger, L: HistoryName> State<W, L> {
         pass.see(book, history, notes);
     }
 
+    /// Shows the minutes to a pass that asks a question, and the notes, of which the question is the last: so it is answered of what stands here now.
+    pub fn take_question(&mut self, pass: &mut Pass<L>)
+        ensures noted { IsNotedQuestion pass.old.notes pass.new.notes }
+        ensures seen { HasSeen pass.old pass.new }
+        ensures front { pass.new.front ≡ self.old.kernel.machine.minutes }
+        ensures own { pass.new.posts ≤ posted_in self.old.kernel.machine.minutes }
+        ensures open_comms { comms_in pass.new.notes ≡ self.new.comms }
+        ensures legal { IsLegalMachine self.old.kernel.machine }
+        ensures kernel { self.new.kernel ≡ self.old.kernel }
+        ensures comms { self.new.comms ≡ self.old.comms }
+        ensures pending_results { self.new.pending_results ≡ self.old.pending_results }
+    {
+        self.see(pass);
+        self.note_asked();
+        self.see(pass);
+    }
+
+    /// Notes that a question was asked.
+    fn note_asked(&mut self)
+        ensures noted { self.new.notes ≡ self.old.notes ++ Asked ∷ [] }
+        ensures kernel { self.new.kernel ≡ self.old.kernel }
+        ensures comms { self.new.comms ≡ self.old.comms }
+        ensures pending_results { self.new.pending_results ≡ self.old.pending_results }
+    {
+        let State { notes, .. } = self;
+        note_question(notes);
+    }
+
+    /// Shows the minutes and the notes to two passes. What each had seen is a beginning of them, so of what the two had seen one is a beginning of the other:
+    /// there is one order for both.
+    pub fn in_one_order(&mut self, a: &mut Pass<L>, b: &mut Pass<L>)
+        ensures order { AreInOneOrder a.old b.old }
+        ensures first { HasSeen a.old a.new }
+        ensures second { HasSeen b.old b.new }
+        ensures kernel { self.new.kernel ≡ self.old.kernel }
+        ensures comms { self.new.comms ≡ self.old.comms }
+        ensures notes { self.new.notes ≡ self.old.notes }
+        ensures pending_results { self.new.pending_results ≡ self.old.pending_results }
+    {
+        self.see(a);
+        self.see(b);
+    }
+
     /// Queues a job. Whether it is refused is tested once: by the kernel, or where there is no memory beside it.
     fn queue(
         &mut self,
@@ -223,10 +263,11 @@ impl<W: Ledger, L: HistoryName> State<W, L> {
         Ok(number)
     }
 
-    /// One turn of the runner. In a turn that ends a job its shown text and the first of its values are made. What was under way of an earlier job is
+    /// One turn of the runner, by the bell that the type names. In a turn that ends a job its shown text and the first of its values are made. What was under way of an earlier job is
     /// finished first.
     pub fn turn(&mut self, bell: &Bell, runner: &mut RunnerSeat, m: u64) -> Turn
         requires own { runner.old.bell ≡ bell.now }
+        requires bell { bell.now ≡ L.bell }
         requires room { runner.old.knows.serial < 2 ^ 64 - 1 }
         ensures turn { IsTurn self.old.kernel.machine runner.old m result self.new.kernel.machine runner.new }
         ensures legal { IsLegalMachine self.old.kernel.machine }
@@ -323,7 +364,7 @@ impl<W: Ledger, L: HistoryName> State<W, L> {
     }
 
     /// What came of the job of this number; `None` where it has not ended, where what is made for it is under way, or where the first alone is to be told
-    /// and was told already. What was made as it ended is told once: of the wishes that are noted of its post.
+    /// and was told already. What was made as it ended is told once: of the wishes that are noted of its post. Who comes later is told nothing of it.
     pub fn done(&mut self, number: u64, is_first: bool) -> Option<Done>
         ensures number { IfSome result (λ d. d.number ≡ number) }
         ensures end { IfSome result (HasEnd self.old.kernel.machine.minutes) }
@@ -336,6 +377,7 @@ impl<W: Ledger, L: HistoryName> State<W, L> {
         ensures first { IfNone result (is_first ≡ true → WasTold self.old.settled self.old.pending_results.items number) }
         ensures made { IfSome result (λ d. is_first ≡ true → ∥ WereMade self.old.kernel.machine.minutes d.number d.outcome
             (get_or (wished_in self.old.notes) (number - 1) []) (option_map string_bytes d.shown) d.values.items ∥₁) }
+        ensures once { IfSome result (λ d. ∥ IsToldOnce self.old.kernel.machine.minutes (get_or (wished_in self.old.notes) (number - 1) []) d ∥₁) }
         ensures notes { self.new.notes ≡ self.old.notes }
         ensures legal { IsLegalMachine self.old.kernel.machine }
         ensures kernel { self.new.kernel ≡ self.old.kernel }
@@ -356,24 +398,19 @@ impl<W: Ledger, L: HistoryName> State<W, L> {
         self.settled
     }
 
-    /// A new pass, with no posts, which has seen the minutes; `None` where all are given.
-    pub fn pass(&mut self) -> Option<Pass<L>>
-        ensures pass { IfSome result (λ p. p ≡ pass_of (self.old.passes + 1) 0 self.old.kernel.machine.minutes self.old.notes) }
+    /// The next of the passes that are still to be given, with no posts, which has seen the minutes; `None` where all are given.
+    pub fn pass(&mut self, passes: &mut Passes<L>) -> Option<Pass<L>>
+        ensures pass { IfSome result (λ p. p ≡ pass_of (passes.old + 1) 0 self.old.kernel.machine.minutes self.old.notes) }
         ensures lane { IfSome result (λ p. (1 ≤ p.lane) × (p.lane ≤ PASSES)) }
-        ensures given { IfSome result (λ p. self.new.passes ≡ self.old.passes + 1) }
-        ensures none { IfNone result (self.old.passes ≡ PASSES) }
+        ensures given { IfSome result (λ p. passes.new ≡ passes.old + 1) }
+        ensures none { IfNone result ((passes.old ≡ PASSES) × (passes.new ≡ passes.old)) }
         ensures legal { IsLegalMachine self.old.kernel.machine }
         ensures kernel { self.new.kernel ≡ self.old.kernel }
         ensures comms { self.new.comms ≡ self.old.comms }
         ensures pending_results { self.new.pending_results ≡ self.old.pending_results }
     {
         show_legal(&self.kernel);
-        let State {
-            passes,
-            history,
-            notes,
-            ..
-        } = self;
+        let State { history, notes, .. } = self;
         passes.next(history, notes)
     }
 
@@ -452,7 +489,7 @@ impl<W: Ledger, L: HistoryName> State<W, L> {
     /// Compares the minutes with what the frontends came away with. All of it is spent, the kernel too where something is missing or
     /// untrue: as `PassMissing` where the posts of the passes don't add up to those of the minutes, else as `TicketUnknown` with a
     /// number at which a ticket or an end doesn't stand, which two tickets share, or which is smaller than that of an earlier post of
-    /// its pass. Either way what each pass has seen is a beginning of these minutes. It takes no memory.
+    /// its pass. Either way what each pass has seen is a beginning of these minutes, and of the notes beside them. It takes no memory.
     pub fn close(
         self,
         passes: Vec<Pass<L>>,
@@ -463,6 +500,7 @@ impl<W: Ledger, L: HistoryName> State<W, L> {
         ensures audited { IfOk result (λ m. Audited self.kernel.machine.minutes passes.items tickets.items dones.items) }
         ensures fault { IfErr result (IsAuditFault self.kernel.machine.minutes passes.items tickets.items dones.items) }
         ensures fronts { All (λ p. IsPrefix p.front self.kernel.machine.minutes) passes.items }
+        ensures notes { All (λ p. IsPrefix p.notes self.notes) passes.items }
         ensures legal { IsLegalMachine self.kernel.machine }
     {
         show_legal(&self.kernel);

@@ -1,11 +1,13 @@
 -- What was seen of the minutes stands in what is seen later.
-use Rattle.std.proofs.Common.{◌≡◌, ◌≤◌, ◌<◌, ℕ, ◌+◌, suc, List, [], ◌∷◌, ◌++◌, length, map, refl, sym, ap, subst, ◌∙◌, append_assoc, length-append, arith}
+use Rattle.std.proofs.Common.{◌≡◌, ◌⊎◌, ◌≤◌, ◌<◌, ℕ, ◌+◌, suc, List, [], ◌∷◌, ◌++◌, length, map, refl, sym, ap, subst, ◌∙◌, append_assoc}
+use Rattle.std.proofs.Common.{length-append, inl, inr, ⊎_elim, arith}
 use mathlib.Core.List.{IsPrefix, map-append}
 use Rattle.kernel_ask.specs.Request.{Request}
 use Rattle.kernel_ask.specs.Minutes.{Entry, Post, Posted, posts_of, posted_in, IsNumberOf}
 use Rattle.kernel_ask.proofs.Posts.{posts-append}
 use Rattle.kernel_ask.specs.Wishes.{WishOf}
-use Rattle.kernel_audit.specs.Passes.{PassOf, AreLegal, HasSeen, HasPosted}
+use Rattle.kernel_audit.specs.declared.note.Note.{Note}
+use Rattle.kernel_audit.specs.Passes.{PassOf, AreLegal, HasSeen, AreInOneOrder, HasPosted}
 use Rattle.kernel_audit.proofs.Noted.{wished_stays, open_before}
 
 pub prefix_map : {A B : Type 0} (f : A → B) (xs ys : List A) → IsPrefix xs ys → IsPrefix (map f xs) (map f ys)
@@ -21,6 +23,33 @@ seen_on old mid new p q = record {
   posts = q.posts ∙ p.posts;
   onward = prefix_trans old.front mid.front new.front p.onward q.onward;
   noted = prefix_trans old.notes mid.notes new.notes p.noted q.noted;
+}
+
+abbrev head_or : {A : Type 0} → A → List A → A
+head_or other [] = other
+head_or other (x ∷ xs) = x
+
+abbrev tail_of : {A : Type 0} → List A → List A
+tail_of [] = []
+tail_of (x ∷ xs) = xs
+
+-- of two beginnings of one list one is a beginning of the other
+pub one_order : {A : Type 0} (xs ys zs : List A) → IsPrefix xs zs → IsPrefix ys zs → IsPrefix xs ys ⊎ IsPrefix ys xs
+one_order [] ys zs p q = inl (ys, refl)
+one_order (x ∷ xs) [] zs p q = inr (x ∷ xs, refl)
+one_order (x ∷ xs) (y ∷ ys) [] p q = absurd (cc p.1)
+one_order (x ∷ xs) (y ∷ ys) (z ∷ zs) p q =
+    let same : x ≡ y = ap (head_or x) p.1 ∙ sym (ap (head_or y) q.1) in
+    ⊎_elim
+    (λ r. inl (r.0, ap (λ l. x ∷ l) r.1 ∙ ap (λ h. h ∷ ys) same))
+    (λ r. inr (r.0, ap (λ l. y ∷ l) r.1 ∙ ap (λ h. h ∷ xs) (sym same)))
+    (one_order xs ys zs (p.0, ap tail_of p.1) (q.0, ap tail_of q.1))
+
+-- so it is with what two passes have seen that both see the same now
+pub in_one_order : (a all b other : PassOf) → HasSeen a all → HasSeen b other → other.front ≡ all.front → other.notes ≡ all.notes → AreInOneOrder a b
+in_one_order a all b other p q fronts notes = record {
+  fronts = one_order a.front b.front all.front p.onward (subst (λ (l : List Entry). IsPrefix b.front l) fronts q.onward);
+  notes = one_order a.notes b.notes all.notes p.noted (subst (λ (l : List Note). IsPrefix b.notes l) notes q.noted);
 }
 
 -- a post keeps its number

@@ -3,7 +3,7 @@ use Rattle.std.proofs.Common.{◌≡◌, ◌∙◌, ℕ, ◌-◌, zero, suc, Boo
 use mathlib.Core.List.{IsPrefix}
 use Rattle.kernel_ask.specs.Wishes.{WishOf}
 use Rattle.kernel_audit.specs.declared.note.Note.{Note}
-use Rattle.kernel_audit.specs.declared.note.Note.TheVariants.{Posted, Shut, Changed}
+use Rattle.kernel_audit.specs.declared.note.Note.TheVariants.{Posted, Shut, Asked, Changed}
 use Rattle.kernel_audit.specs.Notes.{wished_in, has_shutdown}
 use Rattle.kernel_audit.specs.Passes.{IsWished}
 
@@ -16,6 +16,7 @@ pub wished-append : (xs ys : List Note) → wished_in (xs ++ ys) ≡ wished_in x
 wished-append [] ys = refl
 wished-append (Posted wishes ∷ xs) ys = ap (λ (l : List (List WishOf)). wishes.items ∷ l) (wished-append xs ys)
 wished-append (Shut ∷ xs) ys = wished-append xs ys
+wished-append (Asked ∷ xs) ys = wished-append xs ys
 wished-append (Changed comms ∷ xs) ys = wished-append xs ys
 
 -- a post keeps its wishes
@@ -28,6 +29,7 @@ shut-append : (xs ys : List Note) → has_shutdown xs ≡ true → has_shutdown 
 shut-append [] ys h = absurd (cc h)
 shut-append (Posted wishes ∷ xs) ys h = shut-append xs ys h
 shut-append (Shut ∷ xs) ys h = refl
+shut-append (Asked ∷ xs) ys h = shut-append xs ys h
 shut-append (Changed comms ∷ xs) ys h = shut-append xs ys h
 
 -- who has seen a shutdown has seen it ever after

@@ -6,13 +6,14 @@ use Rattle.kernel_ask.specs.CommChanges.{IsChange}
 use Rattle.kernel_ask.specs.declared.answer.HallFault.{HallFault}
 use Rattle.kernel_ask.specs.declared.comm_change.CommChange.{CommChange}
 use Rattle.kernel_audit.specs.declared.note.Note.{Note}
-use Rattle.kernel_audit.specs.declared.note.Note.TheVariants.{Posted, Shut, Changed}
+use Rattle.kernel_audit.specs.declared.note.Note.TheVariants.{Posted, Shut, Asked, Changed}
 
 -- the wishes of the posts, in their order
 abbrev pub wished_in : List Note → List (List WishOf)
 wished_in [] = []
 wished_in (Posted wishes ∷ notes) = wishes.items ∷ wished_in notes
 wished_in (Shut ∷ notes) = wished_in notes
+wished_in (Asked ∷ notes) = wished_in notes
 wished_in (Changed comms ∷ notes) = wished_in notes
 
 -- whether a shutdown came
@@ -20,6 +21,7 @@ abbrev pub has_shutdown : List Note → Bool
 has_shutdown [] = false
 has_shutdown (Posted wishes ∷ notes) = has_shutdown notes
 has_shutdown (Shut ∷ notes) = true
+has_shutdown (Asked ∷ notes) = has_shutdown notes
 has_shutdown (Changed comms ∷ notes) = has_shutdown notes
 
 -- the comms that are open behind these notes, where those were open before them
@@ -27,11 +29,18 @@ abbrev pub comms_after : List (List ℕ) → List Note → List (List ℕ)
 comms_after before [] = before
 comms_after before (Posted wishes ∷ notes) = comms_after before notes
 comms_after before (Shut ∷ notes) = comms_after before notes
+comms_after before (Asked ∷ notes) = comms_after before notes
 comms_after before (Changed comms ∷ notes) = comms_after comms notes
 
 -- the open comms, of which there are none before the first note
 abbrev pub comms_in : List Note → List (List ℕ)
 comms_in notes = comms_after [] notes
+
+-- A question was noted last: behind the old notes, with those of others between.
+pub record IsNotedQuestion (old new : List Note) : Type 0 where
+  pub before : List Note
+  pub onward : IsPrefix old before
+  pub noted : new ≡ before ++ Asked ∷ []
 
 -- The comms were changed so, and this was noted last: behind the old notes, with those of others between, to the comms that were open then.
 pub record IsNotedChange (old : List Note) (change : CommChange) (told : Result Bool HallFault) (new : List Note) : Type 0 where

@@ -1,5 +1,5 @@
 -- What contracts see of a pass, what it sees and posts, and the tickets of its posts.
-use Rattle.std.specs.Prelude.{◌≡◌, ◌<◌, ℕ, ◌+◌, ◌-◌, false, List, Some, slice_get}
+use Rattle.std.specs.Prelude.{◌≡◌, ◌⊎◌, ◌<◌, ℕ, ◌+◌, ◌-◌, false, List, Some, slice_get}
 use mathlib.Core.List.{IsPrefix}
 use Rattle.kernel_ask.specs.Minutes.{Entry, IsNumberOf, posted_in}
 use Rattle.kernel_ask.specs.Request.{Request}
@@ -31,6 +31,11 @@ pub record HasSeen (old new : PassOf) : Type 0 where
   pub posts : new.posts ≡ old.posts
   pub onward : IsPrefix old.front new.front
   pub noted : IsPrefix old.notes new.notes
+
+-- What two passes have seen stands in one order: what one has seen of the minutes is a beginning of what the other has, and so it is with the notes.
+pub record AreInOneOrder (a b : PassOf) : Type 0 where
+  pub fronts : IsPrefix a.front b.front ⊎ IsPrefix b.front a.front
+  pub notes : IsPrefix a.notes b.notes ⊎ IsPrefix b.notes a.notes
 
 -- these wishes are noted of the post with this number
 abbrev pub IsWished : List Note → ℕ → List WishOf → Type 0

@@ -10,7 +10,7 @@ use Rattle.kernel_hall.specs.Answer.{IsAnswer}
 use Rattle.kernel_hall.specs.post.PostFault.{PostFault}
 use Rattle.kernel_hall.specs.post.PostFault.TheVariants.{Closing, MinutesFull, QueueFull, Memory}
 use Rattle.kernel_hall.specs.Wishes.{WishOf}
-use Rattle.kernel_hall.specs.Notes.{has_shutdown, comms_in, IsNotedChange}
+use Rattle.kernel_hall.specs.Notes.{has_shutdown, comms_in, IsNotedQuestion, IsNotedChange}
 use Rattle.kernel_hall.specs.comm_change.CommChange.{CommChange}
 use Rattle.kernel_hall.specs.Refused.{IsRefused}
 use Rattle.kernel_hall.proofs.Noted.{shut_stays}
@@ -82,11 +82,13 @@ answered desk asked (Err fault) is own memory = memory
 
 pub is_answered : (desk old : DeskState) (asked : Ask) (r : Result Answer HallFault) (pass : PassOf) → desk ≡ old
     → IfOk r (λ answer. (k : Machine) × IsLegalMachine k × (k.minutes ≡ pass.front) × IsAnswer k (comms_in pass.notes) asked answer)
-    → pass.posts ≤ posted_in pass.front → IfErr r (λ fault. fault ≡ NoMemory) → HasSeen desk.pass pass
-    → IsAnswered (question_of asked) r (with_pass desk pass) × HasSeen old.pass pass × OnlyPass old (with_pass desk pass)
-is_answered desk old asked r pass same is own memory seen =
-    subst (λ (d : DeskState). IsAnswered (question_of asked) r (with_pass desk pass) × HasSeen d.pass pass × OnlyPass d (with_pass desk pass)) same
-    (answered (with_pass desk pass) asked r is own memory, seen, refl)
+    → pass.posts ≤ posted_in pass.front → IfErr r (λ fault. fault ≡ NoMemory) → IsNotedQuestion desk.pass.notes pass.notes → HasSeen desk.pass pass
+    → IsAnswered (question_of asked) r (with_pass desk pass) × IsNotedQuestion old.pass.notes pass.notes × HasSeen old.pass pass
+    × OnlyPass old (with_pass desk pass)
+is_answered desk old asked r pass same is own memory noted seen =
+    subst (λ (d : DeskState). IsAnswered (question_of asked) r (with_pass desk pass) × IsNotedQuestion d.pass.notes pass.notes × HasSeen d.pass pass
+    × OnlyPass d (with_pass desk pass)) same
+    (answered (with_pass desk pass) asked r is own memory, noted, seen, refl)
 
 pub is_changed : (desk old : DeskState) (asked : CommChange) (r : Result Bool HallFault) (pass : PassOf) → desk ≡ old
     → IsNotedChange desk.pass.notes asked r pass.notes → HasSeen desk.pass pass

@@ -18,7 +18,7 @@ use Rattle.kernel_hall.specs.Ends.{HasEnd}
 use Rattle.kernel_hall.specs.Minutes.{Entry, posted_in}
 use Rattle.kernel_hall.specs.Request.{Request}
 use Rattle.kernel_hall.specs.Passes.{PassOf, HasSeen, HasPosted}
-use Rattle.kernel_hall.specs.Notes.{comms_in, IsNotedChange}
+use Rattle.kernel_hall.specs.Notes.{comms_in, IsNotedQuestion, IsNotedChange}
 use Rattle.kernel_hall.specs.comm_change.CommChange.{CommChange}
 use Rattle.kernel_bell.specs.Seats.{RingerOf, ringer_seat, IsNeverLater}
 use Rattle.kernel_bell.specs.Views.{after_look, after_raise}
@@ -70,7 +70,7 @@ abbrev pub RefusesBehindShutdown : DeskState → Result Done PostFault → Type 
 RefusesBehindShutdown old told = old.was_shut ≡ true → told ≡ Err Closing
 
 -- a question is answered of the kernel whose minutes the pass has seen now, with all its own posts, and of the comms that are open by the notes that it
--- has seen now; a refusal is want of memory
+-- has seen now; a refusal is want of memory. The question itself is the last of these notes: so what was seen and answered before is no answer.
 abbrev pub IsAnswered : Question → Result Answer HallFault → DeskState → Type 0
 IsAnswered q (Ok answer) new =
     (asked : Ask) × (question_of asked ≡ q) × (k : Machine) × IsLegalMachine k × (k.minutes ≡ new.pass.front)
@@ -91,7 +91,8 @@ pub record IsRung (old new : RingerOf) : Type 0 where
 -- THE DESK BEFORE A HALL: what each call may answer, and what the desk holds after it. The date set is that of some instant, or the one before.
 abbrev pub hall_desk_leads : DeskState → Call → DeskState → Type 0
 hall_desk_leads old (Posted job wishes told) new = IsPosted old job wishes told new × RefusesBehindShutdown old told × OnlyPass old new
-hall_desk_leads old (Asked q told) new = IsAnswered q told new × HasSeen old.pass new.pass × OnlyPass old new
+hall_desk_leads old (Asked q told) new =
+    IsAnswered q told new × IsNotedQuestion old.pass.notes new.pass.notes × HasSeen old.pass new.pass × OnlyPass old new
 hall_desk_leads old (Changed change told) new = IsChanged old change told new × HasSeen old.pass new.pass × OnlyPass old new
 hall_desk_leads old Rang new = (seat : RingerOf) × IsRung old.seat seat × (new ≡ record old { seat = seat })
 hall_desk_leads old Shut new = HasSeen old.pass new.pass × (new ≡ record old { pass = new.pass; was_shut = true })

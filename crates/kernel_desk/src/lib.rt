@@ -4,8 +4,9 @@
 //! layer above it promises, of each call, what can be said exactly of what it holds (the pass and how many posts it made, the seat, the place on the
 //! board, whether a shutdown came), and of the kernel under the hall's lock that its minutes are those that the pass has seen then, which begin with
 //! all that it had seen: the job that was posted and its end stand there under one number, what is told of it is what was made as it ended, of the
-//! wishes that came with it, and an answer is that kernel's and of the comms that its notes have; a change of the comms is the last of these notes; behind its
-//! own shutdown each job is refused as closing. [`QuietDesk`] is the desk of connections at which nothing is asked.
+//! wishes that came with it, and an answer is that kernel's and of the comms that its notes have, of which the question is the last, so none is of what was
+//! seen before; a change of the comms is the last of these notes; behind its own shutdown each job is refused as closing. [`QuietDesk`] is the desk of
+//! connections at which nothing is asked.
 //!
 //! No contract says that a waiting thread wakes.
 //!
@@ -20,8 +21,9 @@ mod quiet;
 
 pub use hall_desk::HallDesk;
 pub use kernel_hall::{
-    Answer, Ask, CommChange, Comms, Content, Done, Entry, Gate, Hall, HallFault, HistoryName, Job,
-    Kernel, Moment, NewHistory, Note, PARTS_OF_POSTS, Pass, PostFault, work,
+    Answer, Ask, CellText, CommChange, Comms, Content, Done, Entry, Gate, Hall, HallFault,
+    HistoryName, Job, Kernel, Moment, NewHistory, Note, PARTS_OF_POSTS, Pass, Passes, PostFault,
+    work,
 };
 pub use kernel_session::{Desk, Socket, serve};
 pub use quiet::QuietDesk;

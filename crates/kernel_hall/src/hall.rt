@@ -6,9 +6,10 @@ ghost use Rattle.hall_state.specs.LegalMinutes.{IsLegalMachine};
 ghost use Rattle.hall_state.specs.Answer.{IsAnswer};
 ghost use Rattle.hall_state.specs.Minutes.{posted_in};
 ghost use Rattle.hall_state.specs.Request.{request_of};
-ghost use Rattle.hall_state.specs.Notes.{wished_in, has_shutdown, comms_in, IsNotedChange};
-ghost use Rattle.hall_state.specs.Passes.{ticket_of, AreLegal, HasSeen, HasPosted};
-ghost use Rattle.hall_state.specs.PendingResults.{WereMade};
+ghost use Rattle.hall_state.specs.Notes.{wished_in, has_shutdown, comms_in, IsNotedQuestion, IsNotedChange};
+ghost use Rattle.hall_state.specs.note.Note.{Note};
+ghost use Rattle.hall_state.specs.Passes.{ticket_of, AreLegal, HasSeen, AreInOneOrder, HasPosted};
+ghost use Rattle.hall_state.specs.PendingResults.{WereMade, IsToldOnce};
 ghost use Rattle.hall_state.specs.Turns.{IsTurn};
 ghost use Rattle.hall_state.specs.declared.limit.TheConstants.{PASSES, PARTS_OF_POSTS};
 ghost use Rattle.hall_state.specs.Ends.{HasEnd};
@@ -20,7 +21,8 @@ use crate::entrance::Entrance;
 use crate::spin::{LOOKS_FOR_POST, watch};
 use hall_state::{
     Answer, Ask, AuditFault, Beside, CommChange, Done, Entry, Front, HallFault, HistoryName, Job,
-    Kernel, Minutes, NewHistory, Note, Pass, PostFault, State, Ticket, Turn, Wish, judge, room_for,
+    Kernel, Minutes, NewHistory, Note, Pass, Passes, PostFault, State, Ticket, Turn, Wish, judge,
+    room_for,
 };
 use kernel_bell::{Bell, RunnerSeat};
 use std::alloc::Global;
@@ -29,8 +31,8 @@ use std::sync::ledger::{Blank, Ledger};
 use std::sync::{Condvar, Mutex, Wait};
 
 /// One kernel for many threads. Each lock is held for one event of the kernel, or for one piece of what is made of a job that has ended. Contracts
-/// see which bell it has. The type parameters name the ledger of the kernel's writes, and that of the posts with the history of the minutes: a program
-/// picks each once.
+/// see which bell it has. The type parameters name the ledger of the kernel's writes, and that of the posts with the history of the minutes and the bell: a
+/// program picks each once.
 #[derive(Drop)]
 pub struct Hall<W: Ledger, L: HistoryName> {
     state: Mutex<State<W, L>>,
@@ -44,6 +46,7 @@ pub struct Hall<W: Ledger, L: HistoryName> {
 }
 
 impl<W: Ledger, L: HistoryName> Model for Hall<W, L> {
+    ghost use Rattle.std.specs.Prelude.{◌≡◌};
     ghost use Rattle.atomic_table.specs.Seated.{TableId, table_id_coded};
 
     ghost Value = { TableId };
@@ -51,11 +54,14 @@ impl<W: Ledger, L: HistoryName> Model for Hall<W, L> {
     ghost coded = { table_id_coded };
 
     ghost view = { λ h. h.bell };
+
+    ghost invariant = { λ h. h.bell ≡ L.bell };
 }
 
 impl<W: Ledger, L: HistoryName> Hall<W, L> {
-    /// A hall round an open kernel with no minutes, where no comm is open. It takes no memory. The posts are counted in the ledger that is opened by this
-    /// blank, its minutes become this history, and what is noted beside them the other one.
+    /// A hall round an open kernel with no minutes, where no comm is open, with all the passes that it is to give. It takes no memory. The posts are counted in
+    /// the ledger that is opened by this blank, its minutes become this history, and what is noted beside them the other one; its bell is the one that the type
+    /// names. All parts of that ledger are with the passes, so the hall posts nothing but for a pass that was given and is handed in.
     pub fn new(
         alloc: Global,
         blank: Blank,
@@ -63,25 +69,28 @@ impl<W: Ledger, L: HistoryName> Hall<W, L> {
         notes: NewHistory<Note>,
         kernel: Kernel<W>,
         bell: Bell,
-    ) -> Hall<W, L>
+    ) -> (Hall<W, L>, Passes<L>)
         requires name { blank.name ≡ L.name }
         requires parts { (blank.parts ≡ PARTS_OF_POSTS) × (blank.parts ≡ L.parts) }
         requires history { history ≡ L.history }
         requires notes { notes ≡ L.beside }
+        requires bell { bell ≡ L.bell }
         requires fresh { kernel.machine.minutes ≡ [] }
         requires open { kernel.machine.closing ≡ false }
-        ensures { result ≡ bell }
+        ensures hall { result.0 ≡ bell }
+        ensures passes { result.1 ≡ 0 }
     {
         let (book, rest) = blank.open::<L>();
-        let state = State::new(alloc, kernel, book, rest, history, notes);
-        Hall {
+        let state = State::new(alloc, kernel, book, history, notes);
+        let hall = Hall {
             state: Mutex::new(state),
             entrance: Entrance::new(),
             moved: Condvar::new(),
             ended: Ends::new(),
             bell,
             alloc,
-        }
+        };
+        (hall, Passes::new(rest))
     }
 
     /// The bell, which is rung outside the lock.
@@ -91,14 +100,17 @@ impl<W: Ledger, L: HistoryName> Hall<W, L> {
         &self.bell
     }
 
-    /// A new pass, with no posts, which has seen the minutes. It takes no memory, and is refused as `NoPass` once [`PASSES`](crate::PASSES) are given.
-    pub fn pass<R: Wait>(&self, rt: &R) -> Result<Pass<L>, HallFault>
+    /// The next of the passes that were made with the hall, on the next lane, with no posts, which has seen the minutes. It takes no memory, and is refused as
+    /// `NoPass` once all [`PASSES`](crate::PASSES) are given.
+    pub fn pass<R: Wait>(&self, rt: &R, passes: &mut Passes<L>) -> Result<Pass<L>, HallFault>
         ensures new { IfOk result (λ p. p.posts ≡ 0) }
         ensures legal { IfOk result (λ p. AreLegal p.front) }
         ensures lane { IfOk result (λ p. (1 ≤ p.lane) × (p.lane ≤ PASSES)) }
+        ensures next { IfOk result (λ p. (p.lane ≡ passes.old + 1) × (passes.new ≡ passes.old + 1)) }
         ensures refusal { IfErr result (λ f. f ≡ HallFault.NoPass) }
+        ensures none { OnErr result ((passes.old ≡ PASSES) × (passes.new ≡ passes.old)) }
     {
-        match self.entrance.enter(rt, &self.state).pass() {
+        match self.entrance.enter(rt, &self.state).pass(passes) {
             Some(pass) => Ok(pass),
             None => Err(HallFault::NoPass),
         }
@@ -232,11 +244,13 @@ impl<W: Ledger, L: HistoryName> Hall<W, L> {
         false
     }
 
-    /// Waits until the ticket's job has ended, and answers what came of it. The end stands in the minutes that the pass has seen now. The shown text
-    /// and the values go to the first wait for it. Most jobs end before a thread is asleep, so it watches for a while first.
+    /// Waits until the ticket's job has ended, and answers what came of it. The end stands in the minutes that the pass has seen now. The shown text and the
+    /// values go to the first wait for it: they are those of the wishes that are noted under the ticket's number, as the job ended. A later one is told none.
+    /// Most jobs end before a thread is asleep, so it watches for a while first.
     pub fn wait<R: Wait>(&self, rt: &R, pass: &mut Pass<L>, ticket: &Ticket) -> Done
         ensures number { result.number ≡ ticket.now.number }
         ensures end { HasEnd pass.new.front result }
+        ensures once { ∥ IsToldOnce pass.new.front (get_or (wished_in pass.new.notes) (ticket.now.number - 1) []) result ∥₁ }
         ensures seen { HasSeen pass.old pass.new }
         ensures legal { AreLegal pass.new.front }
     {
@@ -265,7 +279,7 @@ impl<W: Ledger, L: HistoryName> Hall<W, L> {
     }
 
     /// Waits until the job of this number has ended, whose end the pass has seen then. Where it asks as the first, what was made as the job ended goes
-    /// along, of the wishes that are noted of its post; nobody else waits for a job that is run so, or it would wait on.
+    /// along, of the wishes that are noted of its post; nobody else waits for a job that is run so, or it would wait on. Else that goes along, or nothing of it.
     fn end_of<R: Wait>(&self, rt: &R, pass: &mut Pass<L>, number: u64, is_first: bool) -> Done
         ensures number { result.number ≡ number }
         ensures end { HasEnd pass.new.front result }
@@ -273,6 +287,7 @@ impl<W: Ledger, L: HistoryName> Hall<W, L> {
         ensures legal { AreLegal pass.new.front }
         ensures made { is_first ≡ true → ∥ WereMade pass.new.front result.number result.outcome
             (get_or (wished_in pass.new.notes) (number - 1) []) (option_map string_bytes result.shown) result.values.items ∥₁ }
+        ensures once { ∥ IsToldOnce pass.new.front (get_or (wished_in pass.new.notes) (number - 1) []) result ∥₁ }
     {
         let seen = self.ended.wakings(number);
         let mut state = self.entrance.enter(rt, &self.state);
@@ -294,8 +309,8 @@ impl<W: Ledger, L: HistoryName> Hall<W, L> {
     }
 
     /// Answers a question: `ask_on` under the lock, of the kernel whose minutes the pass has seen now, and of the comms that were open then: what it had seen
-    /// is a beginning of them, and all its posts are among them. Whether code can be executed as it stands is told with the lock free. The only refusal is
-    /// `Memory`.
+    /// is a beginning of them, and all its posts are among them. The question is the last of the notes that it has seen now, so no answer is of what it had
+    /// seen before. Whether code can be executed as it stands is told with the lock free. The only refusal is `Memory`.
     pub fn ask<R: Wait>(
         &self,
         rt: &R,
@@ -305,11 +320,12 @@ impl<W: Ledger, L: HistoryName> Hall<W, L> {
         ensures answer { IfOk result
             (λ answer. (k : Machine) × IsLegalMachine k × (k.minutes ≡ pass.new.front) × IsAnswer k (comms_in pass.new.notes) ask.entry answer) }
         ensures seen { HasSeen pass.old pass.new }
+        ensures noted { IsNotedQuestion pass.old.notes pass.new.notes }
         ensures own { pass.new.posts ≤ posted_in pass.new.front }
         ensures refusal { IfErr result (λ f. f ≡ HallFault.Memory) }
     {
         let mut state = self.entrance.enter(rt, &self.state);
-        state.see(pass);
+        state.take_question(pass);
         match ask {
             // The text alone tells, so others have the lock meanwhile.
             Ask::IsComplete { code } => {
@@ -342,6 +358,16 @@ impl<W: Ledger, L: HistoryName> Hall<W, L> {
         told
     }
 
+    /// Shows the minutes and the notes to two passes, of any two frontends. Of what the two had seen one is a beginning of the other: there is one order for
+    /// both, of the posts and ends and of what is noted beside them.
+    pub fn in_one_order<R: Wait>(&self, rt: &R, a: &mut Pass<L>, b: &mut Pass<L>)
+        ensures order { AreInOneOrder a.old b.old }
+        ensures first { HasSeen a.old a.new }
+        ensures second { HasSeen b.old b.new }
+    {
+        self.entrance.enter(rt, &self.state).in_one_order(a, b);
+    }
+
     /// From now on each post is refused, and each job that is taken. It interrupts nothing, and takes no memory. What is handed out has seen the shutdown in
     /// the notes of this hall.
     pub fn shut<R: Wait>(&self, rt: &R) -> Front<Note, Beside<L>>
@@ -366,7 +392,8 @@ impl<W: Ledger, L: HistoryName> Hall<W, L> {
     }
 
     /// Ends the hall, once its threads are joined, and compares its minutes with what the frontends came away with: `State::close` of the
-    /// kernel. All that it is handed is spent either way. What each of the passes has seen is a beginning of these minutes. It takes no memory.
+    /// kernel. All that it is handed is spent either way. What each of the passes has seen is a beginning of these minutes, and of one list of notes. It takes no
+    /// memory.
     pub fn close(
         self,
         passes: Vec<Pass<L>>,
@@ -376,6 +403,7 @@ impl<W: Ledger, L: HistoryName> Hall<W, L> {
         ensures legal { IfOk result (λ m. IsLegalMachine m) }
         ensures audited { IfOk result (λ m. Audited m.minutes passes.items tickets.items dones.items) }
         ensures fronts { IfOk result (λ m. All (λ p. IsPrefix p.front m.minutes) passes.items) }
+        ensures noted { (notes : List Note) × All (λ p. IsPrefix p.notes notes) passes.items }
         ensures fault { IfErr result (λ f. (k : Machine) × IsLegalMachine k × All (λ p. IsPrefix p.front k.minutes) passes.items
             × IsAuditFault k.minutes passes.items tickets.items dones.items f) }
     {

@@ -69,7 +69,9 @@ mod witness;
 mod worker;
 mod writer;
 
-pub use kernel_desk::{Comms, Entry, Hall, HistoryName, Kernel, NewHistory, Note, PARTS_OF_POSTS};
+pub use kernel_desk::{
+    Comms, Entry, Hall, HistoryName, Kernel, NewHistory, Note, PARTS_OF_POSTS, Passes,
+};
 pub use places::{ALL_PLACES, DESKS, Listeners, PLACES};
 pub use service::Service;
 pub use start::{Seats, serve_all};

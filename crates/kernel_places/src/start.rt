@@ -7,7 +7,7 @@ use crate::task::Task;
 use crate::warning::tell_until_end;
 use crate::worker::Worker;
 use kernel_bell::{RingerSeat, RunnerSeat};
-use kernel_desk::{HallDesk, HistoryName, Pass, Socket};
+use kernel_desk::{HallDesk, HistoryName, Pass, Passes, Socket};
 use kernel_sockets::Connections;
 use std::alloc::AllocError;
 use std::io::Write;
@@ -33,13 +33,14 @@ pub struct Seats {
 fn desks_of<'a, W: Ledger, L: HistoryName, S: Ledger, R: Wait + Clock>(
     rt: &'a R,
     service: &'a Service<W, L, S>,
+    passes: &mut Passes<L>,
     seats: Vec<RingerSeat>,
 ) -> Result<Vec<HallDesk<'a, W, L, R>>, AllocError>
     requires { All (λ seat. seat.bell ≡ service.now.hall) seats.items }
 {
     let mut desks = Vec::with_capacity(service.alloc, seats.len())?;
     for seat in seats {
-        let Ok(pass) = service.hall.pass(rt) else {
+        let Ok(pass) = service.hall.pass(rt, passes) else {
             return Err(AllocError);
         };
         desks.push(HallDesk::new(rt, &service.hall, &service.bulletin, pass, seat))?;
@@ -270,7 +271,8 @@ fn serve_callers<
     })
 }
 
-/// Serves all connections of these sockets until a shutdown was answered, brings all threads to an end and joins them. Once all are
+/// Serves all connections of these sockets until a shutdown was answered, with passes that were made with the hall, brings all threads to an end and joins
+/// them. Once all are
 /// started it writes the line `ready`, and to the errors a line for each limit of which nine tenths are used. False where a thread could not be made, after
 /// all those that were have ended.
 ///
@@ -288,6 +290,7 @@ pub fn serve_all<
     rt: &R,
     service: &Service<W, L, S>,
     listeners: &Listeners,
+    mut passes: Passes<L>,
     seats: Seats,
     out: &mut O,
     err: &mut E,
@@ -296,9 +299,9 @@ pub fn serve_all<
     requires ringers { All (λ seat. seat.bell ≡ service.now.hall) seats.ringers.items }
 {
     let Seats { runner, ringers } = seats;
-    let desks = desks_of(rt, service, ringers)?;
+    let desks = desks_of(rt, service, &mut passes, ringers)?;
     let worker = Worker::new(&service.hall, runner);
-    let Ok(watcher) = service.hall.pass(rt) else {
+    let Ok(watcher) = service.hall.pass(rt, &mut passes) else {
         return Err(AllocError);
     };
     let is_started = thread::scope(thread::scope_env(), rt, |scope| {

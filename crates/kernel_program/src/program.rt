@@ -13,7 +13,7 @@ use jupyter_msg::Key;
 use kernel_bell::Bell;
 use kernel_places::{
     ALL_PLACES, DESKS, Entry, Hall, HistoryName, Kernel, Listeners, NewHistory, Note,
-    PARTS_OF_POSTS, Seats, Service, Times, serve_all,
+    PARTS_OF_POSTS, Passes, Seats, Service, Times, serve_all,
 };
 use program_words::{send_unread_words, unread_words_status, words_status};
 use rand::make_rng;
@@ -43,30 +43,29 @@ fn new_session<R: RandomSource>(rt: &R, alloc: Global) -> Result<String, Program
     Ok(session_name(alloc, &mut rng)?)
 }
 
-/// A hall round a new kernel, with the seats of its bell.
+/// A hall round a new kernel, with this bell, and the passes that it is to give.
 fn new_hall<W: Ledger, L: HistoryName>(
     alloc: Global,
     writes: Blank,
     posts: Blank,
     history: NewHistory<Entry>,
     notes: NewHistory<Note>,
-) -> Result<(Hall<W, L>, Seats), AllocError>
+    bell: Bell,
+) -> Result<(Hall<W, L>, Passes<L>), AllocError>
     requires writes { (writes.name ≡ W.name) × (writes.parts ≡ W.parts) × (1 < W.parts) }
     requires posts { (posts.name ≡ L.name) × (posts.parts ≡ PARTS_OF_POSTS) × (posts.parts ≡ L.parts) }
     requires history { history ≡ L.history }
     requires notes { notes ≡ L.beside }
-    ensures runner { IfOk result (λ made. made.1.runner.bell ≡ made.0) }
-    ensures ringers { IfOk result (λ made. All (λ seat. seat.bell ≡ made.0) made.1.ringers.items) }
+    requires bell { bell ≡ L.bell }
+    ensures { IfOk result (λ made. made.0 ≡ bell) }
 {
-    let (bell, runner, ringers) = Bell::new(alloc, DESKS)?;
     let Ok(kernel) = Kernel::<W>::new(alloc, writes) else {
         return Err(AllocError);
     };
-    let hall = Hall::<W, L>::new(alloc, posts, history, notes, kernel, bell);
-    Ok((hall, Seats { runner, ringers }))
+    Ok(Hall::<W, L>::new(alloc, posts, history, notes, kernel, bell))
 }
 
-/// Builds a new kernel and all that its places share.
+/// Builds a new kernel and all that its places share, with the passes of its hall.
 fn new_service<W: Ledger, L: HistoryName, S: Ledger, R: RandomSource>(
     rt: &R,
     alloc: Global,
@@ -74,25 +73,26 @@ fn new_service<W: Ledger, L: HistoryName, S: Ledger, R: RandomSource>(
     posts: Blank,
     history: NewHistory<Entry>,
     notes: NewHistory<Note>,
+    bell: Bell,
     strangers: Blank,
     times: Times,
     key: Key,
-) -> Result<(Service<W, L, S>, Seats), ProgramFault>
+) -> Result<(Service<W, L, S>, Passes<L>), ProgramFault>
     requires writes { (writes.name ≡ W.name) × (writes.parts ≡ W.parts) × (1 < W.parts) }
     requires posts { (posts.name ≡ L.name) × (posts.parts ≡ PARTS_OF_POSTS) × (posts.parts ≡ L.parts) }
     requires history { history ≡ L.history }
     requires notes { notes ≡ L.beside }
+    requires bell { bell ≡ L.bell }
     requires strangers { (strangers.name ≡ S.name) × (strangers.parts ≡ S.parts) × (strangers.parts ≡ 192) }
-    ensures runner { IfOk result (λ made. made.1.runner.bell ≡ made.0.hall) }
-    ensures ringers { IfOk result (λ made. All (λ seat. seat.bell ≡ made.0.hall) made.1.ringers.items) }
+    ensures { IfOk result (λ made. made.0.hall ≡ bell) }
 {
     let session = new_session(rt, alloc)?;
-    let (hall, seats) = new_hall::<W, L>(alloc, writes, posts, history, notes)?;
+    let (hall, passes) = new_hall::<W, L>(alloc, writes, posts, history, notes, bell)?;
     let service = Service::new(alloc, session, key, hall, times, strangers)?;
-    Ok((service, seats))
+    Ok((service, passes))
 }
 
-/// Builds a new kernel and all that its places share, and serves these sockets until a shutdown.
+/// Builds a new kernel with this bell and all that its places share, and serves these sockets until a shutdown, at places with these seats of the bell.
 fn serve_new_kernel<
     W: Ledger + Send + Sync,
     L: HistoryName + Send + Sync,
@@ -107,6 +107,8 @@ fn serve_new_kernel<
     posts: Blank,
     history: NewHistory<Entry>,
     notes: NewHistory<Note>,
+    bell: Bell,
+    seats: Seats,
     strangers: Blank,
     times: Times,
     listeners: &Listeners,
@@ -120,12 +122,15 @@ where
     requires posts { (posts.name ≡ L.name) × (posts.parts ≡ PARTS_OF_POSTS) × (posts.parts ≡ L.parts) }
     requires history { history ≡ L.history }
     requires notes { notes ≡ L.beside }
+    requires bell { bell ≡ L.bell }
+    requires runner { seats.runner.bell ≡ bell }
+    requires ringers { All (λ seat. seat.bell ≡ bell) seats.ringers.items }
     requires strangers { (strangers.name ≡ S.name) × (strangers.parts ≡ S.parts) × (strangers.parts ≡ 192) }
 {
-    let (service, seats) = new_service::<W, L, S, R>(
-        rt, alloc, writes, posts, history, notes, strangers, times, key,
+    let (service, passes) = new_service::<W, L, S, R>(
+        rt, alloc, writes, posts, history, notes, bell, strangers, times, key,
     )?;
-    let served = serve_all(rt, &service, listeners, seats, out, err);
+    let served = serve_all(rt, &service, listeners, passes, seats, out, err);
     service.discard();
     match served {
         Ok(true) => Ok(()),
@@ -168,6 +173,7 @@ where
     let listeners = listeners_of(rt, alloc, &file)?;
     tell_reach(&listeners, &file.ip, err);
     let key = Key::new(file.key.into_bytes());
+    let (bell, runner, ringers) = Bell::new(alloc, DESKS)?;
     serve_new_kernel::<Brand, Brand, Brand, R, O, E>(
         rt,
         alloc,
@@ -175,6 +181,8 @@ where
         Blank::new(PARTS_OF_POSTS),
         NewHistory::new(alloc)?,
         NewHistory::new(alloc)?,
+        bell,
+        Seats { runner, ringers },
         Blank::new(ALL_PLACES),
         times,
         &listeners,

@@ -7,7 +7,7 @@ use Rattle.atomic_table.specs.Table.{State, Me, Step}
 use Rattle.atomic_table.specs.Seated.{TableId}
 use Rattle.shared_history.specs.declared.view.View.{View}
 
--- the name of no history
+-- the name of no history, and of no bell
 abbrev pub no_history : TableId
 no_history = record { words = 0; slots = 0; views_name = 0; atom = 0; block = 0; offset = 0; slot_names = [] }
 

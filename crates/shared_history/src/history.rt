@@ -10,13 +10,15 @@ use std::marker::{Brand, Model, PhantomData};
 use std::mem;
 use std::sync::ledger::Ledger;
 
-/// Which history it is, and which one stands beside it, beside a ledger that a program counts with.
+/// Which history it is, which one stands beside it, and which table is the bell of who keeps them, beside a ledger that a program counts with.
 pub trait HistoryName: Ledger {
     ghost use Rattle.atomic_table.specs.Seated.{TableId};
 
     ghost history: { TableId };
 
     ghost beside: { TableId };
+
+    ghost bell: { TableId };
 }
 
 impl HistoryName for Brand {
@@ -25,6 +27,8 @@ impl HistoryName for Brand {
     ghost history = { no_history };
 
     ghost beside = { no_history };
+
+    ghost bell = { no_history };
 }
 
 /// The name of the history that stands beside a named one.
@@ -45,6 +49,8 @@ impl<L: HistoryName> HistoryName for Beside<L> {
     ghost history = { L.beside };
 
     ghost beside = { no_history };
+
+    ghost bell = { L.bell };
 }
 
 /// A history with no entries, which no type stands for yet. Contracts see which one it is.

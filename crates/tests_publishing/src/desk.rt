@@ -1,14 +1,16 @@
-//! Rows of two desks before a hall. `publish` (a topic) publishes a broadcast, and `broadcasts` gives the topics of those that the desk reads. `shut`
-//! shuts the kernel, and `was_shut` tells whether it was. `undo` (a number) has that many cells undone, and gives the outcome, or why the job is
-//! refused. `open` and `close` (an id) open and close a comm, and tell whether they did; `comms` gives those that are open. A call is made at the first desk,
-//! or behind the word `second` at the other one.
-ghost use Rattle.std.specs.Prelude.{◌≡◌, ◌<◌, IfOk};
+//! Rows of two desks before a hall, whose worker takes its turns on a thread of its own. `publish` (a topic) publishes a broadcast, and `broadcasts` gives
+//! the topics of those that the desk reads. `shut` shuts the kernel, and `was_shut` tells whether it was. `undo` (a number) has that many cells undone, and
+//! `cell` (a code) has a cell run; each gives the outcome, or why the job is refused. `state` gives how many minutes the answer has seen, and the shown world.
+//! `open` and `close` (an id) open and close a comm, and tell whether they did; `comms` gives those that are open. A call is made at the first desk,
+//! or behind the word `second` at the other one. Behind the last row the kernel is shut, and the worker ends.
+ghost use Rattle.std.specs.Prelude.{◌≡◌, ◌<◌, IfOk, All};
 
-use kernel_bell::{Bell, RingerSeat};
+use crate::worker::Worker;
+use kernel_bell::{Bell, RingerSeat, RunnerSeat};
 use kernel_board::Broadcast;
 use kernel_desk::{
-    Answer, Ask, CommChange, Content, Desk, Done, Entry, Hall, HallDesk, HallFault, HistoryName,
-    Job, Kernel, NewHistory, Note, PostFault,
+    Answer, Ask, CellText, CommChange, Content, Desk, Done, Entry, Hall, HallDesk, HallFault,
+    HistoryName, Job, Kernel, NewHistory, Note, Passes, PostFault,
 };
 use kernel_iopub::Bulletin;
 use std::alloc::{AllocError, Global};
@@ -16,20 +18,26 @@ use std::marker::Brand;
 use std::str;
 use std::sync::Wait;
 use std::sync::ledger::{Blank, Ledger};
+use std::thread;
+use std::thread::Threads;
 use std::time::Clock;
 use tests_rows::{Sheet, cut};
 
-/// Writes the calls at a desk before a hall of its own with their answers.
-pub(crate) fn tell<R: Wait + Clock>(rt: &R, calls: &str, sheet: &mut Sheet) {
+/// Writes the calls at two desks before a hall of their own with their answers.
+pub(crate) fn tell<R: Threads + Wait + Clock + Sync>(rt: &R, calls: &str, sheet: &mut Sheet) {
     match String::from_str(sheet.alloc(), calls) {
         Ok(calls) => tell_owned(rt, calls, sheet),
         Err(_) => sheet.refuse(),
     }
 }
 
-/// Writes the calls at a desk before a hall of its own with their answers.
-fn tell_owned<R: Wait + Clock>(rt: &R, calls: String, sheet: &mut Sheet) {
+/// Writes the calls at two desks before a hall of their own with their answers.
+fn tell_owned<R: Threads + Wait + Clock + Sync>(rt: &R, calls: String, sheet: &mut Sheet) {
     let alloc = sheet.alloc();
+    let Ok((bell, runner, ringers)) = Bell::new(alloc, 2) else {
+        sheet.refuse();
+        return;
+    };
     match (NewHistory::new(alloc), NewHistory::new(alloc)) {
         (Ok(history), Ok(notes)) => {
             tell_in::<Brand, Brand, R>(
@@ -38,6 +46,9 @@ fn tell_owned<R: Wait + Clock>(rt: &R, calls: String, sheet: &mut Sheet) {
                 Blank::new(65_537),
                 history,
                 notes,
+                bell,
+                runner,
+                ringers,
                 calls,
                 sheet,
             );
@@ -46,39 +57,42 @@ fn tell_owned<R: Wait + Clock>(rt: &R, calls: String, sheet: &mut Sheet) {
     }
 }
 
-/// A hall round a new kernel, and two seats of its bell.
+/// A hall round a new kernel, with this bell, and the passes that it is to give.
 fn new_hall<W: Ledger, L: HistoryName>(
     alloc: Global,
     writes: Blank,
     posts: Blank,
     history: NewHistory<Entry>,
     notes: NewHistory<Note>,
-) -> Result<(Hall<W, L>, RingerSeat, RingerSeat), AllocError>
+    bell: Bell,
+) -> Result<(Hall<W, L>, Passes<L>), AllocError>
     requires writes { (writes.name ≡ W.name) × (writes.parts ≡ W.parts) × (1 < W.parts) }
     requires posts { (posts.name ≡ L.name) × (posts.parts ≡ 65537) × (posts.parts ≡ L.parts) }
     requires history { history ≡ L.history }
     requires notes { notes ≡ L.beside }
-    ensures first { IfOk result (λ made. made.1.bell ≡ made.0) }
-    ensures second { IfOk result (λ made. made.2.bell ≡ made.0) }
+    requires bell { bell ≡ L.bell }
+    ensures { IfOk result (λ made. made.0 ≡ bell) }
 {
-    let (bell, _runner, mut ringers) = Bell::new(alloc, 2)?;
-    let (Some(second), Some(first)) = (ringers.pop(), ringers.pop()) else {
-        unreachable!()
-    };
     let Ok(kernel) = Kernel::<W>::new(alloc, writes) else {
         return Err(AllocError);
     };
-    let hall = Hall::<W, L>::new(alloc, posts, history, notes, kernel, bell);
-    Ok((hall, first, second))
+    Ok(Hall::<W, L>::new(alloc, posts, history, notes, kernel, bell))
 }
 
 /// Writes the calls at two desks with their answers, before a hall over these ledgers.
-fn tell_in<W: Ledger, L: HistoryName, R: Wait + Clock>(
+fn tell_in<
+    W: Ledger + Send + Sync,
+    L: HistoryName + Send + Sync,
+    R: Threads + Wait + Clock + Sync,
+>(
     rt: &R,
     writes: Blank,
     posts: Blank,
     history: NewHistory<Entry>,
     notes: NewHistory<Note>,
+    bell: Bell,
+    runner: RunnerSeat,
+    ringers: Vec<RingerSeat>,
     calls: String,
     sheet: &mut Sheet,
 )
@@ -86,55 +100,78 @@ fn tell_in<W: Ledger, L: HistoryName, R: Wait + Clock>(
     requires posts { (posts.name ≡ L.name) × (posts.parts ≡ 65537) × (posts.parts ≡ L.parts) }
     requires history { history ≡ L.history }
     requires notes { notes ≡ L.beside }
+    requires bell { bell ≡ L.bell }
+    requires runner { runner.bell ≡ bell }
+    requires ringers { All (λ seat. seat.bell ≡ bell) ringers.items }
 {
-    match new_hall::<W, L>(sheet.alloc(), writes, posts, history, notes) {
-        Ok((hall, first, second)) => {
-            sit_down(rt, &hall, first, second, &calls, sheet);
+    match new_hall::<W, L>(sheet.alloc(), writes, posts, history, notes, bell) {
+        Ok((hall, passes)) => {
+            let worker = Worker::new(&hall, runner);
+            sit_down(rt, worker, passes, ringers, &calls, sheet);
             hall.discard();
         }
         Err(_) => sheet.refuse(),
     }
 }
 
-/// Sits down at two desks before a hall, with seats of its bell.
-fn sit_down<W: Ledger, L: HistoryName, R: Wait + Clock>(
+/// Sits down at two desks before a hall, with seats of its bell and the first of its passes.
+fn sit_down<
+    W: Ledger + Send + Sync,
+    L: HistoryName + Send + Sync,
+    R: Threads + Wait + Clock + Sync,
+>(
     rt: &R,
-    hall: &Hall<W, L>,
-    first: RingerSeat,
-    second: RingerSeat,
+    worker: Worker<'_, W, L>,
+    mut passes: Passes<L>,
+    mut ringers: Vec<RingerSeat>,
     calls: &str,
     sheet: &mut Sheet,
 )
-    requires first { first.bell ≡ hall.now }
-    requires second { second.bell ≡ hall.now }
+    requires { All (λ seat. seat.bell ≡ worker.hall.now) ringers.items }
 {
-    match Bulletin::new(sheet.alloc(), 1) {
-        Ok(bulletin) => sit_at(rt, hall, &bulletin, first, second, calls, sheet),
-        Err(_) => sheet.refuse(),
-    }
-}
-
-/// Sits down at two desks before a hall and a bulletin.
-fn sit_at<W: Ledger, L: HistoryName, R: Wait + Clock>(
-    rt: &R,
-    hall: &Hall<W, L>,
-    bulletin: &Bulletin,
-    first: RingerSeat,
-    second: RingerSeat,
-    calls: &str,
-    sheet: &mut Sheet,
-)
-    requires first { first.bell ≡ hall.now }
-    requires second { second.bell ≡ hall.now }
-{
-    match (hall.pass(rt), hall.pass(rt)) {
+    let hall = worker.hall;
+    let Ok(bulletin) = Bulletin::new(sheet.alloc(), 1) else {
+        sheet.refuse();
+        return;
+    };
+    let (Some(second), Some(first)) = (ringers.pop(), ringers.pop()) else {
+        sheet.write("no seat");
+        return;
+    };
+    match (hall.pass(rt, &mut passes), hall.pass(rt, &mut passes)) {
         (Ok(own), Ok(other)) => {
-            let mut first = HallDesk::new(rt, hall, bulletin, own, first);
-            let mut second = HallDesk::new(rt, hall, bulletin, other, second);
-            tell_calls(&mut first, &mut second, calls, sheet);
+            let mut first = HallDesk::new(rt, hall, &bulletin, own, first);
+            let mut second = HallDesk::new(rt, hall, &bulletin, other, second);
+            tell_beside(rt, worker, &mut first, &mut second, calls, sheet);
         }
         _ => sheet.write("no pass"),
     }
+}
+
+/// Writes the calls with their answers beside the worker, and has it end.
+fn tell_beside<
+    'a,
+    W: Ledger + Send + Sync,
+    L: HistoryName + Send + Sync,
+    R: Threads + Wait + Clock + Sync,
+>(
+    rt: &R,
+    worker: Worker<'a, W, L>,
+    first: &mut HallDesk<'_, W, L, R>,
+    second: &mut HallDesk<'_, W, L, R>,
+    calls: &str,
+    sheet: &mut Sheet,
+) {
+    let hall = worker.hall;
+    thread::scope(thread::scope_env(), rt, |scope| {
+        let started = scope.spawn(move || worker.serve(rt));
+        if started.is_ok() {
+            tell_calls(first, second, calls, sheet);
+        } else {
+            sheet.write("no thread\n");
+        }
+        hall.shut(rt);
+    });
 }
 
 /// Writes the calls with their answers.
@@ -168,6 +205,8 @@ fn answer<W: Ledger, L: HistoryName, R: Wait + Clock>(
         "was_shut" => sheet.show(&desk.was_shut()),
         "shut" => shut(desk, sheet),
         "undo" => undo(desk, rest, sheet),
+        "cell" => cell(desk, rest, sheet),
+        "state" => tell_state(desk.ask(Ask::State), sheet),
         _ => comms(desk, word, rest, sheet),
     }
 }
@@ -254,6 +293,54 @@ fn undo<W: Ledger, L: HistoryName, R: Wait + Clock>(
 ) {
     let job = Job::Undo(count.parse::<u32>().unwrap_or(0));
     tell_job(desk.job(job, Vec::new(sheet.alloc())), sheet);
+}
+
+/// Has a cell run.
+fn cell<W: Ledger, L: HistoryName, R: Wait + Clock>(
+    desk: &mut HallDesk<'_, W, L, R>,
+    code: &str,
+    sheet: &mut Sheet,
+) {
+    let alloc = sheet.alloc();
+    match text_of(alloc, code) {
+        Ok(code) => {
+            let job = Job::Cell {
+                code,
+                silent: false,
+                store: true,
+            };
+            tell_job(desk.job(job, Vec::new(alloc)), sheet);
+        }
+        Err(_) => sheet.refuse(),
+    }
+}
+
+/// The text of a cell.
+fn text_of(alloc: Global, code: &str) -> Result<CellText, AllocError> {
+    let code = String::from_str(alloc, code)?;
+    CellText::new(alloc, code)
+}
+
+/// Writes how many minutes an answer has seen, and the shown world. The only refusal is want of memory.
+fn tell_state(answer: Result<Answer, HallFault>, sheet: &mut Sheet) {
+    match answer {
+        Ok(Answer { seen, content }) => {
+            sheet.show(&seen);
+            tell_world(&content, sheet);
+        }
+        Err(_) => sheet.refuse(),
+    }
+}
+
+/// Writes the shown world.
+fn tell_world(content: &Content, sheet: &mut Sheet) {
+    match content {
+        Content::State(state) => {
+            sheet.write(" ");
+            sheet.show(&state.world);
+        }
+        _ => sheet.write(" another answer"),
+    }
 }
 
 /// A broadcast of this topic.

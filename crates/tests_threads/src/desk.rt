@@ -5,8 +5,8 @@ ghost use Rattle.std.specs.Prelude.{◌≡◌, ◌<◌};
 use crate::lines::note;
 use kernel_bell::{Bell, RingerSeat, RunnerSeat};
 use kernel_hall::{
-    Begun, Entry, Gate, Hall, HistoryName, Kernel, NewHistory, Note, Outcome, STEPS_OF_A_SLICE,
-    Sliced, Turn, work,
+    Begun, Entry, Gate, Hall, HistoryName, Kernel, NewHistory, Note, Outcome, Passes,
+    STEPS_OF_A_SLICE, Sliced, Turn, work,
 };
 use std::alloc::{AllocError, Global};
 use std::sync::Wait;
@@ -27,28 +27,30 @@ pub(crate) struct Desk<W: Ledger, L: HistoryName> {
 }
 
 impl<W: Ledger, L: HistoryName> Desk<W, L> {
-    /// A hall round a new kernel.
+    /// A hall round a new kernel, with this bell and these seats of it, and the passes that it is to give.
     pub fn new(
         alloc: Global,
         writes: Blank,
         posts: Blank,
         history: NewHistory<Entry>,
         notes: NewHistory<Note>,
-    ) -> Result<Desk<W, L>, AllocError>
+        bell: Bell,
+        seat: RunnerSeat,
+        ringer: RingerSeat,
+    ) -> Result<(Desk<W, L>, Passes<L>), AllocError>
         requires writes { (writes.name ≡ W.name) × (writes.parts ≡ W.parts) × (1 < W.parts) }
         requires posts { (posts.name ≡ L.name) × (posts.parts ≡ 65537) × (posts.parts ≡ L.parts) }
         requires history { history ≡ L.history }
         requires notes { notes ≡ L.beside }
+        requires bell { bell ≡ L.bell }
+        requires seat { seat.bell ≡ bell }
+        requires ringer { ringer.bell ≡ bell }
     {
-        let (bell, seat, mut ringers) = Bell::new(alloc, 1)?;
-        let Some(ringer) = ringers.pop() else {
-            unreachable!()
-        };
         let Ok(kernel) = Kernel::new(alloc, writes) else {
             return Err(AllocError);
         };
-        let hall = Hall::new(alloc, posts, history, notes, kernel, bell);
-        Ok(Desk { hall, seat, ringer })
+        let (hall, passes) = Hall::new(alloc, posts, history, notes, kernel, bell);
+        Ok((Desk { hall, seat, ringer }, passes))
     }
 
     /// Takes one turn.

@@ -2,7 +2,7 @@
 //! first of them is 1.
 //!
 //! `pass` gives the lane and the posts of a new pass, or why there is none; `passes` how many more there are, each on the next lane with no posts,
-//! and why there is no further one. `post` (a pass, and a job) gives the lane of the ticket, which of the posts of the pass it is, and its number; or
+//! and why there is no further one. `order` shows the minutes to the first pass and to the last one together. `post` (a pass, and a job) gives the lane of the ticket, which of the posts of the pass it is, and its number; or
 //! why the post is refused, with the lane and the posts of the pass. A job is `undo` with a number, or a `cell` with its code. `names` (a pass, and a
 //! number) posts a cell that declares so many names, `v1`, `v2`, .. `wish` (names, each with an expression, parted by `;`, and behind a `|` what stands
 //! behind `post`) posts with user expressions. `wait` (a ticket) gives the number, the outcome, the
@@ -13,7 +13,7 @@
 use crate::lines::note;
 use kernel_hall::{
     Answer, Ask, CellText, CommChange, Content, Done, Hall, HallFault, HistoryName, Job, Outcome,
-    Pass, PostFault, Ticket, Wish,
+    Pass, Passes, PostFault, Ticket, Wish,
 };
 use std::alloc::{AllocError, Global};
 use std::sync::Wait;
@@ -23,6 +23,8 @@ use tests_rows::{Sheet, cut, cut_cell, number};
 /// What frontends came away with.
 #[derive(Drop)]
 pub(crate) struct Away<L: HistoryName> {
+    /// The passes that are still to be given.
+    pub left: Passes<L>,
     pub passes: Vec<Pass<L>>,
     pub tickets: Vec<Ticket>,
     pub dones: Vec<Done>,
@@ -35,8 +37,9 @@ pub(crate) struct Away<L: HistoryName> {
 }
 
 impl<L: HistoryName> Away<L> {
-    pub fn new(alloc: Global) -> Away<L> {
+    pub fn new(alloc: Global, left: Passes<L>) -> Away<L> {
         Away {
+            left,
             passes: Vec::new(alloc),
             tickets: Vec::new(alloc),
             dones: Vec::new(alloc),
@@ -58,7 +61,8 @@ pub(crate) fn answer<W: Ledger, L: HistoryName, R: Wait>(
     let (word, rest) = cut(call);
     match word {
         "pass" => pass(rt, hall, away, sheet),
-        "passes" => passes(rt, hall, sheet),
+        "passes" => passes(rt, hall, &mut away.left, sheet),
+        "order" => order(rt, hall, away, sheet),
         "post" => post(rt, hall, away, rest, Vec::new(sheet.alloc()), sheet),
         "wish" => wish(rt, hall, away, rest, sheet),
         "names" => names(rt, hall, away, rest, sheet),
@@ -128,7 +132,7 @@ fn pass<W: Ledger, L: HistoryName, R: Wait>(
     away: &mut Away<L>,
     sheet: &mut Sheet,
 ) {
-    match hall.pass(rt) {
+    match hall.pass(rt, &mut away.left) {
         Ok(pass) => {
             tell_pass(&pass, sheet);
             keep(&mut away.passes, pass, sheet);
@@ -141,9 +145,10 @@ fn pass<W: Ledger, L: HistoryName, R: Wait>(
 fn taken_passes<W: Ledger, L: HistoryName, R: Wait>(
     rt: &R,
     hall: &Hall<W, L>,
+    left: &mut Passes<L>,
 ) -> (u32, Option<HallFault>) {
     for given in 0..u32::MAX {
-        match hall.pass(rt) {
+        match hall.pass(rt, left) {
             Ok(pass) => {
                 if pass.lane() != given + 1 || pass.posts() != 0 {
                     return (given, None);
@@ -156,10 +161,32 @@ fn taken_passes<W: Ledger, L: HistoryName, R: Wait>(
 }
 
 /// Takes all passes of a new hall.
-fn passes<W: Ledger, L: HistoryName, R: Wait>(rt: &R, hall: &Hall<W, L>, sheet: &mut Sheet) {
-    let (given, fault) = taken_passes(rt, hall);
+fn passes<W: Ledger, L: HistoryName, R: Wait>(
+    rt: &R,
+    hall: &Hall<W, L>,
+    left: &mut Passes<L>,
+    sheet: &mut Sheet,
+) {
+    let (given, fault) = taken_passes(rt, hall, left);
     note("", &given, sheet);
     note(" ", &fault, sheet);
+}
+
+/// Shows the minutes to the first pass and to the last one together.
+fn order<W: Ledger, L: HistoryName, R: Wait>(
+    rt: &R,
+    hall: &Hall<W, L>,
+    away: &mut Away<L>,
+    sheet: &mut Sheet,
+) {
+    let Some(mut last) = away.passes.pop() else {
+        return;
+    };
+    if let Some(first) = away.passes.first_mut() {
+        hall.in_one_order(rt, first, &mut last);
+        sheet.write("done");
+    }
+    keep(&mut away.passes, last, sheet);
 }
 
 /// The job that a row writes.

@@ -12,7 +12,8 @@ use crate::gate::{await_held, gate, let_go};
 use crate::lines::{begin, note};
 use crate::posters::posters;
 use crate::runners::runners;
-use kernel_hall::{Entry, Hall, HistoryName, NewHistory, Note};
+use kernel_bell::{Bell, RingerSeat, RunnerSeat};
+use kernel_hall::{Entry, Hall, HistoryName, NewHistory, Note, Passes};
 use std::marker::Brand;
 use std::sync::atomic::AtomicU64;
 use std::sync::ledger::{Blank, Ledger};
@@ -32,6 +33,13 @@ pub(crate) fn tell<R: Threads + Wait + Sync>(rt: &R, calls: &str, holds: bool, s
 /// Writes the calls before a new hall with their answers.
 fn tell_owned<R: Threads + Wait + Sync>(rt: &R, calls: String, holds: bool, sheet: &mut Sheet) {
     let alloc = sheet.alloc();
+    let Ok((bell, seat, mut ringers)) = Bell::new(alloc, 1) else {
+        sheet.refuse();
+        return;
+    };
+    let Some(ringer) = ringers.pop() else {
+        unreachable!()
+    };
     match (NewHistory::new(alloc), NewHistory::new(alloc)) {
         (Ok(history), Ok(notes)) => {
             tell_in::<Brand, Brand, R>(
@@ -40,6 +48,9 @@ fn tell_owned<R: Threads + Wait + Sync>(rt: &R, calls: String, holds: bool, shee
                 Blank::new(65_537),
                 history,
                 notes,
+                bell,
+                seat,
+                ringer,
                 calls,
                 holds,
                 sheet,
@@ -56,6 +67,9 @@ fn tell_in<W: Ledger + Send + Sync, L: HistoryName + Send + Sync, R: Threads + W
     posts: Blank,
     history: NewHistory<Entry>,
     notes: NewHistory<Note>,
+    bell: Bell,
+    seat: RunnerSeat,
+    ringer: RingerSeat,
     calls: String,
     holds: bool,
     sheet: &mut Sheet,
@@ -64,9 +78,13 @@ fn tell_in<W: Ledger + Send + Sync, L: HistoryName + Send + Sync, R: Threads + W
     requires posts { (posts.name ≡ L.name) × (posts.parts ≡ 65537) × (posts.parts ≡ L.parts) }
     requires history { history ≡ L.history }
     requires notes { notes ≡ L.beside }
+    requires bell { bell ≡ L.bell }
+    requires seat { seat.bell ≡ bell }
+    requires ringer { ringer.bell ≡ bell }
 {
-    match Desk::<W, L>::new(sheet.alloc(), writes, posts, history, notes) {
-        Ok(desk) => tell_desk(rt, desk, &calls, holds, sheet),
+    let alloc = sheet.alloc();
+    match Desk::<W, L>::new(alloc, writes, posts, history, notes, bell, seat, ringer) {
+        Ok((desk, passes)) => tell_desk(rt, desk, passes, &calls, holds, sheet),
         Err(_) => sheet.refuse(),
     }
 }
@@ -75,12 +93,13 @@ fn tell_in<W: Ledger + Send + Sync, L: HistoryName + Send + Sync, R: Threads + W
 fn tell_desk<W: Ledger + Send + Sync, L: HistoryName + Send + Sync, R: Threads + Wait + Sync>(
     rt: &R,
     desk: Desk<W, L>,
+    passes: Passes<L>,
     calls: &str,
     holds: bool,
     sheet: &mut Sheet,
 ) {
     let (calls, end) = calls.rsplit_once('\n').unwrap_or(("", calls));
-    let all = Mutex::new(Away::new(sheet.alloc()));
+    let all = Mutex::new(Away::new(sheet.alloc(), passes));
     let hall = tell_parts(rt, desk, &all, calls, holds, sheet);
     sheet.write(end);
     end_hall(hall, all.into_inner(), end == "close", sheet);

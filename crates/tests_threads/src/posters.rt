@@ -146,7 +146,10 @@ fn post_often<W: Ledger, L: HistoryName, R: Wait>(
     all: &Mutex<Away<L>>,
     times: usize,
 ) {
-    match hall.pass(rt) {
+    let mut away = all.lock(rt);
+    let given = hall.pass(rt, &mut away.left);
+    drop(away);
+    match given {
         Ok(own) => post_for(rt, alloc, hall, all, own, times),
         Err(fault) => {
             all.lock(rt).note_no_pass(fault);

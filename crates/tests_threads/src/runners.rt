@@ -95,7 +95,10 @@ fn run_often<W: Ledger, L: HistoryName, R: Wait>(
     all: &Mutex<Away<L>>,
     times: usize,
 ) {
-    let mut own = match hall.pass(rt) {
+    let mut away = all.lock(rt);
+    let given = hall.pass(rt, &mut away.left);
+    drop(away);
+    let mut own = match given {
         Ok(own) => own,
         Err(fault) => {
             all.lock(rt).note_no_pass(fault);

@@ -7,4 +7,4 @@ abbrev pub ghosts-tell_in-L-Ledger : goal.ghosts-tell_in-L-Ledger
 ghosts-tell_in-L-Ledger g a = record { name = a.posts.name; parts = a.posts.parts }
 
 abbrev pub ghosts-tell_in-L-HistoryName : goal.ghosts-tell_in-L-HistoryName
-ghosts-tell_in-L-HistoryName g a = record { history = a.history; beside = a.notes }
+ghosts-tell_in-L-HistoryName g a = record { history = a.history; beside = a.notes; bell = a.bell }

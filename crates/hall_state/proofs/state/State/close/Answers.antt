@@ -12,8 +12,8 @@ audit-audited-requires g c = record { ends = subst EndsInOrder (sym c.minutes.en
 -- the history is the minutes
 pub returns-in-Ok-clause-fronts : goal.returns-in-Ok-clause-fronts
 returns-in-Ok-clause-fronts g c =
-    subst (λ (l : List Entry). All (λ (p : PassOf). IsPrefix p.front l) c.args.passes.items) c.args.self.told c.show_all.ensures
+    subst (λ (l : List Entry). All (λ (p : PassOf). IsPrefix p.front l) c.args.passes.items) c.args.self.told c.show_all.ensures.fronts
 
 pub returns-clause-fronts : goal.returns-clause-fronts
 returns-clause-fronts g c =
-    subst (λ (l : List Entry). All (λ (p : PassOf). IsPrefix p.front l) c.args.passes.items) c.args.self.told c.show_all.ensures
+    subst (λ (l : List Entry). All (λ (p : PassOf). IsPrefix p.front l) c.args.passes.items) c.args.self.told c.show_all.ensures.fronts

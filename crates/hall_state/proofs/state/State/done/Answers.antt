@@ -3,7 +3,7 @@ use Rattle.std.proofs.lemmas.List.{with_items_is, places}
 use Rattle.kernel_audit.specs.Notes.{wished_in}
 use Rattle.hall_state.specs.PendingResults.{AreBeside, WasTold}
 use Rattle.hall_state.specs.declared.pending_result.PendingResult.{PendingResult}
-use Rattle.hall_state.proofs.BesidePosts.{beside_on, first_made, first_told, nowhere, nowhere_settled}
+use Rattle.hall_state.proofs.BesidePosts.{beside_on, first_made, once_told, first_told, nowhere, nowhere_settled}
 use Rattle.hall_state.proofs.state.State.done.Goals as goal
 
 pub invariant_of-self : goal.invariant_of-self
@@ -53,6 +53,24 @@ returns-then-is_first-clause-made g c =
     first_made old.settled m.minutes wished c.deref_mut.result.now c.fetch_first.new.pending_results c.args.number c.fetch_first.result
     (c.args.is_first ≡ true) b
     c.fetch_first.ensures.untold c.fetch_first.ensures.told
+
+pub returns-then-is_first-clause-once : goal.returns-then-is_first-clause-once
+returns-then-is_first-clause-once g c =
+    let old = c.args.self.now in
+    let m = old.kernel.machine in
+    let wished = wished_in old.notes in
+    let b = subst (λ (l : List PendingResult). ∥ AreBeside old.settled m.minutes wished l ∥₁) (sym c.deref_mut.ensures.value) old.beside in
+    once_told old.settled m.minutes wished c.deref_mut.result.now c.fetch_first.new.pending_results c.args.number c.fetch_first.result b
+    c.fetch_first.ensures.told
+
+pub returns-else-is_first-clause-once : goal.returns-else-is_first-clause-once
+returns-else-is_first-clause-once g c =
+    let old = c.args.self.now in
+    let m = old.kernel.machine in
+    let wished = wished_in old.notes in
+    let b = subst (λ (l : List PendingResult). ∥ AreBeside old.settled m.minutes wished l ∥₁) (sym c.deref_mut-else-is_first.ensures.value) old.beside in
+    once_told old.settled m.minutes wished c.deref_mut-else-is_first.result.now c.fetch.new.pending_results c.args.number c.fetch.result b
+    c.fetch.ensures.told
 
 pub returns-then-is_first-clause-first : goal.returns-then-is_first-clause-first
 returns-then-is_first-clause-first g c =

@@ -15,8 +15,8 @@ invariant_of-result g c =
       told = search rules;
       closes = search rules;
       open_comms = ap comms_in c.keeper-2.ensures ∙ sym c.new.ensures;
-      beside = subst (λ (w : List (List WishOf)). ∥ AreBeside 0 minutes w c.new-3.result.items ∥₁) (sym none)
-          ∣ beside_new minutes c.new-3.result.items c.requires.fresh c.new-3.ensures.items ∣₁;
+      beside = subst (λ (w : List (List WishOf)). ∥ AreBeside 0 minutes w c.new-2.result.items ∥₁) (sym none)
+          ∣ beside_new minutes c.new-2.result.items c.requires.fresh c.new-2.ensures.items ∣₁;
       results = subst (λ (w : List (List WishOf)). ∥ AreSettled 0 c.args.kernel.machine w None ∥₁) (sym none)
           ∣ settled_new c.args.kernel.machine c.requires.fresh ∣₁;
     }

@@ -20,7 +20,7 @@ answered (Err fault) k ids comms front a is legal same seen = tt
 pub returns-in-IsComplete-clause-answer : goal.returns-in-IsComplete-clause-answer
 returns-in-IsComplete-clause-answer g c =
     let k = c.deref-in-IsComplete.result.now.kernel.machine in
-    let comms = comms_in c.see.new.pass.notes in (
+    let comms = comms_in c.take_question.new.pass.notes in (
       k,
       c.seen-seen.ensures.legal,
       search rules,
@@ -29,5 +29,5 @@ returns-in-IsComplete-clause-answer g c =
 
 pub returns-in_default-clause-answer : goal.returns-in_default-clause-answer
 returns-in_default-clause-answer g c =
-    answered c.ask.result _ _ (comms_in c.see.new.pass.notes) c.see.new.pass.front c.args.ask c.ask.ensures.answer c.ask.ensures.legal (search rules)
+    answered c.ask.result _ _ (comms_in c.take_question.new.pass.notes) c.take_question.new.pass.front c.args.ask c.ask.ensures.answer c.ask.ensures.legal (search rules)
     (search rules)

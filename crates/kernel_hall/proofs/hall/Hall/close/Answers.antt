@@ -12,3 +12,6 @@ of_given (Err fault) k passes is fronts = tt
 
 pub returns-clause-fronts : goal.returns-clause-fronts
 returns-clause-fronts g c = of_given c.close.result _ c.args.passes.items c.close.ensures.minutes c.close.ensures.fronts
+
+pub returns-clause-noted : goal.returns-clause-noted
+returns-clause-noted g c = (c.into_inner.result.notes, c.close.ensures.notes)

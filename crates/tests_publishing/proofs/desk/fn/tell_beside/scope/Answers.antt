@@ -1,0 +1,17 @@
+-- What the worker's thread takes along may go there: a seat and a lent hall.
+use denote.Param.{param}
+use denote.Param.Send.{IsSend, IsSync, param_send, sendable}
+use Rattle.std.proofs.Crossing.{crosses}
+use Rattle.kernel_bell.proofs.Crosses.{RunnerSeat-send}
+use Rattle.kernel_desk.proofs.HallCrosses.{Hall-sync}
+use Rattle.tests_publishing.proofs.desk.fn.tell_beside.scope.Goals as goal
+
+pub spawn-started-requires-send-F : goal.spawn-started-requires-send-F
+spawn-started-requires-send-F g c κs h =
+    let send_W : IsSend g.row.W = search sendable depth 10 in
+    let send_L : IsSend g.row.L = search sendable depth 10 in
+    let sync_R : IsSync g.row.R = search sendable depth 10 in
+    let W = param_send 0 g.row.W send_W in
+    let L = param_send 1 g.row.L send_L in
+    let hall = Hall-sync (param 0 g.row.W) (param 1 g.row.L) g.W.Ledger g.L.HistoryName g.L.Ledger W L in
+    search (crosses, RunnerSeat-send, sendable) depth 40 fits 20000
