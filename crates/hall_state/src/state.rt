@@ -12,7 +12,7 @@ ghost use Rattle.kernel_audit.specs.CommChanges.{IsChange};
 ghost use Rattle.kernel_audit.specs.Written.{entry_of};
 ghost use Rattle.kernel_audit.specs.Notes.{wished_in, has_shutdown, comms_in, IsNotedQuestion};
 ghost use Rattle.kernel_audit.specs.declared.note.Note.TheVariants.{Asked, Changed};
-ghost use Rattle.kernel_audit.specs.Passes.{pass_of, HasSeen, AreInOneOrder, HasPosted};
+ghost use Rattle.kernel_audit.specs.Passes.{pass_of, HasSeen, AreInOneOrder, HaveOneNumbering, HasPosted};
 ghost use Rattle.hall_state.specs.Turns.{IsTurn};
 ghost use Rattle.hall_state.specs.OpenResults.{AreSettled, left_in};
 ghost use Rattle.hall_state.specs.PendingResults.{IsNewPending, IsTold, IsToldOnce, WasTold, AreKept, AreUntold, AreBeside, WereMade};
@@ -201,9 +201,10 @@ impl<W: Ledger, L: HistoryName> State<W, L> {
     }
 
     /// Shows the minutes and the notes to two passes. What each had seen is a beginning of them, so of what the two had seen one is a beginning of the other:
-    /// there is one order for both.
+    /// there is one order for both, in which a number is of one post.
     pub fn in_one_order(&mut self, a: &mut Pass<L>, b: &mut Pass<L>)
         ensures order { AreInOneOrder a.old b.old }
+        ensures numbers { HaveOneNumbering a.old b.old }
         ensures first { HasSeen a.old a.new }
         ensures second { HasSeen b.old b.new }
         ensures kernel { self.new.kernel ≡ self.old.kernel }

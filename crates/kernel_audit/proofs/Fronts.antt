@@ -7,7 +7,7 @@ use Rattle.kernel_ask.specs.Minutes.{Entry, Post, Posted, posts_of, posted_in, I
 use Rattle.kernel_ask.proofs.Posts.{posts-append}
 use Rattle.kernel_ask.specs.Wishes.{WishOf}
 use Rattle.kernel_audit.specs.declared.note.Note.{Note}
-use Rattle.kernel_audit.specs.Passes.{PassOf, AreLegal, HasSeen, AreInOneOrder, HasPosted}
+use Rattle.kernel_audit.specs.Passes.{PassOf, AreLegal, HasSeen, AreInOneOrder, HaveOneNumbering, HasPosted}
 use Rattle.kernel_audit.proofs.Noted.{wished_stays, open_before}
 
 pub prefix_map : {A B : Type 0} (f : A → B) (xs ys : List A) → IsPrefix xs ys → IsPrefix (map f xs) (map f ys)
@@ -60,6 +60,25 @@ number_stays xs ys number post p (before, after, is, numbered) = (
   ap posts_of (sym p.1) ∙ posts-append xs p.0 ∙ ap (λ (l : List Post). l ++ posts_of p.0) is ∙ append_assoc before (post ∷ after) (posts_of p.0),
   numbered,
 )
+
+-- what stands at one place of a list is one
+one_there : {A : Type 0} (before after others more : List A) (x y : A) → before ++ x ∷ after ≡ others ++ y ∷ more → length before ≡ length others → x ≡ y
+one_there [] after [] more x y is many = ap (head_or x) is
+one_there [] after (z ∷ others) more x y is many = absurd (omega (arith, many))
+one_there (z ∷ before) after [] more x y is many = absurd (omega (arith, many))
+one_there (z ∷ before) after (u ∷ others) more x y is many = one_there before after others more x y (ap tail_of is) (omega (arith, many))
+
+one_numbered : (xs : List Entry) (n : ℕ) (post other : Post) → IsNumberOf xs n post → IsNumberOf xs n other → post ≡ other
+one_numbered xs n post other (before, after, is, numbered) (others, more, are, same) =
+    one_there before after others more post other (sym is ∙ are) (omega (arith, numbered, same))
+
+-- so a number is of one post, whoever has seen it
+pub one_numbering : (a b : PassOf) → AreInOneOrder a b → HaveOneNumbering a b
+one_numbering a b order = λ n post other p q.
+    ⊎_elim
+    (λ begins. one_numbered b.front n post other (number_stays a.front b.front n post begins p) q)
+    (λ begins. one_numbered a.front n post other p (number_stays b.front a.front n other begins q))
+    order.fronts
 
 -- what was posted last has the highest number
 pub number_of_last : (xs : List Entry) (lane : ℕ) (job : Request)

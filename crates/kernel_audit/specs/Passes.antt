@@ -1,7 +1,7 @@
 -- What contracts see of a pass, what it sees and posts, and the tickets of its posts.
 use Rattle.std.specs.Prelude.{◌≡◌, ◌⊎◌, ◌<◌, ℕ, ◌+◌, ◌-◌, false, List, Some, slice_get}
 use mathlib.Core.List.{IsPrefix}
-use Rattle.kernel_ask.specs.Minutes.{Entry, IsNumberOf, posted_in}
+use Rattle.kernel_ask.specs.Minutes.{Entry, Post, IsNumberOf, posted_in}
 use Rattle.kernel_ask.specs.Request.{Request}
 use Rattle.kernel_ask.specs.Runs.{Machine}
 use Rattle.kernel_ask.specs.LegalMinutes.{IsLegalMachine}
@@ -36,6 +36,10 @@ pub record HasSeen (old new : PassOf) : Type 0 where
 pub record AreInOneOrder (a b : PassOf) : Type 0 where
   pub fronts : IsPrefix a.front b.front ⊎ IsPrefix b.front a.front
   pub notes : IsPrefix a.notes b.notes ⊎ IsPrefix b.notes a.notes
+
+-- A number of which both have seen the post is of one post, with one lane: so passes on two lanes have no number together.
+abbrev pub HaveOneNumbering : PassOf → PassOf → Type 0
+HaveOneNumbering a b = (n : ℕ) (post other : Post) → IsNumberOf a.front n post → IsNumberOf b.front n other → post ≡ other
 
 -- these wishes are noted of the post with this number
 abbrev pub IsWished : List Note → ℕ → List WishOf → Type 0

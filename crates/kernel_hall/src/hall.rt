@@ -8,7 +8,7 @@ ghost use Rattle.hall_state.specs.Minutes.{posted_in};
 ghost use Rattle.hall_state.specs.Request.{request_of};
 ghost use Rattle.hall_state.specs.Notes.{wished_in, has_shutdown, comms_in, IsNotedQuestion, IsNotedChange};
 ghost use Rattle.hall_state.specs.note.Note.{Note};
-ghost use Rattle.hall_state.specs.Passes.{ticket_of, AreLegal, HasSeen, AreInOneOrder, HasPosted};
+ghost use Rattle.hall_state.specs.Passes.{ticket_of, AreLegal, HasSeen, AreInOneOrder, HaveOneNumbering, HasPosted};
 ghost use Rattle.hall_state.specs.PendingResults.{WereMade, IsToldOnce};
 ghost use Rattle.hall_state.specs.Turns.{IsTurn};
 ghost use Rattle.hall_state.specs.declared.limit.TheConstants.{PASSES, PARTS_OF_POSTS};
@@ -359,9 +359,10 @@ impl<W: Ledger, L: HistoryName> Hall<W, L> {
     }
 
     /// Shows the minutes and the notes to two passes, of any two frontends. Of what the two had seen one is a beginning of the other: there is one order for
-    /// both, of the posts and ends and of what is noted beside them.
+    /// both, of the posts and ends and of what is noted beside them, and a number is of one post.
     pub fn in_one_order<R: Wait>(&self, rt: &R, a: &mut Pass<L>, b: &mut Pass<L>)
         ensures order { AreInOneOrder a.old b.old }
+        ensures numbers { HaveOneNumbering a.old b.old }
         ensures first { HasSeen a.old a.new }
         ensures second { HasSeen b.old b.new }
     {

@@ -26,13 +26,15 @@ impl<'a, W: Ledger, L: HistoryName> Worker<'a, W, L> {
     /// Takes turns until the hall is shut.
     pub fn serve<R: Wait>(self, rt: &R) {
         let Worker { hall, seat } = self;
-        work(hall, rt, seat, &mut Open);
+        let mut gate = OpenGate;
+        work(hall, rt, seat, &mut gate);
     }
 }
 
 /// A gate that holds nobody.
-struct Open;
+#[derive(Drop)]
+struct OpenGate;
 
-impl Gate for Open {
+impl Gate for OpenGate {
     fn pass(&mut self, _moment: Moment) {}
 }
