@@ -60,9 +60,9 @@ def signed(msg_type, content, msg_id, key=KEY):
 
 
 class Kernel:
-    """A kernel of its own, with its five ports."""
+    """A kernel of its own, with its five ports. Words may stand before the program, by which it is run."""
 
-    def __init__(self, program, folder, errors=None):
+    def __init__(self, program, folder, errors=None, before=()):
         free = [socket.socket() for _ in PORTS]
         for it in free:
             it.bind(("127.0.0.1", 0))
@@ -72,7 +72,7 @@ class Kernel:
         self.path = f"{folder}/{self.ports[0]}.json"
         with open(self.path, "w", encoding="utf-8") as it:
             json.dump({"transport": "tcp", "ip": "127.0.0.1", "key": KEY.decode(), "signature_scheme": "hmac-sha256", **dict(zip(PORTS, self.ports))}, it)
-        self.process = subprocess.Popen([program, self.path], stdout=subprocess.PIPE, stderr=errors)
+        self.process = subprocess.Popen([*before, program, self.path], stdout=subprocess.PIPE, stderr=errors)
         if self.process.stdout.readline() != b"ready\n":
             raise SystemExit("the kernel did not start")
 
