@@ -22,9 +22,7 @@ ghost use Rattle.hall_state.specs.declared.pending_result.PendingResult.{Pending
 ghost use Rattle.kernel_audit.specs.Ends.{HasEnd};
 ghost use Rattle.kernel_audit.specs.Audit.{Audited, IsAuditFault};
 
-use crate::history::{
-    follow, note_comms, note_question, note_shutdown, note_wishes, show_all,
-};
+use crate::history::{follow, note_comms, note_question, note_shutdown, note_wishes, show_all};
 use crate::limit::WISHES_OF_A_PIECE;
 use crate::minutes::Minutes;
 use crate::open_result::OpenResult;

@@ -3,7 +3,7 @@
 //! `cell` (a code) has a cell run; each gives the outcome, or why the job is refused. `state` gives how many minutes the answer has seen, and the shown world.
 //! `open` and `close` (an id) open and close a comm, and tell whether they did; `comms` gives those that are open. A call is made at the first desk,
 //! or behind the word `second` at the other one. Behind the last row the kernel is shut, and the worker ends.
-ghost use Rattle.std.specs.Prelude.{◌≡◌, ◌<◌, IfOk, All};
+ghost use Rattle.std.specs.Prelude.{◌≡◌, ◌<◌, IfOk};
 
 use crate::worker::Worker;
 use kernel_bell::{Bell, RingerSeat, RunnerSeat};
@@ -15,12 +15,11 @@ use kernel_desk::{
 use kernel_iopub::Bulletin;
 use std::alloc::{AllocError, Global};
 use std::marker::Brand;
-use std::str;
 use std::sync::Wait;
 use std::sync::ledger::{Blank, Ledger};
-use std::thread;
 use std::thread::Threads;
 use std::time::Clock;
+use std::{str, thread};
 use tests_rows::{Sheet, cut};
 
 /// Writes the calls at two desks before a hall of their own with their answers.
@@ -34,9 +33,12 @@ pub(crate) fn tell<R: Threads + Wait + Clock + Sync>(rt: &R, calls: &str, sheet:
 /// Writes the calls at two desks before a hall of their own with their answers.
 fn tell_owned<R: Threads + Wait + Clock + Sync>(rt: &R, calls: String, sheet: &mut Sheet) {
     let alloc = sheet.alloc();
-    let Ok((bell, runner, ringers)) = Bell::new(alloc, 2) else {
+    let Ok((bell, runner, mut ringers)) = Bell::new(alloc, 2) else {
         sheet.refuse();
         return;
+    };
+    let (Some(second), Some(first)) = (ringers.pop(), ringers.pop()) else {
+        unreachable!()
     };
     match (NewHistory::new(alloc), NewHistory::new(alloc)) {
         (Ok(history), Ok(notes)) => {
@@ -48,7 +50,8 @@ fn tell_owned<R: Threads + Wait + Clock + Sync>(rt: &R, calls: String, sheet: &m
                 notes,
                 bell,
                 runner,
-                ringers,
+                first,
+                second,
                 calls,
                 sheet,
             );
@@ -80,11 +83,7 @@ fn new_hall<W: Ledger, L: HistoryName>(
 }
 
 /// Writes the calls at two desks with their answers, before a hall over these ledgers.
-fn tell_in<
-    W: Ledger + Send + Sync,
-    L: HistoryName + Send + Sync,
-    R: Threads + Wait + Clock + Sync,
->(
+fn tell_in<W: Ledger + Send + Sync, L: HistoryName + Send + Sync, R: Threads + Wait + Clock + Sync>(
     rt: &R,
     writes: Blank,
     posts: Blank,
@@ -92,7 +91,8 @@ fn tell_in<
     notes: NewHistory<Note>,
     bell: Bell,
     runner: RunnerSeat,
-    ringers: Vec<RingerSeat>,
+    first: RingerSeat,
+    second: RingerSeat,
     calls: String,
     sheet: &mut Sheet,
 )
@@ -102,12 +102,13 @@ fn tell_in<
     requires notes { notes ≡ L.beside }
     requires bell { bell ≡ L.bell }
     requires runner { runner.bell ≡ bell }
-    requires ringers { All (λ seat. seat.bell ≡ bell) ringers.items }
+    requires first { first.bell ≡ bell }
+    requires second { second.bell ≡ bell }
 {
     match new_hall::<W, L>(sheet.alloc(), writes, posts, history, notes, bell) {
         Ok((hall, passes)) => {
             let worker = Worker::new(&hall, runner);
-            sit_down(rt, worker, passes, ringers, &calls, sheet);
+            sit_down(rt, worker, passes, first, second, &calls, sheet);
             hall.discard();
         }
         Err(_) => sheet.refuse(),
@@ -123,19 +124,17 @@ fn sit_down<
     rt: &R,
     worker: Worker<'_, W, L>,
     mut passes: Passes<L>,
-    mut ringers: Vec<RingerSeat>,
+    first: RingerSeat,
+    second: RingerSeat,
     calls: &str,
     sheet: &mut Sheet,
 )
-    requires { All (λ seat. seat.bell ≡ worker.hall.now) ringers.items }
+    requires first { first.bell ≡ worker.hall.now }
+    requires second { second.bell ≡ worker.hall.now }
 {
     let hall = worker.hall;
     let Ok(bulletin) = Bulletin::new(sheet.alloc(), 1) else {
         sheet.refuse();
-        return;
-    };
-    let (Some(second), Some(first)) = (ringers.pop(), ringers.pop()) else {
-        sheet.write("no seat");
         return;
     };
     match (hall.pass(rt, &mut passes), hall.pass(rt, &mut passes)) {
