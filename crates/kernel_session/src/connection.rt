@@ -56,6 +56,13 @@ fn stop(fault: PeerFault) -> ServeFault
     }
 }
 
+/// Tells whether the partner answers pings, once its greeting has come: whether it speaks ZMTP 3.1 or later.
+fn introduce<V: Watcher>(peer: &Peer, watcher: &V) {
+    if let Some(greeting) = peer.partner() {
+        watcher.meet(greeting.major > 3 || greeting.minor >= 1);
+    }
+}
+
 /// Takes the next piece of what the peer sends.
 fn advance<W: Write, D: Desk, V: Watcher>(
     alloc: Global,
@@ -81,6 +88,7 @@ fn advance<W: Write, D: Desk, V: Watcher>(
         Ok(events) => events,
         Err(fault) => return Err(stop(fault)),
     };
+    introduce(peer, watcher);
     let flow = match take_all(
         alloc,
         socket,
@@ -205,7 +213,8 @@ fn send_opening<W: Write>(writer: &mut W, peer: &Peer) -> Result<(), ServeFault>
 ///
 /// The watcher is told that the handshake is over once it is; of each message on shell and control that it is signed, once its signature was found
 /// right and before anything is done for it; that a request is under way before the first call for it, and that it is done behind its reply; that a
-/// message was sent back, or a ping answered, once all its octets are out. It is told nothing else, and nothing twice.
+/// message was sent back, or a ping answered, once all its octets are out. It is told nothing else, and nothing twice, but for whether the
+/// partner answers pings, with each piece that comes behind its greeting.
 ///
 /// # Errors
 ///
