@@ -1,4 +1,7 @@
 //! The places of a socket.
+ghost use Rattle.std.specs.Prelude.{◌≡◌, ◌+◌, ◌≤◌};
+ghost use Rattle.kernel_places.specs.Sockets.{places_on, first_on};
+
 use kernel_desk::Socket;
 
 /// The most connections that are served at once on one socket, but for orphans: those whose peer has hung up while their request is under way.
@@ -19,7 +22,9 @@ pub const ALL_PLACES: u64 = 192;
 const _: () = prove!(ALL_PLACES == (DESKS as u64) + 3 * (PLACES as u64));
 
 /// How many places a socket has.
-pub(crate) fn places_of(socket: Socket) -> usize {
+pub(crate) fn places_of(socket: Socket) -> usize
+    ensures { result ≡ places_on socket }
+{
     match socket {
         Socket::Shell => SHELL_PLACES,
         Socket::Iopub | Socket::Stdin | Socket::Control | Socket::Heartbeat => PLACES,
@@ -36,7 +41,10 @@ pub(crate) struct Place {
 
 impl Place {
     /// The first place of a socket.
-    pub fn first(socket: Socket) -> Place {
+    pub fn first(socket: Socket) -> Place
+        ensures socket { result.socket ≡ socket }
+        ensures index { result.index ≡ first_on socket }
+    {
         let index = match socket {
             Socket::Shell | Socket::Iopub => 0,
             Socket::Control => SHELL_PLACES,
@@ -47,7 +55,10 @@ impl Place {
     }
 
     /// The place that is `count` behind this one.
-    pub fn behind(self, count: usize) -> Place {
+    pub fn behind(self, count: usize) -> Place
+        ensures socket { result.socket ≡ self.socket }
+        ensures index { self.index + count ≤ usize.MAX → result.index ≡ self.index + count }
+    {
         Place {
             socket: self.socket,
             index: self.index.saturating_add(count),

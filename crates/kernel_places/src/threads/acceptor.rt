@@ -65,7 +65,7 @@ fn make_room<R: Wait + Clock>(rt: &R, connections: &Connections, socket: Socket,
     let (first, count) = (Place::first(socket).index, places_of(socket));
     let octets = ping();
     let ping = Ping {
-        octets: &octets,
+        octets: octets.as_slice(),
         message: times.message,
     };
     let now = milliseconds(rt);

@@ -121,15 +121,8 @@ impl<W: Ledger, L: HistoryName, R: Runtime> Host<'_, W, L, R> {
         match self {
             Host::Desk(desk) => converse(rt, service, desk, place, stream, number, allowance),
             Host::Quiet => {
-                converse(
-                    rt,
-                    service,
-                    &mut QuietDesk,
-                    place,
-                    stream,
-                    number,
-                    allowance,
-                )
+                let mut desk = QuietDesk;
+                converse(rt, service, &mut desk, place, stream, number, allowance)
             }
             Host::Board => supply(rt, service, place.index, stream, allowance),
         }

@@ -110,6 +110,24 @@ fn start_places<
     true
 }
 
+/// Starts the places of iopub, none of which has a desk. False where a thread could not be made.
+fn start_subscribed<
+    's,
+    E,
+    W: Ledger + Send + Sync,
+    L: HistoryName + Send + Sync,
+    S: Ledger + Send + Sync,
+    R: Runtime,
+>(
+    scope: &Scope<'s, E>,
+    rt: &'s R,
+    service: &'s Service<W, L, S>,
+    listeners: &'s Listeners,
+) -> bool {
+    let mut none: Vec<HallDesk<'s, W, L, R>> = Vec::new(service.alloc);
+    start_places(scope, rt, service, listeners, Socket::Iopub, &mut none)
+}
+
 /// Starts the worker. False where its thread could not be made; then there is none that has to come to its end.
 fn start_worker<
     's,
@@ -289,8 +307,7 @@ pub fn serve_all<
         return Err(AllocError);
     };
     let is_started = thread::scope(thread::scope_env(), rt, |scope| {
-        let mut none = Vec::new(service.alloc);
-        let is_started = if start_places(scope, rt, service, listeners, Socket::Iopub, &mut none) {
+        let is_started = if start_subscribed(scope, rt, service, listeners) {
             serve_callers(rt, service, listeners, worker, desks, watcher, out, err)
         } else {
             end_all(rt, service, listeners);
