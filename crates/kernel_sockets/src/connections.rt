@@ -82,7 +82,7 @@ impl Connections {
     }
 
     /// Ends the connection at one of `count` places from `first` on that has to make room, if one has to, by what is seen of the places under the lock:
-    /// what `Register::make_room` does of the register there. If none has to, the peer at one of them is pinged that is silent, if one is to be: what
+    /// what `Register::make_room` does of the register there. If none has to, the peers there are pinged that are to be, one after another: what
     /// `Register::ask` does. It takes no memory.
     pub fn make_room<R: Wait>(
         &self,
@@ -95,8 +95,14 @@ impl Connections {
     ) {
         let mut register = self.register.lock(rt);
         let ended = register.make_room(&self.presences, first, count, stays, now);
-        if ended.is_none() {
-            let _asked = register.ask(rt, &self.presences, first, count, stays, now, ping);
+        if ended.is_some() {
+            return;
+        }
+        for _ in 0..count {
+            let asked = register.ask(rt, &self.presences, first, count, stays, now, ping);
+            if asked.is_none() {
+                return;
+            }
         }
     }
 
