@@ -6,9 +6,9 @@
 //! the file `stdin`, the rows with their answers in the file `stdout`, in the form of `tests_rows`. A block of `3.0` or `3.1` has a kernel
 //! of its own and frontends of that version, one of `reach` has frontends of 3.1 and a kernel that listens at all addresses, one of `brief` has
 //! frontends of 3.1 and a kernel of which an owner who is silent for 200 milliseconds makes room, once a ping has not been answered for 500, one of
-//! `older` such a kernel and frontends of 3.0, one of `hasty` frontends of 3.1 frontends and a kernel of which
-//! handshakes and messages take a second at most and whose silent subscribers stay for 300 milliseconds, and the rows of any other block need no kernel. What
-//! may stand in them is said by `with_kernel` and by `without_kernel`.
+//! `older` such a kernel and frontends of 3.0, one of `hasty` frontends of 3.1 and a kernel of which handshakes and messages take a second at most and whose
+//! silent subscribers stay for 300 milliseconds, and the rows of any other block need no kernel. What may stand in them is said by `with_kernel` and by
+//! `without_kernel`.
 #![tactic(auto)]
 
 mod content;
