@@ -5,6 +5,7 @@ ghost use Rattle.zmtp_peer.specs.Events.{Event};
 ghost use Rattle.zmtp_peer.specs.Faults.{fault_of, want_of_memory};
 ghost use Rattle.zmtp_peer.specs.Opening.{opening_of};
 ghost use Rattle.zmtp_peer.specs.Reading.{Stands, Brings, Awaiting, ending_of};
+ghost use Rattle.zmtp_peer.specs.Terms.{is_newer};
 ghost use Rattle.kernel_board.specs.Frames.{Frames};
 ghost use Rattle.exact_write.specs.Sent.{SentSome};
 ghost use Rattle.kernel_session.specs.Action.{Action, Acts, sends};
@@ -27,7 +28,7 @@ use kernel_watch::Watcher;
 use std::alloc::Global;
 use std::io::{Read, Write};
 use zmtp_peer::{Peer, PeerFault, octets_have_one_reading_law};
-use zmtp_wire::WireFault;
+use zmtp_wire::{Greeting, WireFault};
 
 /// The most octets that are read at once.
 const READ_OCTETS: usize = 8192;
@@ -56,10 +57,17 @@ fn stop(fault: PeerFault) -> ServeFault
     }
 }
 
-/// Tells whether the partner answers pings, once its greeting has come: whether it speaks ZMTP 3.1 or later.
+/// Whether a partner of this greeting answers pings: whether it speaks ZMTP 3.1 or later.
+fn answers_pings(greeting: Greeting) -> bool
+    ensures { result ≡ is_newer greeting.major greeting.minor }
+{
+    greeting.major > 3 || (greeting.major == 3 && greeting.minor >= 1)
+}
+
+/// Tells whether the partner answers pings, once its greeting has come.
 fn introduce<V: Watcher>(peer: &Peer, watcher: &V) {
     if let Some(greeting) = peer.partner() {
-        watcher.meet(greeting.major > 3 || greeting.minor >= 1);
+        watcher.meet(answers_pings(greeting));
     }
 }
 
