@@ -40,7 +40,8 @@
 //! comes, no contract can say.
 //!
 //! The crate has three rooms. `decisions` has plain values and what is decided by them: `entrance`, who is let in at a socket; `places`, how many there are;
-//! `sockets` and `times`, the rules of each socket and its times. Who has to leave, who is pinged and what a stranger may bring `kernel_sockets` decides.
+//! `sockets` and `times`, the rules of each socket (specs/Sockets.antt) and its times. Who has to leave, who is pinged and what of a stranger is counted
+//! `kernel_sockets` decides.
 //! `streams` are those of a connection: `reader`, on which it comes within the time of its handshake, and `writer`, on which answers go out within their
 //! deadline; `witness` notes what is told of it, and `clock` tells the time. `threads` has the life of all threads, in the order in which a connection passes
 //! them: `listeners`, where it comes; `acceptor`, who accepts it and has others make room; `door`, where it waits for a place; `attending`, its place; `host`,
