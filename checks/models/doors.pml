@@ -83,7 +83,7 @@ proctype Acceptor(byte me; byte d) {
 #endif
             :: DOOR(0) == d && is_served[0] -> has_to_end[0] = true
             :: DOOR(1) == d && is_served[1] -> has_to_end[1] = true
-            :: skip
+            :: skip                                     /* nobody has to, or a place is about to take who waits: Door::is_awaited */
             fi;
             is_awaited = !has_next[d]                   /* Door::wait_until_free: for ten milliseconds at most */
         od;
@@ -126,13 +126,13 @@ proctype Place(byte me) {
             fi;
             atomic { is_served[me] = false; was_relieved = is_relieved[me]; is_relieved[me] = false };      /* Connections::leave */
             if
-            :: !stays -> set_ending()                   /* requests::attend: HallDesk::was_shut */
+            :: !stays -> set_ending()                   /* attending::attend: Host::was_shut */
             :: skip
             fi;
             stays = false
         fi;
 #if DOORS == 1
-        if                                              /* requests::attend_to */
+        if                                              /* attending::attend_to */
         :: was_relieved -> skip
         :: !was_relieved -> admit()
         fi

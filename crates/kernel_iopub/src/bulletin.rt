@@ -1,5 +1,5 @@
 //! The broadcasts of a kernel, and who waits for more.
-ghost use Rattle.std.specs.Prelude.{IfOk};
+ghost use Rattle.std.specs.Prelude.{◌≡◌, ◌≤◌, IfNone, IfOk, length};
 ghost use Rattle.kernel_board.specs.Log.{Log, IsLog};
 ghost use Rattle.kernel_board.specs.Reads.{IsRead};
 
@@ -21,7 +21,9 @@ impl Bulletin {
     /// # Errors
     ///
     /// `AllocError` where there is no memory.
-    pub fn new(alloc: Global, places: usize) -> Result<Bulletin, AllocError> {
+    pub fn new(alloc: Global, places: usize) -> Result<Bulletin, AllocError>
+        ensures places { IfOk result (λ b. length b.signals.items ≡ places) }
+    {
         let board = Board::new(alloc)?;
         let signals = signals_of(alloc, places)?;
         Ok(Bulletin { board, signals })
@@ -68,13 +70,17 @@ impl Bulletin {
     }
 
     /// The signals of the subscriber at a place, if there is such a place.
-    pub fn signals(&self, place: usize) -> Option<&Signals> {
+    pub fn signals(&self, place: usize) -> Option<&Signals>
+        ensures { IfNone result (length self.now.signals.items ≤ place) }
+    {
         self.signals.get(place)
     }
 }
 
 /// The signals of a number of places at which no subscriber has been yet.
-fn signals_of(alloc: Global, places: usize) -> Result<Vec<Signals>, AllocError> {
+fn signals_of(alloc: Global, places: usize) -> Result<Vec<Signals>, AllocError>
+    ensures { IfOk result (λ signals. length signals.items ≡ places) }
+{
     let mut signals = Vec::with_capacity(alloc, places)?;
     for _ in 0..places {
         signals.push(Signals::new())?;

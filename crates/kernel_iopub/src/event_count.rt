@@ -28,7 +28,8 @@ impl EventCount {
         self.count.load(Ordering::SeqCst)
     }
 
-    /// There is something to look at: what was done before is seen by each who looks after the count has risen. It takes a lock only if a thread waits, or is about to.
+    /// There is something to look at: what was done before is seen by each who looks after the count has risen. It takes a lock only if a thread waits, or is
+    /// about to.
     pub fn raise<R: Wait>(&self, rt: &R) {
         let _before = self.count.fetch_add(1, Ordering::SeqCst);
         if self.is_awaited.load(Ordering::SeqCst) {
@@ -37,7 +38,7 @@ impl EventCount {
         }
     }
 
-    /// Waits until the count is another one than was seen.
+    /// Waits until the count is another one than was seen. It takes the lock once, and once more as it wakes.
     pub fn wait_past<R: Wait>(&self, rt: &R, seen: u64) {
         let gate = self.gate.lock(rt);
         // Who raises the count after the next look sees this.

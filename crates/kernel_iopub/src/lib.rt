@@ -5,7 +5,7 @@
 //! its writing half has something to look at. Who published wakes those that read the board, a reading half its own writing half alone, and who ends the
 //! kernel all of them: each does so first and then raises the count, and who waits takes the count, looks at everything, and waits until the count is another
 //! one. So no waking is lost, and nobody polls. No lock is taken for one that is awake. On its way to its answer a ping takes the subscriber's lock twice, as
-//! it is heard and as the writing half takes it, and in between that of the count, if the writing half sleeps.
+//! it is heard and as the writing half takes it, and if that sleeps the count's lock twice in between, as it is raised and as the writing half wakes.
 //!
 //! [`serve_subscriber`] is a connection, over any reader and writer. The peer joins the board as it is ready; one that falls behind what
 //! the board keeps is disconnected.

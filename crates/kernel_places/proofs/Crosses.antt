@@ -8,10 +8,10 @@ use Rattle.kernel_desk.proofs.HallCrosses.{Hall-sync}
 use Rattle.kernel_desk.specs.HistoryNames as HistoryName
 use Rattle.kernel_iopub.proofs.Crosses.{Bulletin-sync}
 use Rattle.kernel_sockets.proofs.Crosses.{Connections-sync, Listener-sync, Hangups-send, Strangers-sync}
-use Rattle.kernel_places.specs.contracts.latch.Latch as Latch
-use Rattle.kernel_places.specs.contracts.places.Listeners as Listeners
-use Rattle.kernel_places.specs.contracts.door.Door as Door
-use Rattle.kernel_places.specs.contracts.service.Service as Service
+use Rattle.kernel_places.specs.contracts.threads.latch.Latch as Latch
+use Rattle.kernel_places.specs.contracts.threads.listeners.Listeners as Listeners
+use Rattle.kernel_places.specs.contracts.threads.door.Door as Door
+use Rattle.kernel_places.specs.contracts.threads.service.Service as Service
 
 pub Listeners-sync : IsSync (Listeners.the_field).row
 Listeners-sync = search (crosses, Listener-sync, Hangups-send, sendable) depth 60 fits 20000

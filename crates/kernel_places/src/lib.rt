@@ -12,15 +12,16 @@
 //! on which no signed request came that the kernel serves, if 200 milliseconds ago; on stdin, iopub and the heartbeat, where nothing is
 //! signed, the one that has been silent longest, and for a minute at least: nothing came on it, and it took nothing. Where there is none of these either,
 //! it is who showed the key and has been silent longest, for ten minutes at least with no request under way: a connection whose peer is gone without a
-//! word keeps nobody out for ever. Where none of the 32 has to, the next one waits.
+//! word keeps nobody out for ever. One whose partner speaks ZMTP 3.1 is pinged then (`kernel_sockets::who_is_pinged`), and makes room only if nothing comes
+//! from it for a minute. Where none of the 32 has to, the next one waits.
 //!
 //! What strangers send is counted before it is kept (`kernel_sockets::Strangers`): until a message signed under the key came on shell and control,
 //! until a message was sent back on the heartbeat, and as long as the connection is there on iopub and stdin, but for pings that were answered. One by
 //! which they would hold too much ends. Each place has an allowance, and has it again behind each connection.
 //!
 //! Nobody reads these facts from octets: who serves a connection tells them to the [`Watcher`](kernel_watch::Watcher) that it is lent, which notes them at
-//! the connection's place: that the handshake is over, that a message is signed, that a request is under way and that it is done, that a message was sent
-//! back, and how many octets a ping had that was answered.
+//! the connection's place: that the handshake is over, whether the partner answers pings, that a message is signed, that a request is under way and that it is
+//! done, that a message was sent back, and how many octets a ping had that was answered.
 //!
 //! A read or a write that a signal interrupted is begun anew, with its time, so a process that was stopped and goes on loses no connection.
 //!
@@ -38,41 +39,33 @@
 //! that nothing of a connection is counted behind its end (the type of `Allowance`): that a thread runs, a connection is served or an end
 //! comes, no contract can say.
 //!
-//! The files, in the order in which a connection passes them: `acceptor` accepts it and has others make room, `door` is where it waits for a place,
-//! `places` has the places and the listeners, `requests` serves it on shell, control, stdin and heartbeat, `publishing` on iopub; `reader`
-//! is the stream on which it comes, `writer` that on which its answers go out, `witness` notes what is told of it, `sockets` and `time` have the rules of
-//! each socket and its times. `task` is what a thread
-//! does, `worker` runs the cells, `latch` is what all threads look at, `service` has all that they share, `start` starts and ends them,
-//! and `warning` tells which limits are near.
+//! The crate has three rooms. `decisions` has plain values and what is decided by them: `entrance`, who is let in at a socket; `places`, how many there are;
+//! `sockets` and `times`, the rules of each socket (specs/Sockets.antt) and its times. Who has to leave, who is pinged and what of a stranger is counted
+//! `kernel_sockets` decides.
+//! `streams` are those of a connection: `reader`, on which it comes within the time of its handshake, and `writer`, on which answers go out within their
+//! deadline; `witness` notes what is told of it, and `clock` tells the time. `threads` has the life of all threads, in the order in which a connection passes
+//! them: `listeners`, where it comes; `acceptor`, who accepts it and has others make room; `door`, where it waits for a place; `attending`, its place; `host`,
+//! by which it is served there. `worker` runs the cells, `task` is what a thread does, `latch` what all of them look at, `service` what they share; `start`
+//! starts and ends them, `runtime` is what they are handed, and `warning` tells which limits are near.
 //!
 //! It gives again what a program needs to start it: the kernel, the hall and the comms that it makes.
 //!
 //! By what is noted at a place `kernel_sockets::Account` promises that of who showed the key no octets are counted, and that a stranger's may be kept only if
-//! they are counted. That none are kept before it is asked is no clause's. When the watcher is told `kernel_session::serve` and `kernel_iopub` promise; that
-//! what it is told is noted at the place is tested. `serve_all` has a condition alone.
+//! they are counted. That none are kept before it is asked is no clause's. A ping is written by the acceptor, while the place waits for what comes and so
+//! writes nothing (`Presence::listen`); that it stays out of messages is no clause's either. When the watcher is told `kernel_session::serve` and
+//! `kernel_iopub` promise; that what it is told is noted at the place is tested. `serve_all` has a condition alone.
 #![tactic(auto)]
 
-mod acceptor;
-mod door;
-mod latch;
-mod places;
-mod publishing;
-mod reader;
-mod requests;
-mod service;
-mod sockets;
-mod start;
-mod task;
-mod time;
-mod warning;
-mod witness;
-mod worker;
-mod writer;
+mod decisions;
+mod streams;
+mod threads;
 
+pub use decisions::places::{ALL_PLACES, DESKS, PLACES};
+pub use decisions::times::Times;
 pub use kernel_desk::{
     Comms, Entry, Hall, HistoryName, Kernel, NewHistory, Note, PARTS_OF_POSTS, Passes,
 };
-pub use places::{ALL_PLACES, DESKS, Listeners, PLACES};
-pub use service::Service;
-pub use start::{Seats, serve_all};
-pub use time::Times;
+pub use threads::listeners::Listeners;
+pub use threads::runtime::Runtime;
+pub use threads::service::Service;
+pub use threads::start::{Seats, serve_all};

@@ -5,6 +5,7 @@ ghost use Rattle.zmtp_peer.specs.Events.{Event};
 ghost use Rattle.zmtp_peer.specs.Faults.{fault_of, want_of_memory};
 ghost use Rattle.zmtp_peer.specs.Opening.{opening_of};
 ghost use Rattle.zmtp_peer.specs.Reading.{Stands, Brings, Awaiting, ending_of};
+ghost use Rattle.zmtp_peer.specs.Terms.{is_newer};
 ghost use Rattle.kernel_board.specs.Frames.{Frames};
 ghost use Rattle.exact_write.specs.Sent.{SentSome};
 ghost use Rattle.kernel_session.specs.Action.{Action, Acts, sends};
@@ -27,7 +28,7 @@ use kernel_watch::Watcher;
 use std::alloc::Global;
 use std::io::{Read, Write};
 use zmtp_peer::{Peer, PeerFault, octets_have_one_reading_law};
-use zmtp_wire::WireFault;
+use zmtp_wire::{Greeting, WireFault};
 
 /// The most octets that are read at once.
 const READ_OCTETS: usize = 8192;
@@ -56,6 +57,20 @@ fn stop(fault: PeerFault) -> ServeFault
     }
 }
 
+/// Whether a partner of this greeting answers pings: whether it speaks ZMTP 3.1 or later.
+fn answers_pings(greeting: Greeting) -> bool
+    ensures { result ≡ is_newer greeting.major greeting.minor }
+{
+    greeting.major > 3 || (greeting.major == 3 && greeting.minor >= 1)
+}
+
+/// Tells whether the partner answers pings, once its greeting has come.
+fn introduce<V: Watcher>(peer: &Peer, watcher: &V) {
+    if let Some(greeting) = peer.partner() {
+        watcher.meet(answers_pings(greeting));
+    }
+}
+
 /// Takes the next piece of what the peer sends.
 fn advance<W: Write, D: Desk, V: Watcher>(
     alloc: Global,
@@ -81,6 +96,7 @@ fn advance<W: Write, D: Desk, V: Watcher>(
         Ok(events) => events,
         Err(fault) => return Err(stop(fault)),
     };
+    introduce(peer, watcher);
     let flow = match take_all(
         alloc,
         socket,
@@ -205,7 +221,8 @@ fn send_opening<W: Write>(writer: &mut W, peer: &Peer) -> Result<(), ServeFault>
 ///
 /// The watcher is told that the handshake is over once it is; of each message on shell and control that it is signed, once its signature was found
 /// right and before anything is done for it; that a request is under way before the first call for it, and that it is done behind its reply; that a
-/// message was sent back, or a ping answered, once all its octets are out. It is told nothing else, and nothing twice.
+/// message was sent back, or a ping answered, once all its octets are out. It is told nothing else, and nothing twice, but for whether the
+/// partner answers pings, with each piece that comes behind its greeting.
 ///
 /// # Errors
 ///

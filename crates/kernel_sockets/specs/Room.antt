@@ -1,5 +1,6 @@
 -- Who makes room where all places of a socket are taken and another connection waits.
-use Rattle.std.specs.Prelude.{◌≡◌, ℕ, ◌+◌, ◌<◌, ◌≤◌, false, IsTrue, List, length, slice_get, Option, Some, None, if◌then◌else◌}
+use Rattle.std.specs.Prelude.{◌≡◌, ℕ, ◌+◌, ◌-◌, ◌<◌, ◌≤◌, Bool, false, not, ◌&&◌, nat_lt, nat_le, IsTrue, if◌then◌else◌}
+use Rattle.std.specs.Prelude.{List, length, slice_get, Option, Some, None}
 use Rattle.kernel_sockets.specs.declared.room.Sight.{Sight}
 use Rattle.kernel_sockets.specs.declared.room.Stays.{Stays}
 
@@ -19,9 +20,21 @@ stay_of stays s = if s.is_trusted then stays.owner else (if s.is_ready then stay
 abbrev pub IsUnderWay : Sight → Type 0
 IsUnderWay s = IsTrue s.is_trusted × (s.is_resting ≡ false)
 
--- who may have to make room: whose time is over, and no request of who showed the key is under way
+-- it was pinged, had its time to answer, and nothing came since
+abbrev pub IsUnanswered : Stays → ℕ → Sight → Type 0
+IsUnanswered stays now s = (s.rested < s.pinged) × (s.pinged + stays.answer ≤ now)
+
+-- Who may have to make room: whose time is over, and no request of who showed the key is under way. Who showed the key and answers pings has not answered one.
+-- A place that was relieved of its connection has none that counts.
 abbrev pub MayLeave : Stays → ℕ → Sight → Type 0
-MayLeave stays now s = IsTrue s.is_taken × ¬ IsUnderWay s × (since_of s + stay_of stays s ≤ now)
+MayLeave stays now s = IsTrue s.is_taken × (s.is_relieved ≡ false) × ¬ IsUnderWay s × (since_of s + stay_of stays s ≤ now)
+    × (IsTrue s.is_trusted → IsTrue s.answers_pings → IsUnanswered stays now s)
+
+-- who is pinged before it may have to leave: who showed the key and answers pings, has been silent for its time with no request under way, and was not
+-- pinged since
+abbrev pub is_to_be_pinged : Stays → ℕ → Sight → Bool
+is_to_be_pinged stays now s = s.is_taken && (not s.is_relieved && (s.is_trusted && (s.is_resting && (s.answers_pings
+    && (nat_le stays.owner (now - s.rested) && not (nat_lt s.rested s.pinged))))))
 
 -- The first leaves no later than the second: its class is no higher, and in one class it has been silent no shorter.
 abbrev pub LeavesFirst : Sight → Sight → Type 0

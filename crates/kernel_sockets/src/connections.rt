@@ -1,6 +1,6 @@
 //! The connections that are served.
 use crate::hangups::Hangups;
-use crate::presence::Presence;
+use crate::presence::{Ping, Presence};
 use crate::register::{Register, Stream};
 use crate::room::Stays;
 use std::alloc::{AllocError, Global};
@@ -82,10 +82,28 @@ impl Connections {
     }
 
     /// Ends the connection at one of `count` places from `first` on that has to make room, if one has to, by what is seen of the places under the lock:
-    /// what `Register::make_room` does of the register there. It takes no memory.
-    pub fn make_room<R: Wait>(&self, rt: &R, first: usize, count: usize, stays: Stays, now: u64) {
+    /// what `Register::make_room` does of the register there. If none has to, the peers there are pinged that are to be, one after another: what
+    /// `Register::ask` does. It takes no memory.
+    pub fn make_room<R: Wait>(
+        &self,
+        rt: &R,
+        first: usize,
+        count: usize,
+        stays: Stays,
+        now: u64,
+        ping: Ping<'_>,
+    ) {
         let mut register = self.register.lock(rt);
-        let _ended = register.make_room(&self.presences, first, count, stays, now);
+        let ended = register.make_room(&self.presences, first, count, stays, now);
+        if ended.is_some() {
+            return;
+        }
+        for _ in 0..count {
+            let asked = register.ask(rt, &self.presences, first, count, stays, now, ping);
+            if asked.is_none() {
+                return;
+            }
+        }
     }
 
     /// Lets no more connections in, and shuts those that are there: for reading, so that each is still answered, or altogether.

@@ -2,7 +2,39 @@
 ghost use Rattle.std.specs.Prelude.{◌≡◌};
 
 use crate::room::Sight;
+use std::io::Write;
+use std::net::{Shutdown, TcpStream};
 use std::sync::atomic::{AtomicBool, AtomicU64, Ordering};
+use std::sync::{Mutex, Wait};
+use std::time::Duration;
+
+/// How long a ping may take to be written. It is short, and who listens reads, so its octets go into the room that the system has for them at once.
+const PING_MILLISECONDS: u64 = 1;
+
+/// What silent peers are asked by.
+#[derive(Clone, Copy)]
+pub struct Ping<'a> {
+    /// Its octets.
+    pub octets: &'a [u8],
+    /// How many milliseconds a write waits on these connections otherwise.
+    pub message: u64,
+}
+
+impl Ping<'_> {
+    /// Writes it between two messages, as far as the system takes it at once. Where it is taken in part the connection ends, since what goes out behind it
+    /// couldn't be read.
+    fn write(self, stream: &TcpStream) {
+        let mut writer = stream;
+        let brief = Duration::from_millis(PING_MILLISECONDS);
+        let _ = stream.set_write_timeout(Some(brief));
+        let count = writer.write(self.octets).unwrap_or(0);
+        let usual = Duration::from_millis(self.message);
+        let is_usual = stream.set_write_timeout(Some(usual)).is_ok();
+        if !is_usual || (count > 0 && count < self.octets.len()) {
+            let _ = stream.shutdown(Shutdown::Both);
+        }
+    }
+}
 
 /// What was noted of a connection until now, that counts for what it brought.
 #[derive(Clone, Copy)]
@@ -32,6 +64,12 @@ pub struct Presence {
     is_resting: AtomicBool,
     /// Since when that is so and nothing came.
     rested: AtomicU64,
+    /// Its peer answers pings: it speaks ZMTP 3.1 or later.
+    answers_pings: AtomicBool,
+    /// When it was pinged last; 0 if it was not.
+    pinged: AtomicU64,
+    /// Who serves it waits for what comes, and writes nothing meanwhile: a ping may be written, under this lock, as nothing else goes out.
+    is_listening: Mutex<bool>,
 }
 
 impl Presence {
@@ -45,6 +83,9 @@ impl Presence {
             heard: AtomicU64::new(0),
             is_resting: AtomicBool::new(true),
             rested: AtomicU64::new(0),
+            answers_pings: AtomicBool::new(false),
+            pinged: AtomicU64::new(0),
+            is_listening: Mutex::new(false),
         }
     }
 
@@ -57,6 +98,34 @@ impl Presence {
         self.heard.store(now, Ordering::SeqCst);
         self.is_resting.store(true, Ordering::SeqCst);
         self.rested.store(now, Ordering::SeqCst);
+        self.answers_pings.store(false, Ordering::SeqCst);
+        self.pinged.store(0, Ordering::SeqCst);
+    }
+
+    /// Whether its peer answers pings.
+    pub fn set_answers_pings(&self, answers: bool) {
+        self.answers_pings.store(answers, Ordering::SeqCst);
+    }
+
+    /// Who serves it waits for what comes, and writes nothing until [`Presence::speak`].
+    pub fn listen<R: Wait>(&self, rt: &R) {
+        let mut is_listening = self.is_listening.lock(rt);
+        *is_listening = true;
+    }
+
+    /// Who serves it may write again, once no ping is being written.
+    pub fn speak<R: Wait>(&self, rt: &R) {
+        let mut is_listening = self.is_listening.lock(rt);
+        *is_listening = false;
+    }
+
+    /// Pings the peer at this time, unless who serves it may write: then something came.
+    pub(crate) fn ping<R: Wait>(&self, rt: &R, stream: &TcpStream, ping: Ping<'_>, now: u64) {
+        let is_listening = self.is_listening.lock(rt);
+        if *is_listening {
+            self.pinged.store(now, Ordering::SeqCst);
+            ping.write(stream);
+        }
     }
 
     /// From this time on no request is under way.
@@ -131,6 +200,8 @@ impl Presence {
             is_resting: self.is_resting.load(Ordering::SeqCst),
             heard: self.heard.load(Ordering::SeqCst),
             rested: self.rested.load(Ordering::SeqCst),
+            answers_pings: self.answers_pings.load(Ordering::SeqCst),
+            pinged: self.pinged.load(Ordering::SeqCst),
             has_hung_up: false,
             is_relieved,
         }

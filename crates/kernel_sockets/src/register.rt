@@ -2,16 +2,16 @@
 ghost use Rattle.std.specs.Prelude.{◌≡◌, ◌+◌, ◌<◌, ◌≤◌, ◌↔◌, None, Some, true, false};
 ghost use Rattle.std.specs.Prelude.{All, IfOk, IfSome, IfNone, IsTrue, slice_get, slice_set, slice_range, length, position, vec_len, is_some};
 ghost use Rattle.kernel_sockets.specs.Relief.{is_orphan};
-ghost use Rattle.kernel_sockets.specs.Room.{MakesRoom};
+ghost use Rattle.kernel_sockets.specs.Room.{MakesRoom, is_to_be_pinged};
 ghost use Rattle.kernel_sockets.specs.Seen.{is_taken as is_taken_of, is_relieved as is_relieved_of, AreSeen};
 
 use crate::hangups::Hangups;
-use crate::presence::Presence;
+use crate::presence::{Ping, Presence};
 use crate::relief::who_is_relieved;
-use crate::room::{Sight, Stays, who_makes_room};
+use crate::room::{Sight, Stays, who_is_pinged, who_makes_room};
 use std::alloc::{AllocError, Global};
 use std::net::{Shutdown, TcpStream};
-use std::sync::Arc;
+use std::sync::{Arc, Wait};
 
 /// A connection, shared by who serves it and the register.
 pub type Stream = Arc<TcpStream, Global>;
@@ -193,6 +193,51 @@ impl Register {
         let row = self.sights.get(first..end)?;
         let place = who_makes_room(row, stays, now)?;
         self.end(first + place);
+        Some(place)
+    }
+
+    /// Pings the peer of the connection at a place, where there is one.
+    fn ping_peer<R: Wait>(
+        &self,
+        rt: &R,
+        presences: &[Presence],
+        place: usize,
+        ping: Ping<'_>,
+        now: u64,
+    ) {
+        if let (Some(Some(stream)), Some(presence)) = (
+            self.streams.get(place),
+            presences.get(place),
+        ) {
+            presence.ping(rt, stream, ping, now);
+        }
+    }
+
+    /// Looks at all places, and pings the peer at one of `count` of them from `first` on: the one that `who_is_pinged` answers. The answer is its place,
+    /// counted from the first. None where none is pinged, or where there are fewer places. It takes no memory.
+    pub fn ask<R: Wait>(
+        &mut self,
+        rt: &R,
+        presences: &[Presence],
+        first: usize,
+        count: usize,
+        stays: Stays,
+        now: u64,
+        ping: Ping<'_>,
+    ) -> Option<usize>
+        ensures streams { self.new.streams.items ≡ self.old.streams.items }
+        ensures closed { self.new.is_closed ≡ self.old.is_closed }
+        ensures relieved { self.new.relieved.items ≡ self.old.relieved.items }
+        ensures seen { AreSeen self.new.streams.items self.new.relieved.items self.new.sights.items }
+        ensures rule { first + count ≤ length self.old.streams.items
+            → result ≡ position (is_to_be_pinged stays now) (slice_range self.new.sights.items first (first + count)) }
+        ensures none { length self.old.streams.items < first + count → result ≡ None }
+    {
+        self.look(presences);
+        let end = first.checked_add(count)?;
+        let row = self.sights.get(first..end)?;
+        let place = who_is_pinged(row, stays, now)?;
+        self.ping_peer(rt, presences, first + place, ping, now);
         Some(place)
     }
 

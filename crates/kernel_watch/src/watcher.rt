@@ -13,6 +13,9 @@ pub trait Watcher {
     /// Tells that this happened just now.
     fn tell(&mut self, notice: Notice)
         ensures { Hears (notices self.old) (notices self.new) (notice ∷ []) };
+
+    /// Tells whether the partner answers pings: by its greeting it speaks ZMTP 3.1 or later. It is told anew with what comes.
+    fn meet(&self, _answers_pings: bool) {}
 }
 
 /// A watcher that does nothing with what it is told.

@@ -13,6 +13,9 @@ const PATIENCE_MILLISECONDS: u64 = 5;
 /// How long a write waits.
 const WRITE_SECONDS: u64 = 10;
 
+/// The answer to a ping without a context.
+const PONG: &[u8] = b"\x04\x05\x04PONG";
+
 /// The reads that wait for what has to come.
 pub(crate) const READS: usize = 4_000;
 
@@ -22,6 +25,8 @@ pub(crate) struct Frontend {
     stream: TcpStream,
     peer: Peer,
     messages: VecDeque<Vec<Vec<u8>>>,
+    /// How many pings came.
+    pings: usize,
 }
 
 /// Whether a read ended because nothing came in the time that it waits.
@@ -46,6 +51,7 @@ impl Frontend {
                 stream,
                 peer: Peer::new(alloc, role),
                 messages: VecDeque::new(alloc),
+                pings: 0,
             }),
             Err(error) => Err(error),
         }
@@ -82,10 +88,11 @@ impl Frontend {
     fn take(&mut self, event: PeerEvent) -> Result<()> {
         match event {
             PeerEvent::Message(frames) => Ok(self.messages.push_back(frames)?),
-            PeerEvent::Ready
-            | PeerEvent::Subscribe(_)
-            | PeerEvent::Cancel(_)
-            | PeerEvent::Ping(_) => Ok(()),
+            PeerEvent::Ping(_) => {
+                self.pings = self.pings.saturating_add(1);
+                Ok(())
+            }
+            PeerEvent::Ready | PeerEvent::Subscribe(_) | PeerEvent::Cancel(_) => Ok(()),
         }
     }
 
@@ -135,6 +142,28 @@ impl Frontend {
         for _ in 0..READS {
             if let Some(frames) = self.next_frames()? {
                 return Ok(frames);
+            }
+        }
+        Err(ErrorKind::TimedOut.into())
+    }
+
+    /// Waits until a ping comes, and answers it. Whether one came.
+    pub fn answers_ping(&mut self) -> Result<bool> {
+        for _ in 0..READS {
+            if self.pings > 0 {
+                self.write(PONG)?;
+                return Ok(true);
+            }
+            self.hear()?;
+        }
+        Ok(false)
+    }
+
+    /// Hears all that comes until the kernel closes the connection: how many pings came on it.
+    pub fn pings_to_end(&mut self) -> Result<usize> {
+        for _ in 0..READS {
+            if self.hear().is_err() {
+                return Ok(self.pings);
             }
         }
         Err(ErrorKind::TimedOut.into())

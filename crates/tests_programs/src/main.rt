@@ -5,9 +5,10 @@
 //! ends once a shutdown was asked for, with all its threads. Whatever connects to a kernel does so in turn by ZMTP 3.0 and by 3.1. The rows stand in
 //! the file `stdin`, the rows with their answers in the file `stdout`, in the form of `tests_rows`. A block of `3.0` or `3.1` has a kernel
 //! of its own and frontends of that version, one of `reach` has frontends of 3.1 and a kernel that listens at all addresses, one of `brief` has
-//! frontends of 3.1 and a kernel of which an owner who is silent for 200 milliseconds makes room, one of `hasty` such frontends and a kernel of which
-//! handshakes and messages take a second at most and whose silent subscribers stay for 300 milliseconds, and the rows of any other block need no kernel. What
-//! may stand in them is said by `with_kernel` and by `without_kernel`.
+//! frontends of 3.1 and a kernel of which an owner who is silent for 200 milliseconds makes room, once a ping has not been answered for 500, one of
+//! `older` such a kernel and frontends of 3.0, one of `hasty` frontends of 3.1 and a kernel of which handshakes and messages take a second at most and whose
+//! silent subscribers stay for 300 milliseconds, and the rows of any other block need no kernel. What may stand in them is said by `with_kernel` and by
+//! `without_kernel`.
 #![tactic(auto)]
 
 mod content;
@@ -33,9 +34,10 @@ use std::time::Clock;
 use std::{io, thread};
 use tests_rows::{Sheet, cut_block};
 
-/// A kernel whose owners of connections have to make room after 200 milliseconds of silence.
+/// A kernel whose owners of connections have to make room after 200 milliseconds of silence, and 500 milliseconds behind a ping if they answer such.
 const BRIEF: Times = Times {
     owner: 200,
+    answer: 500,
     ..Times::USUAL
 };
 
@@ -93,6 +95,7 @@ where
         "3.0" => make_site(rt, LOOPBACK, 0, Times::USUAL, sheet),
         "3.1" => make_site(rt, LOOPBACK, 1, Times::USUAL, sheet),
         "brief" => make_site(rt, LOOPBACK, 1, BRIEF, sheet),
+        "older" => make_site(rt, LOOPBACK, 0, BRIEF, sheet),
         "hasty" => make_site(rt, LOOPBACK, 1, HASTY, sheet),
         "reach" => make_site(rt, "0.0.0.0", 1, Times::USUAL, sheet),
         "every" => make_site(rt, "*", 1, Times::USUAL, sheet),

@@ -56,6 +56,16 @@ pub(crate) fn silent(frontends: &mut [Frontend], row: &str) -> Result<bool> {
     Ok(true)
 }
 
+/// Waits for a ping on a connection, and answers it. Whether one came.
+pub(crate) fn pong(frontends: &mut [Frontend], word: &str) -> Result<bool> {
+    at(frontends, word)?.answers_ping()
+}
+
+/// How many pings come on a connection until the kernel closes it.
+pub(crate) fn pings(frontends: &mut [Frontend], word: &str) -> Result<usize> {
+    at(frontends, word)?.pings_to_end()
+}
+
 /// Writes octets: how many.
 pub(crate) fn write(alloc: Global, frontends: &mut [Frontend], row: &str) -> Result<usize> {
     let (word, digits) = cut(row);

@@ -7,7 +7,8 @@
 //! `open` (a socket, and a role) connects a frontend, and gives how many are connected; `fill` (a number, a socket and a role) that many, each of
 //! which the kernel becomes ready on, and `sign` that many, on each of which the kernel is then asked what it is, so that it has shown the key. `abandon` (a
 //! number, and the content of an execution) connects that many to shell, one after another, each of which posts that and leaves before it is answered.
-//! `ready` (a frontend, and how many reads it waits) tells whether the kernel is ready there, `silent` the same whether nothing comes. `leave` (a
+//! `ready` (a frontend, and how many reads it waits) tells whether the kernel is ready there, `silent` the same whether nothing comes. `pong` (a
+//! frontend) answers the ping that comes there, and `pings` tells how many came until the kernel closed the connection. `leave` (a
 //! frontend) and `clear` disconnect one, and all. `write` (a frontend, and octets) and `press` (a frontend, a number of zeros, and octets before
 //! them) write octets, the latter as far as they are taken. `send` (a frontend, a type and a content) sends a request. `reply` gives the content of
 //! the next message, `begins` its beginning, `topic` its topic, `skip` the next topic that isn't the status, and `out` whether all that is left is the
@@ -29,7 +30,8 @@ use crate::streams::{echoes, lapses, opened, read_to};
 use crate::talk;
 use crate::talk::{
     asked, asked_on_each, begins, clear, dates, ends, flood, hear_out, heard, interrupted, leave,
-    one_ends, place, press, ready, reply, say, silent, skip, stamped, stopped, topic, write,
+    one_ends, pings, place, pong, press, ready, reply, say, silent, skip, stamped, stopped, topic,
+    write,
 };
 use crate::told::told;
 use std::alloc::Global;
@@ -173,6 +175,8 @@ fn answer_talk(frontends: &mut Vec<Frontend>, word: &str, rest: &str, sheet: &mu
     match word {
         "ready" => told(ready(frontends, rest), sheet),
         "silent" => told(silent(frontends, rest), sheet),
+        "pong" => told(pong(frontends, rest), sheet),
+        "pings" => told(pings(frontends, rest), sheet),
         "leave" => sheet.show(&leave(frontends, rest)),
         "clear" => sheet.show(&clear(frontends)),
         "write" => told(write(alloc, frontends, rest), sheet),

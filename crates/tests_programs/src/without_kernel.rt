@@ -2,7 +2,8 @@
 //! command line) run a program over its words, and give no more than this number of octets of each of its two streams. `file` (a text) runs both
 //! programs on a connection file with this text, and `missing` on one that isn't there. `alone` runs a console at ports where no kernel listens, and
 //! `unanswered` where one listens that says nothing. `taken` (a socket, of shell, iopub, stdin, control and heartbeat the first is 1) runs a kernel whose
-//! port for this socket another one has. `readable` (a mode in octal digits) runs a kernel on a connection file of this mode, whose ports another one has.
+//! port for this socket another one has. `readable` (a mode in octal digits) runs a kernel on a connection file of this mode, whose ports another one has. `times`
+//! gives how many milliseconds `janus-kernel` gives a handshake, a message, a stranger, who is silent where nothing is signed, who showed the key, and a pong.
 use crate::content::KEY;
 use crate::programs::{ask, run_console, run_kernel};
 use crate::site::{LOOPBACK, free_ports, listen, listen_anywhere, write_connection, write_own};
@@ -62,11 +63,28 @@ where
         "unanswered" => unanswered(rt, sheet),
         "taken" => taken(rt, place(rest), sheet),
         "readable" => readable(rt, rest, sheet),
+        "times" => {
+            show_times(Times::USUAL, sheet);
+            Ok(())
+        }
         _ => {
             run_words(rt, word, rest, sheet);
             Ok(())
         }
     }
+}
+
+/// Writes the times of a kernel, in milliseconds.
+fn show_times(times: Times, sheet: &mut Sheet) {
+    let all = [
+        times.handshake,
+        times.message,
+        times.stranger,
+        times.silence,
+        times.owner,
+        times.answer,
+    ];
+    sheet.show(&all);
 }
 
 /// Runs the kernel on the connection file.
