@@ -5,5 +5,5 @@ use Rattle.kernel_program.proofs.program.serve_new_kernel.Goals as goal
 
 -- the service has the hall whose bell the seats are of
 pub serve_all-served-requires-clause-ringers : goal.serve_all-served-requires-clause-ringers
-serve_all-served-requires-clause-ringers g c =
+serve_all-served-requires-clause-ringers g c = λ κs lives.
     subst (λ (h : TableId). All (λ (s : RingerOf). s.bell ≡ h) c.args.seats.ringers.items) (sym c.in_ok-service.ensures) c.requires.ringers
