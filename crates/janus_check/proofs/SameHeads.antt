@@ -2,8 +2,7 @@
 use Rattle.std.proofs.Common.{◌≡◌, ◌≤◌, suc, ℕ, Bool, true, false, List, [], ◌∷◌, ◌++◌, Option, Some, None, is_some, refl, ap, ◌∙◌, sym, subst}
 use Rattle.std.specs.Prelude.{nat_lt}
 use Rattle.janus_meaning.specs.Limit.{procedure_limit}
-use Rattle.janus_meaning.specs.Syntax.{Name, Stm, Blk, Skip, Set, SetAt, Push, Pop, Swap, If, From, LocalInt, LocalStack, Call, Uncall, Nil, Cons, Proc, Kind}
-use Rattle.janus_meaning.specs.Syntax.{ANumber, AStack}
+use Rattle.janus_meaning.specs.Syntax.{Name, Stm, Blk, Do, Branch, Local, LocalInt, LocalStack, Call, Nil, Cons, Proc, Kind, ANumber, AStack}
 use Rattle.janus_meaning.specs.Store.{same_name}
 use Rattle.janus_meaning.specs.Shape.{at_name, pick_newest, left_out, without, count_new, different, Shape, Heads, head_at, head_of}
 use Rattle.janus_meaning.specs.Formed.{IsStm, IsBlk, AreProcs}
@@ -139,18 +138,11 @@ one_hidden hs js h cs e there f = by (same_name f h.0) refl ∙ sym (at_name-app
 
 mutual
   stm_same : (hs js : Heads) (g : Shape) (s : Stm) → AreSameHeads hs js → IsStm hs g s → IsStm js g s
-  stm_same hs js g Skip e h = h
-  stm_same hs js g (Set x o a) e h = h
-  stm_same hs js g (SetAt a i o b) e h = h
-  stm_same hs js g (Push x y) e h = h
-  stm_same hs js g (Pop x y) e h = h
-  stm_same hs js g (Swap x y) e h = h
-  stm_same hs js g (If a s t b) e h = (h.0, block_same hs js g s e h.1, block_same hs js g t e h.2, h.3)
-  stm_same hs js g (From a s t b) e h = (h.0, block_same hs js g s e h.1, block_same hs js g t e h.2, h.3)
-  stm_same hs js g (LocalInt x a s b) e h = (h.0, h.1, block_same hs js ((x, ANumber) ∷ g) s e h.2, h.3)
-  stm_same hs js g (LocalStack x s) e h = (h.0, block_same hs js ((x, AStack) ∷ g) s e h.1)
-  stm_same hs js g (Call f xs) e h = (h.0, sym (e f) ∙ h.1, h.2)
-  stm_same hs js g (Uncall f xs) e h = (h.0, sym (e f) ∙ h.1, h.2)
+  stm_same hs js g (Do k) e h = h
+  stm_same hs js g (Branch w a s t b) e h = (h.0, block_same hs js g s e h.1, block_same hs js g t e h.2, h.3)
+  stm_same hs js g (Local x (LocalInt a b) s) e h = (h.0, h.1, block_same hs js ((x, ANumber) ∷ g) s e h.2, h.3)
+  stm_same hs js g (Local x LocalStack s) e h = (h.0, block_same hs js ((x, AStack) ∷ g) s e h.1)
+  stm_same hs js g (Call w f xs) e h = (h.0, sym (e f) ∙ h.1, h.2)
 
   pub block_same : (hs js : Heads) (g : Shape) (b : Blk) → AreSameHeads hs js → IsBlk hs g b → IsBlk js g b
   block_same hs js g Nil e h = h

@@ -1,6 +1,6 @@
 -- How heavy trees are: each block of a statement weighs less than it, and each statement less than its block.
 use Rattle.std.proofs.Common.{◌≡◌, ◌<◌, ◌+◌, length, get_or, ℕ, zero, suc, List, [], ◌∷◌, Vec, Box, Global, ap, ◌∙◌, arith}
-use Rattle.janus_meaning.specs.Syntax.{Stm, Blk, Skip, Set, SetAt, Push, Pop, Swap, If, From, LocalInt, LocalStack, Call, Uncall, Nil, Cons}
+use Rattle.janus_meaning.specs.Syntax.{Stm, Blk, Do, Branch, Local, LocalInt, LocalStack, Call, Nil, Cons}
 use Rattle.janus_syntax.specs.declared.tree.Stm as code_stm
 use Rattle.janus_syntax.specs.declared.tree.Name as code_name
 use Rattle.janus_syntax.specs.declared.tree.Exp as code_exp
@@ -9,18 +9,11 @@ use Rattle.janus_syntax.proofs.Views.{view_if, view_loop, view_local_int, view_l
 
 abbrev mutual
   pub stm_weight : Stm → ℕ
-  stm_weight Skip = 1
-  stm_weight (Set x o e) = 1
-  stm_weight (SetAt a i o e) = 1
-  stm_weight (Push x y) = 1
-  stm_weight (Pop x y) = 1
-  stm_weight (Swap x y) = 1
-  stm_weight (If a s t b) = suc (block_weight s + block_weight t)
-  stm_weight (From a s t b) = suc (block_weight s + block_weight t)
-  stm_weight (LocalInt x a s b) = suc (block_weight s)
-  stm_weight (LocalStack x s) = suc (block_weight s)
-  stm_weight (Call f xs) = 1
-  stm_weight (Uncall f xs) = 1
+  stm_weight (Do k) = 1
+  stm_weight (Branch w a s t b) = suc (block_weight s + block_weight t)
+  stm_weight (Local x (LocalInt a b) s) = suc (block_weight s)
+  stm_weight (Local x LocalStack s) = suc (block_weight s)
+  stm_weight (Call w f xs) = 1
 
   pub block_weight : Blk → ℕ
   block_weight Nil = 0

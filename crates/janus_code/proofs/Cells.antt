@@ -78,19 +78,19 @@ opposite_plain Xor = refl
 mutual
   inverse_plain : (s : Stm) → plain_stm (inverse_stm s) ≡ tree.inverse (plain_stm s)
   inverse_plain Skip = refl
-  inverse_plain (Assign x u e) = ap (λ o. tree.Set (text_of x) o (plain_exp e)) (opposite_plain u)
-  inverse_plain (AssignElement x i u e) = ap (λ o. tree.SetAt (text_of x) (plain_exp i) o (plain_exp e)) (opposite_plain u)
+  inverse_plain (Assign x u e) = ap (λ o. tree.Do (tree.Set (text_of x) o (plain_exp e))) (opposite_plain u)
+  inverse_plain (AssignElement x i u e) = ap (λ o. tree.Do (tree.SetAt (text_of x) (plain_exp i) o (plain_exp e))) (opposite_plain u)
   inverse_plain (Push x y) = refl
   inverse_plain (Pop x y) = refl
   inverse_plain (Swap x y) = refl
   inverse_plain (If a s t b) =
-      ap (λ r. tree.If (plain_exp b) r (plain_block (turned t Empty)) (plain_exp a)) (turned_plain s Empty)
-      ∙ ap (λ r. tree.If (plain_exp b) (tree.turn (plain_block s) tree.Nil) r (plain_exp a)) (turned_plain t Empty)
+      ap (λ r. tree.Branch tree.If (plain_exp b) r (plain_block (turned t Empty)) (plain_exp a)) (turned_plain s Empty)
+      ∙ ap (λ r. tree.Branch tree.If (plain_exp b) (tree.turn (plain_block s) tree.Nil) r (plain_exp a)) (turned_plain t Empty)
   inverse_plain (Loop a s t b) =
-      ap (λ r. tree.From (plain_exp b) r (plain_block (turned t Empty)) (plain_exp a)) (turned_plain s Empty)
-      ∙ ap (λ r. tree.From (plain_exp b) (tree.turn (plain_block s) tree.Nil) r (plain_exp a)) (turned_plain t Empty)
-  inverse_plain (LocalInt x a s y b) = ap (λ r. tree.LocalInt (text_of x) (plain_exp b) r (plain_exp a)) (turned_plain s Empty)
-  inverse_plain (LocalStack x s y) = ap (tree.LocalStack (text_of x)) (turned_plain s Empty)
+      ap (λ r. tree.Branch tree.From (plain_exp b) r (plain_block (turned t Empty)) (plain_exp a)) (turned_plain s Empty)
+      ∙ ap (λ r. tree.Branch tree.From (plain_exp b) (tree.turn (plain_block s) tree.Nil) r (plain_exp a)) (turned_plain t Empty)
+  inverse_plain (LocalInt x a s y b) = ap (λ r. tree.Local (text_of x) (tree.LocalInt (plain_exp b) (plain_exp a)) r) (turned_plain s Empty)
+  inverse_plain (LocalStack x s y) = ap (λ z1. tree.Local (text_of x) tree.LocalStack z1) (turned_plain s Empty)
   inverse_plain (Call f xs) = refl
   inverse_plain (Uncall f xs) = refl
 

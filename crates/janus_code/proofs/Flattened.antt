@@ -71,37 +71,37 @@ local_stack_part es g s x y v e h =
 pub local_int_flat : (es g xs : List Name) (x y : code_name.Name) (a b : Box code_exp.Exp Global) (z : Name) (f h : flat_exp.FlatExp)
     (v : Vec code_stm.Stm Global) (s : tree.Blk) → z ≡ slot (length g) → exp_of xs f ≡ exp_in g (plain a.value) → exp_of xs h ≡ exp_in g (plain b.value) →
     s ≡ block_in es (name_of x ∷ g) (block_of v.items) →
-    tree.LocalInt z (exp_of xs f) s (exp_of xs h) ≡ stm_in es g (stm_of (code_stm.LocalInt x a v y b))
+    tree.Local z (tree.LocalInt (exp_of xs f) (exp_of xs h)) s ≡ stm_in es g (stm_of (code_stm.LocalInt x a v y b))
 local_int_flat es g xs x y a b z f h v s n i j k =
-    ap (λ z. tree.LocalInt z (exp_of xs f) s (exp_of xs h)) n
-    ∙ ap (λ e. tree.LocalInt (slot (length g)) e s (exp_of xs h)) i
-    ∙ ap (tree.LocalInt (slot (length g)) (exp_in g (plain a.value)) s) j
-    ∙ ap (λ s. tree.LocalInt (slot (length g)) (exp_in g (plain a.value)) s (exp_in g (plain b.value))) k
+    ap (λ z. tree.Local z (tree.LocalInt (exp_of xs f) (exp_of xs h)) s) n
+    ∙ ap (λ e. tree.Local (slot (length g)) (tree.LocalInt e (exp_of xs h)) s) i
+    ∙ ap (λ z1. tree.Local (slot (length g)) (tree.LocalInt (exp_in g (plain a.value)) z1) s) j
+    ∙ ap (λ s. tree.Local (slot (length g)) (tree.LocalInt (exp_in g (plain a.value)) (exp_in g (plain b.value))) s) k
     ∙ ap (λ c. stm_in es g (plain_stm c)) (sym (view_local_int x y a b v))
 
 pub local_stack_flat : (es g : List Name) (x y : code_name.Name) (z : Name) (v : Vec code_stm.Stm Global) (s : tree.Blk) → z ≡ slot (length g) →
-    s ≡ block_in es (name_of x ∷ g) (block_of v.items) → tree.LocalStack z s ≡ stm_in es g (stm_of (code_stm.LocalStack x v y))
+    s ≡ block_in es (name_of x ∷ g) (block_of v.items) → tree.Local z tree.LocalStack s ≡ stm_in es g (stm_of (code_stm.LocalStack x v y))
 local_stack_flat es g x y z v s n j =
-    ap (λ z. tree.LocalStack z s) n ∙ ap (tree.LocalStack (slot (length g))) j ∙ ap (λ c. stm_in es g (plain_stm c)) (sym (view_local_stack x y v))
+    ap (λ z. tree.Local z tree.LocalStack s) n ∙ ap (λ z1. tree.Local (slot (length g)) tree.LocalStack z1) j ∙ ap (λ c. stm_in es g (plain_stm c)) (sym (view_local_stack x y v))
 
 pub if_flat : (es g xs : List Name) (a b : Box code_exp.Exp Global) (f h : flat_exp.FlatExp) (v w : Vec code_stm.Stm Global) (s t : tree.Blk) →
     exp_of xs f ≡ exp_in g (plain a.value) → exp_of xs h ≡ exp_in g (plain b.value) → s ≡ block_in es g (block_of v.items) → t ≡ block_in es g (block_of w.items) →
-    tree.If (exp_of xs f) s t (exp_of xs h) ≡ stm_in es g (stm_of (code_stm.If a v w b))
+    tree.Branch tree.If (exp_of xs f) s t (exp_of xs h) ≡ stm_in es g (stm_of (code_stm.If a v w b))
 if_flat es g xs a b f h v w s t i j k l =
-    ap (λ e. tree.If e s t (exp_of xs h)) i
-    ∙ ap (tree.If (exp_in g (plain a.value)) s t) j
-    ∙ ap (λ s. tree.If (exp_in g (plain a.value)) s t (exp_in g (plain b.value))) k
-    ∙ ap (λ t. tree.If (exp_in g (plain a.value)) (block_in es g (block_of v.items)) t (exp_in g (plain b.value))) l
+    ap (λ e. tree.Branch tree.If e s t (exp_of xs h)) i
+    ∙ ap (tree.Branch tree.If (exp_in g (plain a.value)) s t) j
+    ∙ ap (λ s. tree.Branch tree.If (exp_in g (plain a.value)) s t (exp_in g (plain b.value))) k
+    ∙ ap (λ t. tree.Branch tree.If (exp_in g (plain a.value)) (block_in es g (block_of v.items)) t (exp_in g (plain b.value))) l
     ∙ ap (λ c. stm_in es g (plain_stm c)) (sym (view_if a b v w))
 
 pub loop_flat : (es g xs : List Name) (a b : Box code_exp.Exp Global) (f h : flat_exp.FlatExp) (v w : Vec code_stm.Stm Global) (s t : tree.Blk) →
     exp_of xs f ≡ exp_in g (plain a.value) → exp_of xs h ≡ exp_in g (plain b.value) → s ≡ block_in es g (block_of v.items) → t ≡ block_in es g (block_of w.items) →
-    tree.From (exp_of xs f) s t (exp_of xs h) ≡ stm_in es g (stm_of (code_stm.Loop a v w b))
+    tree.Branch tree.From (exp_of xs f) s t (exp_of xs h) ≡ stm_in es g (stm_of (code_stm.Loop a v w b))
 loop_flat es g xs a b f h v w s t i j k l =
-    ap (λ e. tree.From e s t (exp_of xs h)) i
-    ∙ ap (tree.From (exp_in g (plain a.value)) s t) j
-    ∙ ap (λ s. tree.From (exp_in g (plain a.value)) s t (exp_in g (plain b.value))) k
-    ∙ ap (λ t. tree.From (exp_in g (plain a.value)) (block_in es g (block_of v.items)) t (exp_in g (plain b.value))) l
+    ap (λ e. tree.Branch tree.From e s t (exp_of xs h)) i
+    ∙ ap (tree.Branch tree.From (exp_in g (plain a.value)) s t) j
+    ∙ ap (λ s. tree.Branch tree.From (exp_in g (plain a.value)) s t (exp_in g (plain b.value))) k
+    ∙ ap (λ t. tree.Branch tree.From (exp_in g (plain a.value)) (block_in es g (block_of v.items)) t (exp_in g (plain b.value))) l
     ∙ ap (λ c. stm_in es g (plain_stm c)) (sym (view_loop a b v w))
 
 -- ---- one more statement in the row of a block

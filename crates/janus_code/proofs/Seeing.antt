@@ -2,8 +2,8 @@
 use Rattle.std.proofs.Common.{◌≡◌, ◌<◌, length, get_or, ℕ, zero, suc, Bool, true, false, List, [], ◌∷◌, map, refl, ap, ◌∙◌, sym, subst, arith}
 use Rattle.std.specs.Prelude.{Some, Contains}
 use Rattle.janus_meaning.specs.Syntax as tree
-use Rattle.janus_meaning.specs.Syntax.{Name, Kind, Exp, Number, Var, At, Empty, Top, Negate, Binary, And, Or, Stm, Blk, Proc, Skip, Set, SetAt, Push, Pop, Swap}
-use Rattle.janus_meaning.specs.Syntax.{If, From, LocalInt, LocalStack, Call, Uncall, Nil, Cons}
+use Rattle.janus_meaning.specs.Syntax.{Name, Kind, Exp, Number, Var, At, Empty, Top, Negate, Binary, And, Or, Stm, Blk, Proc, Do, Skip, Set, SetAt, Push, Pop}
+use Rattle.janus_meaning.specs.Syntax.{Swap, Branch, Local, LocalInt, LocalStack, Call, Nil, Cons}
 use Rattle.janus_meaning.specs.Store.{same_name}
 use Rattle.janus_meaning.specs.Shape.{Shape, Heads, kind_at, pick_newest, left_out, without}
 use Rattle.janus_meaning.specs.Formed.{IsExp, AreArguments, IsStm, IsBlk, IsProc, AreProcs}
@@ -68,18 +68,16 @@ arguments_seen g h (c ∷ cs) (y ∷ ys) m f =
 
 mutual
   stm_seen : (hs : Heads) (es : List Name) (g : Shape) (c : Stm) → HasEntries hs es → IsStm hs g c → SeesStm es g c
-  stm_seen hs es g Skip q h = tt
-  stm_seen hs es g (Set x o e) q h = ((tree.ANumber, h.0), side_seen x g e h.1)
-  stm_seen hs es g (SetAt a i o e) q h = ((tree.AnArray, h.0), side_seen a g i h.1, side_seen a g e h.2)
-  stm_seen hs es g (Push x y) q h = ((tree.ANumber, h.0), (tree.AStack, h.1))
-  stm_seen hs es g (Pop x y) q h = ((tree.ANumber, h.0), (tree.AStack, h.1))
-  stm_seen hs es g (Swap x y) q h = ((tree.ANumber, h.0), (tree.ANumber, h.1))
-  stm_seen hs es g (If a s t b) q h = (exp_seen g a h.0, block_seen hs es g s q h.1, block_seen hs es g t q h.2, exp_seen g b h.3)
-  stm_seen hs es g (From a s t b) q h = (exp_seen g a h.0, block_seen hs es g s q h.1, block_seen hs es g t q h.2, exp_seen g b h.3)
-  stm_seen hs es g (LocalInt x a s b) q h = (exp_seen g a h.1, block_seen hs es ((x, tree.ANumber) ∷ g) s q h.2, exp_seen g b h.3)
-  stm_seen hs es g (LocalStack x s) q h = block_seen hs es ((x, tree.AStack) ∷ g) s q h.1
-  stm_seen hs es g (Call f ys) q h = (q f h.0 h.1, arguments_seen g g h.0 ys (λ y s. s) h.2)
-  stm_seen hs es g (Uncall f ys) q h = (q f h.0 h.1, arguments_seen g g h.0 ys (λ y s. s) h.2)
+  stm_seen hs es g (Do Skip) q h = tt
+  stm_seen hs es g (Do (Set x o e)) q h = ((tree.ANumber, h.0), side_seen x g e h.1)
+  stm_seen hs es g (Do (SetAt a i o e)) q h = ((tree.AnArray, h.0), side_seen a g i h.1, side_seen a g e h.2)
+  stm_seen hs es g (Do (Push x y)) q h = ((tree.ANumber, h.0), (tree.AStack, h.1))
+  stm_seen hs es g (Do (Pop x y)) q h = ((tree.ANumber, h.0), (tree.AStack, h.1))
+  stm_seen hs es g (Do (Swap x y)) q h = ((tree.ANumber, h.0), (tree.ANumber, h.1))
+  stm_seen hs es g (Branch w a s t b) q h = (exp_seen g a h.0, block_seen hs es g s q h.1, block_seen hs es g t q h.2, exp_seen g b h.3)
+  stm_seen hs es g (Local x (LocalInt a b) s) q h = (exp_seen g a h.1, block_seen hs es ((x, tree.ANumber) ∷ g) s q h.2, exp_seen g b h.3)
+  stm_seen hs es g (Local x LocalStack s) q h = block_seen hs es ((x, tree.AStack) ∷ g) s q h.1
+  stm_seen hs es g (Call w f ys) q h = (q f h.0 h.1, arguments_seen g g h.0 ys (λ y s. s) h.2)
 
   pub block_seen : (hs : Heads) (es : List Name) (g : Shape) (b : Blk) → HasEntries hs es → IsBlk hs g b → SeesBlk es g b
   block_seen hs es g Nil q h = tt

@@ -55,18 +55,18 @@ exp_tree (meaning.Or l r) = Or (exp_tree l) (exp_tree r)
 -- behind `delocal` stands the name of the local
 abbrev mutual
   pub stm_tree : meaning.Stm → Stm
-  stm_tree meaning.Skip = Skip
-  stm_tree (meaning.Set x u e) = Assign (name_tree x) (update_tree u) (exp_tree e)
-  stm_tree (meaning.SetAt a i u e) = AssignElement (name_tree a) (exp_tree i) (update_tree u) (exp_tree e)
-  stm_tree (meaning.Push x y) = Push (name_tree x) (name_tree y)
-  stm_tree (meaning.Pop x y) = Pop (name_tree x) (name_tree y)
-  stm_tree (meaning.Swap x y) = Swap (name_tree x) (name_tree y)
-  stm_tree (meaning.If a s t b) = If (exp_tree a) (block_tree s) (block_tree t) (exp_tree b)
-  stm_tree (meaning.From a s t b) = Loop (exp_tree a) (block_tree s) (block_tree t) (exp_tree b)
-  stm_tree (meaning.LocalInt x a s b) = LocalInt (name_tree x) (exp_tree a) (block_tree s) (name_tree x) (exp_tree b)
-  stm_tree (meaning.LocalStack x s) = LocalStack (name_tree x) (block_tree s) (name_tree x)
-  stm_tree (meaning.Call f xs) = Call (name_tree f) (map name_tree xs)
-  stm_tree (meaning.Uncall f xs) = Uncall (name_tree f) (map name_tree xs)
+  stm_tree (meaning.Do meaning.Skip) = Skip
+  stm_tree (meaning.Do (meaning.Set x u e)) = Assign (name_tree x) (update_tree u) (exp_tree e)
+  stm_tree (meaning.Do (meaning.SetAt a i u e)) = AssignElement (name_tree a) (exp_tree i) (update_tree u) (exp_tree e)
+  stm_tree (meaning.Do (meaning.Push x y)) = Push (name_tree x) (name_tree y)
+  stm_tree (meaning.Do (meaning.Pop x y)) = Pop (name_tree x) (name_tree y)
+  stm_tree (meaning.Do (meaning.Swap x y)) = Swap (name_tree x) (name_tree y)
+  stm_tree (meaning.Branch meaning.If a s t b) = If (exp_tree a) (block_tree s) (block_tree t) (exp_tree b)
+  stm_tree (meaning.Branch meaning.From a s t b) = Loop (exp_tree a) (block_tree s) (block_tree t) (exp_tree b)
+  stm_tree (meaning.Local x (meaning.LocalInt a b) s) = LocalInt (name_tree x) (exp_tree a) (block_tree s) (name_tree x) (exp_tree b)
+  stm_tree (meaning.Local x meaning.LocalStack s) = LocalStack (name_tree x) (block_tree s) (name_tree x)
+  stm_tree (meaning.Call meaning.Forwards f xs) = Call (name_tree f) (map name_tree xs)
+  stm_tree (meaning.Call meaning.Backwards f xs) = Uncall (name_tree f) (map name_tree xs)
 
   pub block_tree : meaning.Blk → Block
   block_tree meaning.Nil = Empty

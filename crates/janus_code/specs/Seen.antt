@@ -1,7 +1,7 @@
 -- Trees each of whose names is in sight where it stands, and whose calls are of procedures with a name in a table.
 use Rattle.std.specs.Prelude.{List, [], ◌∷◌}
-use Rattle.janus_meaning.specs.Syntax.{Name, Exp, Number, Var, At, Empty, Top, Negate, Binary, And, Or, Stm, Blk, Skip, Set, SetAt, Push, Pop, Swap, If, From}
-use Rattle.janus_meaning.specs.Syntax.{LocalInt, LocalStack, Call, Uncall, Nil, Cons, ANumber, AStack}
+use Rattle.janus_meaning.specs.Syntax.{Name, Exp, Number, Var, At, Empty, Top, Negate, Binary, And, Or, Stm, Blk, Do, Skip, Set, SetAt, Push, Pop, Swap}
+use Rattle.janus_meaning.specs.Syntax.{Branch, Local, LocalInt, LocalStack, Call, Nil, Cons, ANumber, AStack}
 use Rattle.janus_meaning.specs.Shape.{Shape}
 use Rattle.janus_names.specs.Numbers.{IsMet}
 use Rattle.janus_check.specs.Sight.{IsSeen}
@@ -25,18 +25,16 @@ SeesExp g (Or l r) = SeesExp g l × SeesExp g r
 -- each name of a statement; in a local's statements its name too; of a call the procedure's name is in the table, and the arguments are in sight
 abbrev mutual
   pub SeesStm : List Name → Shape → Stm → Type 0
-  SeesStm es g Skip = Unit {0}
-  SeesStm es g (Set x o e) = IsSeen g x × SeesExp g e
-  SeesStm es g (SetAt a i o e) = IsSeen g a × SeesExp g i × SeesExp g e
-  SeesStm es g (Push x y) = IsSeen g x × IsSeen g y
-  SeesStm es g (Pop x y) = IsSeen g x × IsSeen g y
-  SeesStm es g (Swap x y) = IsSeen g x × IsSeen g y
-  SeesStm es g (If a s t b) = SeesExp g a × SeesBlk es g s × SeesBlk es g t × SeesExp g b
-  SeesStm es g (From a s t b) = SeesExp g a × SeesBlk es g s × SeesBlk es g t × SeesExp g b
-  SeesStm es g (LocalInt x a s b) = SeesExp g a × SeesBlk es ((x, ANumber) ∷ g) s × SeesExp g b
-  SeesStm es g (LocalStack x s) = SeesBlk es ((x, AStack) ∷ g) s
-  SeesStm es g (Call f ys) = IsMet es f × AreSeen g ys
-  SeesStm es g (Uncall f ys) = IsMet es f × AreSeen g ys
+  SeesStm es g (Do Skip) = Unit {0}
+  SeesStm es g (Do (Set x o e)) = IsSeen g x × SeesExp g e
+  SeesStm es g (Do (SetAt a i o e)) = IsSeen g a × SeesExp g i × SeesExp g e
+  SeesStm es g (Do (Push x y)) = IsSeen g x × IsSeen g y
+  SeesStm es g (Do (Pop x y)) = IsSeen g x × IsSeen g y
+  SeesStm es g (Do (Swap x y)) = IsSeen g x × IsSeen g y
+  SeesStm es g (Branch w a s t b) = SeesExp g a × SeesBlk es g s × SeesBlk es g t × SeesExp g b
+  SeesStm es g (Local x (LocalInt a b) s) = SeesExp g a × SeesBlk es ((x, ANumber) ∷ g) s × SeesExp g b
+  SeesStm es g (Local x LocalStack s) = SeesBlk es ((x, AStack) ∷ g) s
+  SeesStm es g (Call w f ys) = IsMet es f × AreSeen g ys
 
   pub SeesBlk : List Name → Shape → Blk → Type 0
   SeesBlk es g Nil = Unit {0}

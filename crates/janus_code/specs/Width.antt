@@ -1,22 +1,15 @@
 -- How many slots are enough for flat code: its width.
 use Rattle.std.specs.Prelude.{ℕ, suc, ◌+◌, max, List, length}
-use Rattle.janus_meaning.specs.Syntax.{Name, Stm, Blk, Skip, Set, SetAt, Push, Pop, Swap, If, From, LocalInt, LocalStack, Call, Uncall, Nil, Cons, Proc}
+use Rattle.janus_meaning.specs.Syntax.{Name, Stm, Blk, Do, Branch, Local, LocalInt, LocalStack, Call, Nil, Cons, Proc}
 
 -- how many locals are open at once, where most are
 abbrev mutual
   pub open_in_stm : Stm → ℕ
-  open_in_stm Skip = 0
-  open_in_stm (Set x o e) = 0
-  open_in_stm (SetAt a i o e) = 0
-  open_in_stm (Push x y) = 0
-  open_in_stm (Pop x y) = 0
-  open_in_stm (Swap x y) = 0
-  open_in_stm (If a s t b) = max (open_in_block s) (open_in_block t)
-  open_in_stm (From a s t b) = max (open_in_block s) (open_in_block t)
-  open_in_stm (LocalInt x a s b) = suc (open_in_block s)
-  open_in_stm (LocalStack x s) = suc (open_in_block s)
-  open_in_stm (Call f ys) = 0
-  open_in_stm (Uncall f ys) = 0
+  open_in_stm (Do k) = 0
+  open_in_stm (Branch w a s t b) = max (open_in_block s) (open_in_block t)
+  open_in_stm (Local x (LocalInt a b) s) = suc (open_in_block s)
+  open_in_stm (Local x LocalStack s) = suc (open_in_block s)
+  open_in_stm (Call w f ys) = 0
 
   pub open_in_block : Blk → ℕ
   open_in_block Nil = 0

@@ -4,8 +4,9 @@ use Rattle.std.specs.Coded.{Coded, code_by, coded×, coded_ℕ, coded_ℤ, coded
 use Rattle.std.proofs.Common.{ap, ◌∙◌}
 use Rattle.janus_meaning.specs.Word.{Update, Operator, Plus, Minus, Flip, Add', Sub', Mul', Div', Rem', And', Or', Xor', Less', More', AtMost', AtLeast'}
 use Rattle.janus_meaning.specs.Word.{Same', Differ'}
-use Rattle.janus_meaning.specs.Syntax.{Name, Exp, Number, Var, At, Empty, Top, Negate, Binary, And, Or, Stm, Blk, Skip, Set, SetAt, Push, Pop, Swap, If}
-use Rattle.janus_meaning.specs.Syntax.{From, LocalInt, LocalStack, Call, Uncall, Nil, Cons, Proc, Kind, ANumber, AnArray, AStack}
+use Rattle.janus_meaning.specs.Syntax.{Name, Exp, Number, Var, At, Empty, Top, Negate, Binary, And, Or, Stm, Blk, Do, Skip, Set, SetAt, Push, Pop, Swap}
+use Rattle.janus_meaning.specs.Syntax.{Branch, If, From, Local, LocalInt, LocalStack, Call, Forwards, Backwards, Nil, Cons, Proc, Kind, ANumber, AnArray}
+use Rattle.janus_meaning.specs.Syntax.{AStack}
 
 abbrev kind_number : Kind → ℕ
 kind_number ANumber = 0
@@ -104,7 +105,7 @@ exps [] = []
 exps (e ∷ es) = es
 
 abbrev stm : List Stm → Stm
-stm [] = Skip
+stm [] = (Do Skip)
 stm (c ∷ cs) = c
 
 abbrev stms : List Stm → List Stm
@@ -146,18 +147,18 @@ expression_actions =
 -- the tokens 9 to 20
 abbrev statement_actions : List Action
 statement_actions =
-    (λ n xs m. with_stm Skip m.exps m.blks m)
-    ∷ (λ n xs m. with_stm (Set (first xs) (update_at n) (exp m.exps)) (exps m.exps) m.blks m)
-    ∷ (λ n xs m. with_stm (SetAt (first xs) (exp (exps m.exps)) (update_at n) (exp m.exps)) (exps (exps m.exps)) m.blks m)
-    ∷ (λ n xs m. with_stm (Push (first xs) (first (rest xs))) m.exps m.blks m)
-    ∷ (λ n xs m. with_stm (Pop (first xs) (first (rest xs))) m.exps m.blks m)
-    ∷ (λ n xs m. with_stm (If (exp (exps m.exps)) (blk (blks m.blks)) (blk m.blks) (exp m.exps)) (exps (exps m.exps)) (blks (blks m.blks)) m)
-    ∷ (λ n xs m. with_stm (From (exp (exps m.exps)) (blk (blks m.blks)) (blk m.blks) (exp m.exps)) (exps (exps m.exps)) (blks (blks m.blks)) m)
-    ∷ (λ n xs m. with_stm (LocalInt (first xs) (exp (exps m.exps)) (blk m.blks) (exp m.exps)) (exps (exps m.exps)) (blks m.blks) m)
-    ∷ (λ n xs m. with_stm (LocalStack (first xs) (blk m.blks)) m.exps (blks m.blks) m)
-    ∷ (λ n xs m. with_stm (Call (first xs) (rest xs)) m.exps m.blks m)
-    ∷ (λ n xs m. with_stm (Uncall (first xs) (rest xs)) m.exps m.blks m)
-    ∷ (λ n xs m. with_stm (Swap (first xs) (first (rest xs))) m.exps m.blks m)
+    (λ n xs m. with_stm (Do Skip) m.exps m.blks m)
+    ∷ (λ n xs m. with_stm (Do (Set (first xs) (update_at n) (exp m.exps))) (exps m.exps) m.blks m)
+    ∷ (λ n xs m. with_stm (Do (SetAt (first xs) (exp (exps m.exps)) (update_at n) (exp m.exps))) (exps (exps m.exps)) m.blks m)
+    ∷ (λ n xs m. with_stm (Do (Push (first xs) (first (rest xs)))) m.exps m.blks m)
+    ∷ (λ n xs m. with_stm (Do (Pop (first xs) (first (rest xs)))) m.exps m.blks m)
+    ∷ (λ n xs m. with_stm (Branch If (exp (exps m.exps)) (blk (blks m.blks)) (blk m.blks) (exp m.exps)) (exps (exps m.exps)) (blks (blks m.blks)) m)
+    ∷ (λ n xs m. with_stm (Branch From (exp (exps m.exps)) (blk (blks m.blks)) (blk m.blks) (exp m.exps)) (exps (exps m.exps)) (blks (blks m.blks)) m)
+    ∷ (λ n xs m. with_stm (Local (first xs) (LocalInt (exp (exps m.exps)) (exp m.exps)) (blk m.blks)) (exps (exps m.exps)) (blks m.blks) m)
+    ∷ (λ n xs m. with_stm (Local (first xs) LocalStack (blk m.blks)) m.exps (blks m.blks) m)
+    ∷ (λ n xs m. with_stm (Call Forwards (first xs) (rest xs)) m.exps m.blks m)
+    ∷ (λ n xs m. with_stm (Call Backwards (first xs) (rest xs)) m.exps m.blks m)
+    ∷ (λ n xs m. with_stm (Do (Swap (first xs) (first (rest xs)))) m.exps m.blks m)
     ∷ []
 
 -- the tokens 21 and 22
@@ -196,18 +197,18 @@ exp_tokens (Or l r) ts = exp_tokens l (exp_tokens r (token 8 0 [] ∷ ts))
 
 abbrev mutual
   stm_tokens : Stm → List Token → List Token
-  stm_tokens Skip ts = token 9 0 [] ∷ ts
-  stm_tokens (Set x o e) ts = exp_tokens e (token 10 (update_number o) (x ∷ []) ∷ ts)
-  stm_tokens (SetAt a i o e) ts = exp_tokens i (exp_tokens e (token 11 (update_number o) (a ∷ []) ∷ ts))
-  stm_tokens (Push x y) ts = token 12 0 (x ∷ y ∷ []) ∷ ts
-  stm_tokens (Pop x y) ts = token 13 0 (x ∷ y ∷ []) ∷ ts
-  stm_tokens (If a s t b) ts = exp_tokens a (blk_tokens s (blk_tokens t (exp_tokens b (token 14 0 [] ∷ ts))))
-  stm_tokens (From a s t b) ts = exp_tokens a (blk_tokens s (blk_tokens t (exp_tokens b (token 15 0 [] ∷ ts))))
-  stm_tokens (LocalInt x a s b) ts = exp_tokens a (blk_tokens s (exp_tokens b (token 16 0 (x ∷ []) ∷ ts)))
-  stm_tokens (LocalStack x s) ts = blk_tokens s (token 17 0 (x ∷ []) ∷ ts)
-  stm_tokens (Call f xs) ts = token 18 0 (f ∷ xs) ∷ ts
-  stm_tokens (Uncall f xs) ts = token 19 0 (f ∷ xs) ∷ ts
-  stm_tokens (Swap x y) ts = token 20 0 (x ∷ y ∷ []) ∷ ts
+  stm_tokens (Do Skip) ts = token 9 0 [] ∷ ts
+  stm_tokens (Do (Set x o e)) ts = exp_tokens e (token 10 (update_number o) (x ∷ []) ∷ ts)
+  stm_tokens (Do (SetAt a i o e)) ts = exp_tokens i (exp_tokens e (token 11 (update_number o) (a ∷ []) ∷ ts))
+  stm_tokens (Do (Push x y)) ts = token 12 0 (x ∷ y ∷ []) ∷ ts
+  stm_tokens (Do (Pop x y)) ts = token 13 0 (x ∷ y ∷ []) ∷ ts
+  stm_tokens (Branch If a s t b) ts = exp_tokens a (blk_tokens s (blk_tokens t (exp_tokens b (token 14 0 [] ∷ ts))))
+  stm_tokens (Branch From a s t b) ts = exp_tokens a (blk_tokens s (blk_tokens t (exp_tokens b (token 15 0 [] ∷ ts))))
+  stm_tokens (Local x (LocalInt a b) s) ts = exp_tokens a (blk_tokens s (exp_tokens b (token 16 0 (x ∷ []) ∷ ts)))
+  stm_tokens (Local x LocalStack s) ts = blk_tokens s (token 17 0 (x ∷ []) ∷ ts)
+  stm_tokens (Call Forwards f xs) ts = token 18 0 (f ∷ xs) ∷ ts
+  stm_tokens (Call Backwards f xs) ts = token 19 0 (f ∷ xs) ∷ ts
+  stm_tokens (Do (Swap x y)) ts = token 20 0 (x ∷ y ∷ []) ∷ ts
 
   blk_tokens : Blk → List Token → List Token
   blk_tokens Nil ts = token 21 0 [] ∷ ts
@@ -230,27 +231,27 @@ made_exp (Or l r) ts es cs bs = made_exp l _ es cs bs ∙ made_exp r _ (l ∷ es
 mutual
   made_stm : (c : Stm) (ts : List Token) (es : List Exp) (cs : List Stm) (bs : List Blk) →
       make (stm_tokens c ts) (record { exps = es; stms = cs; blks = bs }) ≡ make ts (record { exps = es; stms = c ∷ cs; blks = bs })
-  made_stm Skip ts es cs bs = refl
-  made_stm (Set x o e) ts es cs bs =
+  made_stm (Do Skip) ts es cs bs = refl
+  made_stm (Do (Set x o e)) ts es cs bs =
       made_exp e _ es cs bs
-      ∙ ap (λ (p : Update). make ts (record { exps = es; stms = Set x p e ∷ cs; blks = bs })) (update_back o)
-  made_stm (SetAt a i o e) ts es cs bs =
+      ∙ ap (λ (p : Update). make ts (record { exps = es; stms = Do (Set x p e) ∷ cs; blks = bs })) (update_back o)
+  made_stm (Do (SetAt a i o e)) ts es cs bs =
       made_exp i _ es cs bs ∙ made_exp e _ (i ∷ es) cs bs
-      ∙ ap (λ (p : Update). make ts (record { exps = es; stms = SetAt a i p e ∷ cs; blks = bs })) (update_back o)
-  made_stm (Push x y) ts es cs bs = refl
-  made_stm (Pop x y) ts es cs bs = refl
-  made_stm (If a s t b) ts es cs bs =
+      ∙ ap (λ (p : Update). make ts (record { exps = es; stms = Do (SetAt a i p e) ∷ cs; blks = bs })) (update_back o)
+  made_stm (Do (Push x y)) ts es cs bs = refl
+  made_stm (Do (Pop x y)) ts es cs bs = refl
+  made_stm (Branch If a s t b) ts es cs bs =
       made_exp a _ es cs bs ∙ made_blk s _ (a ∷ es) cs bs ∙ made_blk t _ (a ∷ es) cs (s ∷ bs)
       ∙ made_exp b _ (a ∷ es) cs (t ∷ s ∷ bs)
-  made_stm (From a s t b) ts es cs bs =
+  made_stm (Branch From a s t b) ts es cs bs =
       made_exp a _ es cs bs ∙ made_blk s _ (a ∷ es) cs bs ∙ made_blk t _ (a ∷ es) cs (s ∷ bs)
       ∙ made_exp b _ (a ∷ es) cs (t ∷ s ∷ bs)
-  made_stm (LocalInt x a s b) ts es cs bs =
+  made_stm (Local x (LocalInt a b) s) ts es cs bs =
       made_exp a _ es cs bs ∙ made_blk s _ (a ∷ es) cs bs ∙ made_exp b _ (a ∷ es) cs (s ∷ bs)
-  made_stm (LocalStack x s) ts es cs bs = made_blk s _ es cs bs
-  made_stm (Call f xs) ts es cs bs = refl
-  made_stm (Uncall f xs) ts es cs bs = refl
-  made_stm (Swap x y) ts es cs bs = refl
+  made_stm (Local x LocalStack s) ts es cs bs = made_blk s _ es cs bs
+  made_stm (Call Forwards f xs) ts es cs bs = refl
+  made_stm (Call Backwards f xs) ts es cs bs = refl
+  made_stm (Do (Swap x y)) ts es cs bs = refl
 
   made_blk : (b : Blk) (ts : List Token) (es : List Exp) (cs : List Stm) (bs : List Blk) →
       make (blk_tokens b ts) (record { exps = es; stms = cs; blks = bs }) ≡ make ts (record { exps = es; stms = cs; blks = b ∷ bs })

@@ -2,8 +2,8 @@
 use Rattle.std.proofs.Common.{◌≡◌, ℕ, zero, suc, ◌<◌, List, [], ◌∷◌, ◌++◌, length, get_or, refl, ap, ◌∙◌, sym, subst, arith}
 use Rattle.std.specs.Prelude.{slice_get, Some}
 use Rattle.janus_meaning.specs.Syntax as tree
-use Rattle.janus_meaning.specs.Syntax.{Name, Blk, Nil, Cons, rejoin}
-use Rattle.janus_meaning.specs.Moves.{InThen, InElse, InDo, InLoop, InInt, InStack}
+use Rattle.janus_meaning.specs.Syntax.{Name, Blk, Nil, Cons, rejoin, From, If, LocalInt, LocalStack}
+use Rattle.janus_meaning.specs.Moves.{InFirst, InSecond, InLocal}
 use Rattle.janus_meaning.specs.Stepping.{Frame, Framed, Place, BeforeBlock, AfterBlock, BeforeOne, AfterOne}
 use Rattle.janus_slots.specs.Slots.{slot, exp_in, stm_in, block_in}
 use Rattle.janus_linear.specs.declared.code.Order.TheVariants.{Straight}
@@ -60,8 +60,8 @@ mutual
       let m : List Name = xs ++ g in
       let c : Blk = block_in es m (plain_block s) in
       let d : Blk = block_in es m (plain_block t) in
-      let f : List Frame = Framed (InThen (exp_in m (plain_exp a)) d (exp_in m (plain_exp b))) before after ∷ fs in
-      let h : List Frame = Framed (InElse (exp_in m (plain_exp a)) c (exp_in m (plain_exp b))) before after ∷ fs in
+      let f : List Frame = Framed (InFirst If (exp_in m (plain_exp a)) d (exp_in m (plain_exp b))) before after ∷ fs in
+      let h : List Frame = Framed (InSecond If (exp_in m (plain_exp a)) c (exp_in m (plain_exp b))) before after ∷ fs in
       let second : List Place = BeforeBlock d h ∷ row_places Straight Nil d h rest in
       follow_more es g (between (Enters xs (If a s t b) First) (block_spots xs s) (Leaves xs (If a s t b) First))
       (between (Enters xs (If a s t b) Second) (block_spots xs t) (Leaves xs (If a s t b) Second))
@@ -76,8 +76,8 @@ mutual
       let m : List Name = xs ++ g in
       let c : Blk = block_in es m (plain_block s) in
       let d : Blk = block_in es m (plain_block t) in
-      let f : List Frame = Framed (InDo (exp_in m (plain_exp a)) d (exp_in m (plain_exp b))) before after ∷ fs in
-      let h : List Frame = Framed (InLoop (exp_in m (plain_exp a)) c (exp_in m (plain_exp b))) before after ∷ fs in
+      let f : List Frame = Framed (InFirst From (exp_in m (plain_exp a)) d (exp_in m (plain_exp b))) before after ∷ fs in
+      let h : List Frame = Framed (InSecond From (exp_in m (plain_exp a)) c (exp_in m (plain_exp b))) before after ∷ fs in
       let second : List Place = BeforeBlock d h ∷ row_places Straight Nil d h rest in
       follow_more es g (between (Enters xs (Loop a s t b) First) (block_spots xs s) (Leaves xs (Loop a s t b) First))
       (between (Enters xs (Loop a s t b) Second) (block_spots xs t) (Leaves xs (Loop a s t b) Second))
@@ -91,14 +91,14 @@ mutual
   inner_follow es g xs (LocalInt x a s y b) before after fs rest n =
       let m : List Name = xs ++ g in
       let c : Blk = block_in es (text_of x ∷ m) (plain_block s) in
-      let f : List Frame = Framed (InInt (slot (length m)) (exp_in m (plain_exp a)) (exp_in m (plain_exp b))) before after ∷ fs in
+      let f : List Frame = Framed (InLocal (slot (length m)) (LocalInt (exp_in m (plain_exp a)) (exp_in m (plain_exp b)))) before after ∷ fs in
       follow_between es g (Enters xs (LocalInt x a s y b) First) (Leaves xs (LocalInt x a s y b) First) (block_spots (text_of x ∷ xs) s) (BeforeBlock c f)
       (AfterBlock c f) (row_places Straight Nil c f rest) rest (record { is = (refl, refl); locals = ap suc n })
       (rows_follow es g (text_of x ∷ xs) s Nil c f rest (ap suc n) refl) (record { is = (refl, refl); locals = ap suc n })
   inner_follow es g xs (LocalStack x s y) before after fs rest n =
       let m : List Name = xs ++ g in
       let c : Blk = block_in es (text_of x ∷ m) (plain_block s) in
-      let f : List Frame = Framed (InStack (slot (length m))) before after ∷ fs in
+      let f : List Frame = Framed (InLocal (slot (length m)) LocalStack) before after ∷ fs in
       follow_between es g (Enters xs (LocalStack x s y) First) (Leaves xs (LocalStack x s y) First) (block_spots (text_of x ∷ xs) s) (BeforeBlock c f)
       (AfterBlock c f) (row_places Straight Nil c f rest) rest (record { is = (refl, refl); locals = ap suc n })
       (rows_follow es g (text_of x ∷ xs) s Nil c f rest (ap suc n) refl) (record { is = (refl, refl); locals = ap suc n })

@@ -1,8 +1,8 @@
 -- What a place of the text is in the meaning: the place of the machine of its code, in which each name is the slot that it has there.
 use Rattle.std.specs.Prelude.{◌≡◌, ◌<◌, ℕ, List, [], ◌∷◌, ◌++◌, length, slice_get, Option, Some}
 use Rattle.janus_meaning.specs.Syntax as tree
-use Rattle.janus_meaning.specs.Syntax.{Name}
-use Rattle.janus_meaning.specs.Moves.{Hole, rebuild, InThen, InElse, InDo, InLoop, InInt, InStack, InCall, InUncall}
+use Rattle.janus_meaning.specs.Syntax.{Name, LocalInt, LocalStack}
+use Rattle.janus_meaning.specs.Moves.{Hole, rebuild, InFirst, InSecond, InLocal, InCall}
 use Rattle.janus_meaning.specs.Stepping.{Frame, Framed, Place, BeforeBlock, AfterBlock, BeforeOne, AfterOne, frames_of}
 use Rattle.janus_slots.specs.Slots.{stm_in, block_in}
 use Rattle.janus_linear.specs.declared.code.Order.TheVariants.{Straight}
@@ -18,14 +18,11 @@ use Rattle.janus_places.specs.Spots.{Spot, Begin, End, Before, After, Enters, Le
 
 -- which block of its statement stands in a hole
 abbrev pub branch_of : Hole → Branch
-branch_of (InThen a t b) = First
-branch_of (InElse a s b) = Second
-branch_of (InDo a t b) = First
-branch_of (InLoop a s b) = Second
-branch_of (InInt x a b) = First
-branch_of (InStack x) = First
-branch_of (InCall f xs s) = First
-branch_of (InUncall f xs s) = First
+branch_of (InFirst w a t b) = First
+branch_of (InSecond w a s b) = Second
+branch_of (InLocal x (LocalInt a b)) = First
+branch_of (InLocal x LocalStack) = First
+branch_of (InCall w f xs s) = First
 
 -- the block in the innermost open statement is this one of a statement
 abbrev pub IsInBranch : tree.Stm → Branch → tree.Blk → List Frame → Type 0

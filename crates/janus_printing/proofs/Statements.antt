@@ -53,7 +53,7 @@ assign_again x place u e d ts rest h f (at, t1, e1, (on, t2, e2, s)) =
     let r = whole_again e d t2 rest h f s in
     record {
       again = Assign (named x at) u r.again;
-      same = ap (λ y. plain.Set x (update_of u) y) r.same;
+      same = ap (λ y. plain.Do (plain.Set x (update_of u) y)) r.same;
       starts = λ {p} k v d' end onward.
           begins_to (λ t. statement t k) (part Swap_partner (λ other. behind_target (named x at) other k)) v d d' (Name x at) ts t1 end e1 refl h
           (left_to (λ other. behind_target (named x at) other k) None v d d' t1 end refl
@@ -74,7 +74,7 @@ assign_element_again x place i u e d ts rest h few fits_i fits_e (at, t1, e1, (o
     let r = whole_again e d on.1 rest h fits_e on.3 in
     record {
       again = AssignElement (named x at) j.again u r.again;
-      same = (λ n. plain.SetAt x (j.same n) (update_of u) (r.same n));
+      same = (λ n. plain.Do (plain.SetAt x (j.same n) (update_of u) (r.same n)));
       starts = λ {p} k v d' end onward.
           begins_to (λ t. statement t k) (part Swap_partner (λ other. behind_target (named x at) other k)) v d d' (Name x at) ts t1 end e1 refl h
           (left_to (λ other. behind_target (named x at) other k) None v d d' t1 end refl
@@ -123,7 +123,7 @@ if_again e s t f reads_s reads_t d ts rest h (few, fits_e, fits_s, fits_t, fits_
     let rf = whole_again f (suc d) fi_at.1 rest few fits_f fi_at.3 in
     record {
       again = If re.again rs.again rt.again rf.again;
-      same = (λ n. plain.If (re.same n) (rs.same n) (rt.same n) (rf.same n));
+      same = (λ n. plain.Branch plain.If (re.same n) (rs.same n) (rt.same n) (rf.same n));
       starts = λ {p} k v d' end onward.
           opens_to (λ x. statement x k)
           (part Whole (λ a. keyword_then keyword.Then
@@ -159,7 +159,7 @@ loop_again e s t f reads_s reads_t d ts rest h (few, fits_e, fits_s, fits_t, fit
     let rf = whole_again f (suc d) until_at.1 rest few fits_f until_at.3 in
     record {
       again = Loop re.again rs.again rt.again rf.again;
-      same = (λ n. plain.From (re.same n) (rs.same n) (rt.same n) (rf.same n));
+      same = (λ n. plain.Branch plain.From (re.same n) (rs.same n) (rt.same n) (rf.same n));
       starts = λ {p} k v d' end onward.
           opens_to (λ x. statement x k)
           (part Whole (λ a. part Do_part (λ b. part Loop_part (λ c. keyword_then keyword.Until (part Whole (λ g. close (k (Loop a b c g)))))))) v d d'
@@ -194,7 +194,7 @@ local_int_again x place e s y at f reads_s d ts rest (few, name, fits_e, fits_s,
     let w : Stm = LocalInt (named x of_x) re.again rs.again (named y of_y) rf.again in
     record {
       again = w;
-      same = (λ n. plain.LocalInt x (re.same n) (rs.same n) (rf.same n));
+      same = (λ n. plain.Local x (plain.LocalInt (re.same n) (rf.same n)) (rs.same n));
       starts = λ {p} k v d' end onward.
           opens_to (λ t. statement t k) (part Local (λ b. close (k b))) v d d' (Keyword_of keyword.Local on) ts t1 end e1 refl few
           (part_to {q = Local} (λ b. close (k b)) w v (suc d) (suc d) d' t1 rest end
@@ -227,7 +227,7 @@ local_stack_again x place s y at reads_s d ts rest (few, name, fits_s, again_y)
     let w : Stm = LocalStack (named x of_x) rs.again (named y of_y) in
     record {
       again = w;
-      same = (λ n. plain.LocalStack x (rs.same n));
+      same = (λ n. plain.Local x plain.LocalStack (rs.same n));
       starts = λ {p} k v d' end onward.
           opens_to (λ t. statement t k) (part Local (λ b. close (k b))) v d d' (Keyword_of keyword.Local on) ts t1 end e1 refl few
           (part_to {q = Local} (λ b. close (k b)) w v (suc d) (suc d) d' t1 rest end
@@ -300,7 +300,7 @@ calls_again f at xs d ts rest h (on, t1, e1, s) =
     let r = call_again f xs d t1 rest h s in
     record {
       again = Call (named f r.place) r.again;
-      same = ap (plain.Call f) r.same;
+      same = ap (plain.Call plain.Forwards f) r.same;
       starts = λ {p} k v d' end onward.
           begins_to (λ t. statement t k) (call_then (λ g ys. k (Call g ys))) v d d' (Keyword_of keyword.Call on) ts t1 end e1 refl h
           (r.spells (λ g ys. k (Call g ys)) v d' end onward);
@@ -312,7 +312,7 @@ uncalls_again f at xs d ts rest h (on, t1, e1, s) =
     let r = call_again f xs d t1 rest h s in
     record {
       again = Uncall (named f r.place) r.again;
-      same = ap (plain.Uncall f) r.same;
+      same = ap (plain.Call plain.Backwards f) r.same;
       starts = λ {p} k v d' end onward.
           begins_to (λ t. statement t k) (call_then (λ g ys. k (Uncall g ys))) v d d' (Keyword_of keyword.Uncall on) ts t1 end e1 refl h
           (r.spells (λ g ys. k (Uncall g ys)) v d' end onward);

@@ -4,15 +4,15 @@ use Rattle.std.specs.Ordering.{int_eq}
 use Rattle.janus_meaning.specs.Fault.{Res, Fine, Bad, Broken, DelocalMismatch, FiAssertion, EntryAssertion, LoopAssertion, and_then, guard}
 use Rattle.janus_meaning.specs.Limit.{Limits}
 use Rattle.janus_meaning.specs.Word.{Update, changed}
-use Rattle.janus_meaning.specs.Syntax.{Name, Exp, Stm, Blk, Skip, Set, SetAt, Push, Pop, Swap, If, From, LocalInt, LocalStack, Call, Uncall, Proc}
-use Rattle.janus_meaning.specs.Syntax.{names_of, inverse_block}
+use Rattle.janus_meaning.specs.Syntax.{Name, Exp, Stm, Blk, Do, Skip, Set, SetAt, Push, Pop, Swap, Branch, If, From, Local, LocalInt, LocalStack, Call, Proc}
+use Rattle.janus_meaning.specs.Syntax.{names_of, facing}
 use Rattle.janus_meaning.specs.Store.{Val, Num, Arr, Stk, Lent, Store, Bare, Slot, take, put, number, array, stack, element}
 use Rattle.janus_meaning.specs.Store.{set_element, pull, fill, bind, unbind, find, held_in}
 use Rattle.janus_meaning.specs.Value.{value, test}
 use Rattle.janus_meaning.specs.Outside.{Outside}
-use Rattle.janus_meaning.specs.Moves.{Hole, InThen, InElse, InDo, InLoop, InInt, InStack, InCall, InUncall, Move, Over, Into, room, stack_room}
-use Rattle.janus_meaning.specs.Moves.{value_room, choose, done, begin, leave, enter_call, leave_call, assign, assign_at, push, pop, must_be_zero}
-use Rattle.janus_meaning.specs.Moves.{uncons, number_at, set_number, swap, drop_int, drop_int_slot, drop_stack, drop_stack_slot}
+use Rattle.janus_meaning.specs.Moves.{Hole, InFirst, InSecond, InLocal, InCall, Move, Over, Into, room, stack_room, value_room, choose, done, begin, leave}
+use Rattle.janus_meaning.specs.Moves.{enter_call, leave_call, assign, assign_at, push, pop, must_be_zero, uncons, number_at, set_number, swap, drop_int}
+use Rattle.janus_meaning.specs.Moves.{drop_int_slot, drop_stack, drop_stack_slot}
 use Rattle.janus_meaning.proofs.Results.{with_parts}
 use Rattle.janus_slots.specs.Slots.{slot, slot_in, slots_in, exp_in, number_in, stm_in, block_in, stacked, procedure_in, procedures_in, names_in}
 use Rattle.janus_slots.specs.Slots.{in_slots, outside_in}
@@ -23,7 +23,7 @@ use Rattle.janus_slots.proofs.Stores.{beside, look_in, take_in, take_names, put_
 use Rattle.janus_slots.proofs.Stores.{head_same, tail_is, slots_same}
 use Rattle.janus_slots.proofs.Whole.{held_same}
 use Rattle.janus_slots.proofs.Values.{value_in, test_in}
-use Rattle.janus_slots.proofs.Trees.{inverse_block_in}
+use Rattle.janus_slots.proofs.Trees.{facing_in}
 
 -- ---- assignment, push, pop and swap
 
@@ -187,14 +187,11 @@ move_in es ps g (Into b h s) = Into (block_in es (sight_inside ps h g) b) (hole_
 
 -- a call's caller has the names that are in sight outside of the call
 abbrev pub IsNamed : List Name → Hole → Type 0
-IsNamed g (InThen a t b) = Unit {0}
-IsNamed g (InElse a s b) = Unit {0}
-IsNamed g (InDo a t b) = Unit {0}
-IsNamed g (InLoop a s b) = Unit {0}
-IsNamed g (InInt x a b) = Unit {0}
-IsNamed g (InStack x) = Unit {0}
-IsNamed g (InCall f xs c) = names_in c ≡ g
-IsNamed g (InUncall f xs c) = names_in c ≡ g
+IsNamed g (InFirst w a t b) = Unit {0}
+IsNamed g (InSecond w a s b) = Unit {0}
+IsNamed g (InLocal x (LocalInt a b)) = Unit {0}
+IsNamed g (InLocal x LocalStack) = Unit {0}
+IsNamed g (InCall w f xs c) = names_in c ≡ g
 
 module _ (es : List Name) where
   done_in : (ps : List Proc) (g : List Name) (r q : Res Store) → q ≡ res_in in_slots r → done q ≡ res_in (move_in es ps g) (done r)
@@ -221,86 +218,76 @@ module _ (es : List Name) where
 
   begin_same : (out : Outside) (c : Stm) (s : Store) → AreListed es out.procedures
       → begin (outside_in es out) (stm_in es (names_in s) c) (in_slots s) ≡ res_in (move_in es out.procedures (names_in s)) (begin out c s)
-  begin_same out Skip s l = refl
-  begin_same out (Set x o e) s l = done_in out.procedures (names_in s) (assign x o e s) _ (assign_in (names_in s) x o e s refl)
-  begin_same out (SetAt a i o e) s l = done_in out.procedures (names_in s) (assign_at a i o e s) _ (assign_at_in (names_in s) a i o e s refl)
-  begin_same out (Push x y) s l = done_in out.procedures (names_in s) (push out.limits out.values x y s) _
+  begin_same out (Do Skip) s l = refl
+  begin_same out (Do (Set x o e)) s l = done_in out.procedures (names_in s) (assign x o e s) _ (assign_in (names_in s) x o e s refl)
+  begin_same out (Do (SetAt a i o e)) s l = done_in out.procedures (names_in s) (assign_at a i o e s) _ (assign_at_in (names_in s) a i o e s refl)
+  begin_same out (Do (Push x y)) s l = done_in out.procedures (names_in s) (push out.limits out.values x y s) _
       (push_in (names_in s) out.limits out.values x y s refl)
-  begin_same out (Pop x y) s l = done_in out.procedures (names_in s) (pop x y s) _ (pop_in (names_in s) x y s refl)
-  begin_same out (Swap x y) s l = done_in out.procedures (names_in s) (swap x y s) _ (swap_in (names_in s) x y s refl)
-  begin_same out (If a p q b) s l =
+  begin_same out (Do (Pop x y)) s l = done_in out.procedures (names_in s) (pop x y s) _ (pop_in (names_in s) x y s refl)
+  begin_same out (Do (Swap x y)) s l = done_in out.procedures (names_in s) (swap x y s) _ (swap_in (names_in s) x y s refl)
+  begin_same out (Branch If a p q b) s l =
       let g : List Name = names_in s in
       same_then (move_in es out.procedures g) (room out.frames) (room out.frames)
-      (λ ok. and_then (test a s) (λ v. choose v (Fine (Into p (InThen a q b) s)) (Fine (Into q (InElse a p b) s))))
+      (λ ok. and_then (test a s) (λ v. choose v (Fine (Into p (InFirst If a q b) s)) (Fine (Into q (InSecond If a p b) s))))
       (λ ok. and_then (test (exp_in g a) (in_slots s)) (λ v. choose v
-      (Fine (Into (block_in es g p) (InThen (exp_in g a) (block_in es g q) (exp_in g b)) (in_slots s)))
-      (Fine (Into (block_in es g q) (InElse (exp_in g a) (block_in es g p) (exp_in g b)) (in_slots s)))))
+      (Fine (Into (block_in es g p) (InFirst If (exp_in g a) (block_in es g q) (exp_in g b)) (in_slots s)))
+      (Fine (Into (block_in es g q) (InSecond If (exp_in g a) (block_in es g p) (exp_in g b)) (in_slots s)))))
       refl (λ ok hok.
       same_then (move_in es out.procedures g) (test a s) (test (exp_in g a) (in_slots s))
-      (λ v. choose v (Fine (Into p (InThen a q b) s)) (Fine (Into q (InElse a p b) s)))
+      (λ v. choose v (Fine (Into p (InFirst If a q b) s)) (Fine (Into q (InSecond If a p b) s)))
       (λ v. choose v
-      (Fine (Into (block_in es g p) (InThen (exp_in g a) (block_in es g q) (exp_in g b)) (in_slots s)))
-      (Fine (Into (block_in es g q) (InElse (exp_in g a) (block_in es g p) (exp_in g b)) (in_slots s))))
+      (Fine (Into (block_in es g p) (InFirst If (exp_in g a) (block_in es g q) (exp_in g b)) (in_slots s)))
+      (Fine (Into (block_in es g q) (InSecond If (exp_in g a) (block_in es g p) (exp_in g b)) (in_slots s))))
       (test_in s g refl a) (λ v hv.
-      choose_in (move_in es out.procedures g) v (Fine (Into p (InThen a q b) s)) (Fine (Into q (InElse a p b) s)) _ _ refl refl))
-  begin_same out (From a p q b) s l =
+      choose_in (move_in es out.procedures g) v (Fine (Into p (InFirst If a q b) s)) (Fine (Into q (InSecond If a p b) s)) _ _ refl refl))
+  begin_same out (Branch From a p q b) s l =
       let g : List Name = names_in s in
       same_then (move_in es out.procedures g) (room out.frames) (room out.frames)
-      (λ ok. and_then (test a s) (λ v. choose v (Fine (Into p (InDo a q b) s)) (Bad EntryAssertion)))
+      (λ ok. and_then (test a s) (λ v. choose v (Fine (Into p (InFirst From a q b) s)) (Bad EntryAssertion)))
       (λ ok. and_then (test (exp_in g a) (in_slots s)) (λ v. choose v
-      (Fine (Into (block_in es g p) (InDo (exp_in g a) (block_in es g q) (exp_in g b)) (in_slots s)))
+      (Fine (Into (block_in es g p) (InFirst From (exp_in g a) (block_in es g q) (exp_in g b)) (in_slots s)))
       (Bad EntryAssertion)))
       refl (λ ok hok.
       same_then (move_in es out.procedures g) (test a s) (test (exp_in g a) (in_slots s))
-      (λ v. choose v (Fine (Into p (InDo a q b) s)) (Bad EntryAssertion))
+      (λ v. choose v (Fine (Into p (InFirst From a q b) s)) (Bad EntryAssertion))
       (λ v. choose v
-      (Fine (Into (block_in es g p) (InDo (exp_in g a) (block_in es g q) (exp_in g b)) (in_slots s)))
+      (Fine (Into (block_in es g p) (InFirst From (exp_in g a) (block_in es g q) (exp_in g b)) (in_slots s)))
       (Bad EntryAssertion))
       (test_in s g refl a) (λ v hv.
-      choose_in (move_in es out.procedures g) v (Fine (Into p (InDo a q b) s)) (Bad EntryAssertion) _ _ refl refl))
-  begin_same out (LocalInt x a p b) s l =
+      choose_in (move_in es out.procedures g) v (Fine (Into p (InFirst From a q b) s)) (Bad EntryAssertion) _ _ refl refl))
+  begin_same out (Local x (LocalInt a b) p) s l =
       let g : List Name = names_in s in
       same_then (move_in es out.procedures g) (room out.frames) (room out.frames)
-      (λ ok. and_then (value a s) (λ v. Fine (Into p (InInt x a b) (Slot x (Num v) s))))
+      (λ ok. and_then (value a s) (λ v. Fine (Into p (InLocal x (LocalInt a b)) (Slot x (Num v) s))))
       (λ ok. and_then (value (exp_in g a) (in_slots s))
-      (λ v. Fine (Into (block_in es (x ∷ g) p) (InInt (slot (length g)) (exp_in g a) (exp_in g b)) (Slot (slot (length g)) (Num v) (in_slots s)))))
+      (λ v. Fine (Into (block_in es (x ∷ g) p) (InLocal (slot (length g)) (LocalInt (exp_in g a) (exp_in g b))) (Slot (slot (length g)) (Num v) (in_slots s)))))
       refl (λ ok hok.
       same_then (move_in es out.procedures g) (value a s) (value (exp_in g a) (in_slots s))
-      (λ v. Fine (Into p (InInt x a b) (Slot x (Num v) s)))
-      (λ v. Fine (Into (block_in es (x ∷ g) p) (InInt (slot (length g)) (exp_in g a) (exp_in g b)) (Slot (slot (length g)) (Num v) (in_slots s))))
+      (λ v. Fine (Into p (InLocal x (LocalInt a b)) (Slot x (Num v) s)))
+      (λ v. Fine (Into (block_in es (x ∷ g) p) (InLocal (slot (length g)) (LocalInt (exp_in g a) (exp_in g b))) (Slot (slot (length g)) (Num v) (in_slots s))))
       (value_in s g refl a) (λ v hv. refl))
-  begin_same out (LocalStack x p) s l =
+  begin_same out (Local x LocalStack p) s l =
       let g : List Name = names_in s in
       same_then (move_in es out.procedures g) (room out.frames) (room out.frames)
-      (λ ok. and_then (stack_room out.stacks) (λ ok. Fine (Into p (InStack x) (Slot x (Stk []) s))))
+      (λ ok. and_then (stack_room out.stacks) (λ ok. Fine (Into p (InLocal x LocalStack) (Slot x (Stk []) s))))
       (λ ok. and_then (stack_room out.stacks) (λ ok. Fine
-      (Into (block_in es (x ∷ g) p) (InStack (slot (length g))) (Slot (slot (length g)) (Stk []) (in_slots s)))))
+      (Into (block_in es (x ∷ g) p) (InLocal (slot (length g)) LocalStack) (Slot (slot (length g)) (Stk []) (in_slots s)))))
       refl (λ ok hok.
       same_then (move_in es out.procedures g) (stack_room out.stacks) (stack_room out.stacks)
-      (λ ok. Fine (Into p (InStack x) (Slot x (Stk []) s)))
-      (λ ok. Fine (Into (block_in es (x ∷ g) p) (InStack (slot (length g))) (Slot (slot (length g)) (Stk []) (in_slots s))))
+      (λ ok. Fine (Into p (InLocal x LocalStack) (Slot x (Stk []) s)))
+      (λ ok. Fine (Into (block_in es (x ∷ g) p) (InLocal (slot (length g)) LocalStack) (Slot (slot (length g)) (Stk []) (in_slots s))))
       refl (λ ok hs. refl))
-  begin_same out (Call f xs) s l =
+  begin_same out (Call w f xs) s l =
       let g : List Name = names_in s in
       same_then (move_in es out.procedures g) (room out.frames) (room out.frames)
-      (λ ok. enter_call out.procedures f xs s (λ body caller inside. Into body (InCall f xs caller) inside))
+      (λ ok. enter_call out.procedures f xs s (λ body caller inside. Into (facing w body) (InCall w f xs caller) inside))
       (λ ok. enter_call (procedures_in es out.procedures) (number_in es f) (slots_in g xs) (in_slots s)
-      (λ body caller inside. Into body (InCall (number_in es f) (slots_in g xs) caller) inside))
+      (λ body caller inside. Into (facing w body) (InCall w (number_in es f) (slots_in g xs) caller) inside))
       refl (λ ok hok.
-      call_in out.procedures g f xs s (λ body caller inside. Into body (InCall f xs caller) inside)
-      (λ body caller inside. Into body (InCall (number_in es f) (slots_in g xs) caller) inside) l refl (λ p c t hp.
-      ap (λ (r : Res Proc). Into (block_in es (parameters_of r) p.body) (InCall (number_in es f) (slots_in g xs) (in_slots c)) (in_slots t)) (sym hp)))
-  begin_same out (Uncall f xs) s l =
-      let g : List Name = names_in s in
-      same_then (move_in es out.procedures g) (room out.frames) (room out.frames)
-      (λ ok. enter_call out.procedures f xs s (λ body caller inside. Into (inverse_block body) (InUncall f xs caller) inside))
-      (λ ok. enter_call (procedures_in es out.procedures) (number_in es f) (slots_in g xs) (in_slots s)
-      (λ body caller inside. Into (inverse_block body) (InUncall (number_in es f) (slots_in g xs) caller) inside))
-      refl (λ ok hok.
-      call_in out.procedures g f xs s (λ body caller inside. Into (inverse_block body) (InUncall f xs caller) inside)
-      (λ body caller inside. Into (inverse_block body) (InUncall (number_in es f) (slots_in g xs) caller) inside) l refl (λ p c t hp.
-      ap (λ b. Into b (InUncall (number_in es f) (slots_in g xs) (in_slots c)) (in_slots t)) (inverse_block_in es (names_of p.params) p.body)
-      ∙ ap (λ (r : Res Proc). Into (block_in es (parameters_of r) (inverse_block p.body)) (InUncall (number_in es f) (slots_in g xs) (in_slots c))
+      call_in out.procedures g f xs s (λ body caller inside. Into (facing w body) (InCall w f xs caller) inside)
+      (λ body caller inside. Into (facing w body) (InCall w (number_in es f) (slots_in g xs) caller) inside) l refl (λ p c t hp.
+      ap (λ b. Into b (InCall w (number_in es f) (slots_in g xs) (in_slots c)) (in_slots t)) (facing_in es (names_of p.params) w p.body)
+      ∙ ap (λ (r : Res Proc). Into (block_in es (parameters_of r) (facing w p.body)) (InCall w (number_in es f) (slots_in g xs) (in_slots c))
       (in_slots t)) (sym hp)))
 
   -- the first step of a statement
@@ -361,23 +348,22 @@ module _ (es : List Name) where
   -- the step at the end of a block
   pub leave_in : (ps : List Proc) (g : List Name) (h : Hole) (b : Blk) (s : Store) → AreListed es ps → names_in s ≡ sight_inside ps h g → IsNamed g h
       → leave (procedures_in es ps) (hole_in es g h) (block_in es (sight_inside ps h g) b) (in_slots s) ≡ res_in (move_in es ps g) (leave ps h b s)
-  leave_in ps g (InThen a q b) p s l k n =
+  leave_in ps g (InFirst If a q b) p s l k n =
       same_then (move_in es ps g) (test b s) (test (exp_in g b) (in_slots s)) (λ v. choose v (Fine (Over s)) (Bad FiAssertion))
       (λ v. choose v (Fine (Over (in_slots s))) (Bad FiAssertion))
       (test_in s g k b) (λ v hv. choose_in (move_in es ps g) v (Fine (Over s)) (Bad FiAssertion) _ _ refl refl)
-  leave_in ps g (InElse a p b) q s l k n =
+  leave_in ps g (InSecond If a p b) q s l k n =
       same_then (move_in es ps g) (test b s) (test (exp_in g b) (in_slots s)) (λ v. choose v (Bad FiAssertion) (Fine (Over s)))
       (λ v. choose v (Bad FiAssertion) (Fine (Over (in_slots s))))
       (test_in s g k b) (λ v hv. choose_in (move_in es ps g) v (Bad FiAssertion) (Fine (Over s)) _ _ refl refl)
-  leave_in ps g (InDo a q b) p s l k n =
-      same_then (move_in es ps g) (test b s) (test (exp_in g b) (in_slots s)) (λ v. choose v (Fine (Over s)) (Fine (Into q (InLoop a p b) s)))
-      (λ v. choose v (Fine (Over (in_slots s))) (Fine (Into (block_in es g q) (InLoop (exp_in g a) (block_in es g p) (exp_in g b)) (in_slots s))))
-      (test_in s g k b) (λ v hv. choose_in (move_in es ps g) v (Fine (Over s)) (Fine (Into q (InLoop a p b) s)) _ _ refl refl)
-  leave_in ps g (InLoop a p b) q s l k n =
-      same_then (move_in es ps g) (test a s) (test (exp_in g a) (in_slots s)) (λ v. choose v (Bad LoopAssertion) (Fine (Into p (InDo a q b) s)))
-      (λ v. choose v (Bad LoopAssertion) (Fine (Into (block_in es g p) (InDo (exp_in g a) (block_in es g q) (exp_in g b)) (in_slots s))))
-      (test_in s g k a) (λ v hv. choose_in (move_in es ps g) v (Bad LoopAssertion) (Fine (Into p (InDo a q b) s)) _ _ refl refl)
-  leave_in ps g (InInt x a b) p s l k n = done_in ps g (drop_int x b s) _ (drop_int_in g x b s k)
-  leave_in ps g (InStack x) p s l k n = done_in ps g (drop_stack x s) _ (drop_stack_in g x s k)
-  leave_in ps g (InCall f xs c) p s l k n = done_in ps g (leave_call ps f xs c s) _ (leave_call_in ps g f xs c s l k n)
-  leave_in ps g (InUncall f xs c) p s l k n = done_in ps g (leave_call ps f xs c s) _ (leave_call_in ps g f xs c s l k n)
+  leave_in ps g (InFirst From a q b) p s l k n =
+      same_then (move_in es ps g) (test b s) (test (exp_in g b) (in_slots s)) (λ v. choose v (Fine (Over s)) (Fine (Into q (InSecond From a p b) s)))
+      (λ v. choose v (Fine (Over (in_slots s))) (Fine (Into (block_in es g q) (InSecond From (exp_in g a) (block_in es g p) (exp_in g b)) (in_slots s))))
+      (test_in s g k b) (λ v hv. choose_in (move_in es ps g) v (Fine (Over s)) (Fine (Into q (InSecond From a p b) s)) _ _ refl refl)
+  leave_in ps g (InSecond From a p b) q s l k n =
+      same_then (move_in es ps g) (test a s) (test (exp_in g a) (in_slots s)) (λ v. choose v (Bad LoopAssertion) (Fine (Into p (InFirst From a q b) s)))
+      (λ v. choose v (Bad LoopAssertion) (Fine (Into (block_in es g p) (InFirst From (exp_in g a) (block_in es g q) (exp_in g b)) (in_slots s))))
+      (test_in s g k a) (λ v hv. choose_in (move_in es ps g) v (Bad LoopAssertion) (Fine (Into p (InFirst From a q b) s)) _ _ refl refl)
+  leave_in ps g (InLocal x (LocalInt a b)) p s l k n = done_in ps g (drop_int x b s) _ (drop_int_in g x b s k)
+  leave_in ps g (InLocal x LocalStack) p s l k n = done_in ps g (drop_stack x s) _ (drop_stack_in g x s k)
+  leave_in ps g (InCall w f xs c) p s l k n = done_in ps g (leave_call ps f xs c s) _ (leave_call_in ps g f xs c s l k n)

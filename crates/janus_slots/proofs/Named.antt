@@ -1,13 +1,12 @@
 -- Every place that is reached has the names in its store that are in sight there, and every open call's caller those outside of the call.
 use Rattle.std.proofs.Common.{◌≡◌, ℕ, zero, suc, List, [], ◌∷◌, refl, ap, ◌∙◌, sym, subst}
 use Rattle.janus_meaning.specs.Fault.{Res, Fine, Bad, and_then}
-use Rattle.janus_meaning.specs.Syntax.{Name, Stm, Blk, Nil, Cons, Skip, Set, SetAt, Push, Pop, Swap, If, From, LocalInt, LocalStack, Call}
-use Rattle.janus_meaning.specs.Syntax.{Uncall, Proc, names_of, inverse_block}
+use Rattle.janus_meaning.specs.Syntax.{Name, Stm, Blk, Nil, Cons, Do, Branch, If, From, Local, LocalInt, LocalStack, Call, Proc, names_of, facing}
 use Rattle.janus_meaning.specs.Store.{Val, Num, Stk, Store, Slot, pull, fill, bind, unbind, find, cleared}
 use Rattle.janus_meaning.specs.Value.{value, test}
 use Rattle.janus_meaning.specs.Outside.{Outside}
-use Rattle.janus_meaning.specs.Moves.{Hole, InThen, InElse, InDo, InLoop, InInt, InStack, InCall, InUncall, rebuild, Move, Over, Into, room}
-use Rattle.janus_meaning.specs.Moves.{stack_room, done, begin, leave, leave_call, drop_int, drop_stack}
+use Rattle.janus_meaning.specs.Moves.{Hole, InFirst, InSecond, InLocal, InCall, rebuild, Move, Over, Into, room, stack_room, done, begin, leave, leave_call}
+use Rattle.janus_meaning.specs.Moves.{drop_int, drop_stack}
 use Rattle.janus_meaning.specs.Stepping.{Frame, Framed, Place, BeforeBlock, AfterBlock, BeforeOne, AfterOne, Next, To, End, Halt, gap, depth, beyond}
 use Rattle.janus_meaning.specs.Stepping.{arrive, after_room, step, go_on, steps, frames_of}
 use Rattle.janus_meaning.proofs.Results.{with_parts, by_fine}
@@ -41,34 +40,25 @@ call_named : (ps : List Proc) (f : Name) (xs : List Name) (s : Store) (p : Proc)
 call_named ps f xs s p t r hp ht hr = (bind_names (names_of p.params) t.0 r hr ∙ sym (ap parameters_of hp), pull_names xs s t ht)
 
 begin_named_same : (out : Outside) (c : Stm) (s : Store) (m : Move) → begin out c s ≡ Fine m → MovesNamed out.procedures (names_in s) m
-begin_named_same out Skip s m h = by_fine (MovesNamed out.procedures (names_in s)) (Over s) m h refl
-begin_named_same out (Set x o e) s m h = over_named out (Set x o e) s _ m refl h
-begin_named_same out (SetAt a i o e) s m h = over_named out (SetAt a i o e) s _ m refl h
-begin_named_same out (Push x y) s m h = over_named out (Push x y) s _ m refl h
-begin_named_same out (Pop x y) s m h = over_named out (Pop x y) s _ m refl h
-begin_named_same out (Swap x y) s m h = over_named out (Swap x y) s _ m refl h
-begin_named_same out (If a p q b) s m h =
+begin_named_same out (Do k) s m h = over_named out (Do k) s _ m refl h
+begin_named_same out (Branch If a p q b) s m h =
     with_parts (room out.frames) _ m h (λ u hu h1. with_parts (test a s) _ m h1 (λ v hv h2. choose_is v _ _ m (MovesNamed out.procedures (names_in s) m) h2
-    (λ e h3. by_fine (MovesNamed out.procedures (names_in s)) (Into p (InThen a q b) s) m h3 (refl, tt))
-    (λ e h3. by_fine (MovesNamed out.procedures (names_in s)) (Into q (InElse a p b) s) m h3 (refl, tt))))
-begin_named_same out (From a p q b) s m h =
+    (λ e h3. by_fine (MovesNamed out.procedures (names_in s)) (Into p (InFirst If a q b) s) m h3 (refl, tt))
+    (λ e h3. by_fine (MovesNamed out.procedures (names_in s)) (Into q (InSecond If a p b) s) m h3 (refl, tt))))
+begin_named_same out (Branch From a p q b) s m h =
     with_parts (room out.frames) _ m h (λ u hu h1. with_parts (test a s) _ m h1 (λ v hv h2. choose_is v _ _ m (MovesNamed out.procedures (names_in s) m) h2
-    (λ e h3. by_fine (MovesNamed out.procedures (names_in s)) (Into p (InDo a q b) s) m h3 (refl, tt))
+    (λ e h3. by_fine (MovesNamed out.procedures (names_in s)) (Into p (InFirst From a q b) s) m h3 (refl, tt))
     (λ e h3. cc)))
-begin_named_same out (LocalInt x a p b) s m h =
+begin_named_same out (Local x (LocalInt a b) p) s m h =
     with_parts (room out.frames) _ m h (λ u hu h1. with_parts (value a s) _ m h1 (λ v hv h2.
-    by_fine (MovesNamed out.procedures (names_in s)) (Into p (InInt x a b) (Slot x (Num v) s)) m h2 (refl, tt)))
-begin_named_same out (LocalStack x p) s m h =
+    by_fine (MovesNamed out.procedures (names_in s)) (Into p (InLocal x (LocalInt a b)) (Slot x (Num v) s)) m h2 (refl, tt)))
+begin_named_same out (Local x LocalStack p) s m h =
     with_parts (room out.frames) _ m h (λ u hu h1. with_parts (stack_room out.stacks) _ m h1 (λ v hv h2.
-    by_fine (MovesNamed out.procedures (names_in s)) (Into p (InStack x) (Slot x (Stk []) s)) m h2 (refl, tt)))
-begin_named_same out (Call f xs) s m h =
+    by_fine (MovesNamed out.procedures (names_in s)) (Into p (InLocal x LocalStack) (Slot x (Stk []) s)) m h2 (refl, tt)))
+begin_named_same out (Call w f xs) s m h =
     with_parts (room out.frames) _ m h (λ u hu h1. with_parts (find f out.procedures) _ m h1
     (λ p hp h2. with_parts (pull xs s) _ m h2 (λ t ht h3. with_parts (bind (names_of p.params) t.0) _ m h3 (λ r hr h4.
-    by_fine (MovesNamed out.procedures (names_in s)) (Into p.body (InCall f xs t.1) r) m h4 (call_named out.procedures f xs s p t r hp ht hr)))))
-begin_named_same out (Uncall f xs) s m h =
-    with_parts (room out.frames) _ m h (λ u hu h1. with_parts (find f out.procedures) _ m h1
-    (λ p hp h2. with_parts (pull xs s) _ m h2 (λ t ht h3. with_parts (bind (names_of p.params) t.0) _ m h3 (λ r hr h4.
-    by_fine (MovesNamed out.procedures (names_in s)) (Into (inverse_block p.body) (InUncall f xs t.1) r) m h4
+    by_fine (MovesNamed out.procedures (names_in s)) (Into (facing w p.body) (InCall w f xs t.1) r) m h4
     (call_named out.procedures f xs s p t r hp ht hr)))))
 
 begin_named : (out : Outside) (g : List Name) (c : Stm) (s : Store) (m : Move) → begin out c s ≡ Fine m → names_in s ≡ g → MovesNamed out.procedures g m
@@ -81,26 +71,24 @@ returned ps f xs c s r h =
 
 leave_named : (ps : List Proc) (g : List Name) (h : Hole) (b : Blk) (s : Store) (m : Move) → leave ps h b s ≡ Fine m → names_in s ≡ sight_inside ps h g
     → IsNamed g h → MovesNamed ps g m
-leave_named ps g (InThen a q b) p s m e k n =
+leave_named ps g (InFirst If a q b) p s m e k n =
     with_parts (test b s) _ m e (λ v hv h1. choose_is v _ _ m (MovesNamed ps g m) h1
     (λ w h2. by_fine (MovesNamed ps g) (Over s) m h2 k) (λ w h2. cc))
-leave_named ps g (InElse a p b) q s m e k n =
+leave_named ps g (InSecond If a p b) q s m e k n =
     with_parts (test b s) _ m e (λ v hv h1. choose_is v _ _ m (MovesNamed ps g m) h1
     (λ w h2. cc) (λ w h2. by_fine (MovesNamed ps g) (Over s) m h2 k))
-leave_named ps g (InDo a q b) p s m e k n =
+leave_named ps g (InFirst From a q b) p s m e k n =
     with_parts (test b s) _ m e (λ v hv h1. choose_is v _ _ m (MovesNamed ps g m) h1
-    (λ w h2. by_fine (MovesNamed ps g) (Over s) m h2 k) (λ w h2. by_fine (MovesNamed ps g) (Into q (InLoop a p b) s) m h2 (k, tt)))
-leave_named ps g (InLoop a p b) q s m e k n =
+    (λ w h2. by_fine (MovesNamed ps g) (Over s) m h2 k) (λ w h2. by_fine (MovesNamed ps g) (Into q (InSecond From a p b) s) m h2 (k, tt)))
+leave_named ps g (InSecond From a p b) q s m e k n =
     with_parts (test a s) _ m e (λ v hv h1. choose_is v _ _ m (MovesNamed ps g m) h1
-    (λ w h2. cc) (λ w h2. by_fine (MovesNamed ps g) (Into p (InDo a q b) s) m h2 (k, tt)))
-leave_named ps g (InInt x a b) p s m e k n =
+    (λ w h2. cc) (λ w h2. by_fine (MovesNamed ps g) (Into p (InFirst From a q b) s) m h2 (k, tt)))
+leave_named ps g (InLocal x (LocalInt a b)) p s m e k n =
     done_is (drop_int x b s) m (MovesNamed ps g) e (λ r h.
     let w = dropped_int x b s r h in tail_is x x (names_in r) g (ap names_in w.2 ∙ k))
-leave_named ps g (InStack x) p s m e k n =
+leave_named ps g (InLocal x LocalStack) p s m e k n =
     done_is (drop_stack x s) m (MovesNamed ps g) e (λ r h. tail_is x x (names_in r) g (ap names_in (dropped_stack x s r h) ∙ k))
-leave_named ps g (InCall f xs c) p s m e k n =
-    done_is (leave_call ps f xs c s) m (MovesNamed ps g) e (λ r h. returned ps f xs c s r h ∙ n)
-leave_named ps g (InUncall f xs c) p s m e k n =
+leave_named ps g (InCall w f xs c) p s m e k n =
     done_is (leave_call ps f xs c s) m (MovesNamed ps g) e (λ r h. returned ps f xs c s r h ∙ n)
 
 -- ---- places

@@ -1,10 +1,10 @@
 -- What is seen from outside of open statements: with slots it is the same, and its oldest names are those that stand outside of all.
 use Rattle.std.proofs.Common.{◌≡◌, suc, ◌+◌, ◌-◌, List, [], ◌∷◌, ◌++◌, length, refl, ap, ◌∙◌, sym, arith, length-append}
 use Rattle.janus_meaning.specs.Fault.{Res, Fine, Bad, or_else}
-use Rattle.janus_meaning.specs.Syntax.{Name, Proc}
+use Rattle.janus_meaning.specs.Syntax.{Name, Proc, LocalInt, LocalStack}
 use Rattle.janus_meaning.specs.Store.{Store, Bare, Slot, fill, values_in}
 use Rattle.janus_meaning.specs.World.{size_of, dropped, oldest}
-use Rattle.janus_meaning.specs.Moves.{Hole, InThen, InElse, InDo, InLoop, InInt, InStack, InCall, InUncall, seen, seen_call}
+use Rattle.janus_meaning.specs.Moves.{Hole, InFirst, InSecond, InLocal, InCall, seen, seen_call}
 use Rattle.janus_meaning.specs.Stepping.{Frame, Framed, Place, BeforeBlock, AfterBlock, BeforeOne, AfterOne, seen_through, frames_of, shown}
 use Rattle.janus_slots.specs.Slots.{slots_in, procedures_in, names_in, in_slots, under_names}
 use Rattle.janus_slots.specs.Places.{sight_inside, sight_at, hole_in, frames_in, place_in}
@@ -73,28 +73,22 @@ one_more (y ∷ new) x g = ap (λ l. y ∷ l) (one_more new x g)
 
 module _ (ps : List Proc) where
   seen_in : (es g : List Name) (h : Hole) (s : Store) → IsNamed g h → seen (procedures_in es ps) (hole_in es g h) (in_slots s) ≡ in_slots (seen ps h s)
-  seen_in es g (InThen a t b) s n = refl
-  seen_in es g (InElse a t b) s n = refl
-  seen_in es g (InDo a t b) s n = refl
-  seen_in es g (InLoop a t b) s n = refl
-  seen_in es g (InInt x a b) s n = refl
-  seen_in es g (InStack x) s n = refl
-  seen_in es g (InCall f xs c) s n = seen_call_in g xs c s n
-  seen_in es g (InUncall f xs c) s n = seen_call_in g xs c s n
+  seen_in es g (InFirst w a t b) s n = refl
+  seen_in es g (InSecond w a t b) s n = refl
+  seen_in es g (InLocal x (LocalInt a b)) s n = refl
+  seen_in es g (InLocal x LocalStack) s n = refl
+  seen_in es g (InCall w f xs c) s n = seen_call_in g xs c s n
 
   -- the names of g are the oldest ones
   abbrev pub EndsIn : List Name → Store → Type 0
   EndsIn g s = (new : List Name) × (names_in s ≡ new ++ g)
 
   seen_ends : (g : List Name) (h : Hole) (s : Store) → EndsIn (sight_inside ps h g) s → IsNamed g h → EndsIn g (seen ps h s)
-  seen_ends g (InThen a t b) s k n = k
-  seen_ends g (InElse a t b) s k n = k
-  seen_ends g (InDo a t b) s k n = k
-  seen_ends g (InLoop a t b) s k n = k
-  seen_ends g (InInt x a b) s k n = (k.0 ++ x ∷ [], k.1 ∙ one_more k.0 x g)
-  seen_ends g (InStack x) s k n = (k.0 ++ x ∷ [], k.1 ∙ one_more k.0 x g)
-  seen_ends g (InCall f xs c) s k n = ([], seen_call_names xs c s ∙ n)
-  seen_ends g (InUncall f xs c) s k n = ([], seen_call_names xs c s ∙ n)
+  seen_ends g (InFirst w a t b) s k n = k
+  seen_ends g (InSecond w a t b) s k n = k
+  seen_ends g (InLocal x (LocalInt a b)) s k n = (k.0 ++ x ∷ [], k.1 ∙ one_more k.0 x g)
+  seen_ends g (InLocal x LocalStack) s k n = (k.0 ++ x ∷ [], k.1 ∙ one_more k.0 x g)
+  seen_ends g (InCall w f xs c) s k n = ([], seen_call_names xs c s ∙ n)
 
   module _ (g : List Name) where
     through_in : (es : List Name) (fs : List Frame) (s : Store) → AreNamed ps g fs

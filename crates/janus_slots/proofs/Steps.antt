@@ -1,11 +1,10 @@
 -- With slots in place of names, each step is the same.
 use Rattle.std.proofs.Common.{◌≡◌, ℕ, zero, suc, pred, ◌+◌, List, [], ◌∷◌, refl, ap, ◌∙◌}
 use Rattle.janus_meaning.specs.Fault.{Res, Fine, Bad}
-use Rattle.janus_meaning.specs.Syntax.{Name, Stm, Blk, Nil, Cons, Proc}
+use Rattle.janus_meaning.specs.Syntax.{Name, Stm, Blk, Nil, Cons, Proc, LocalInt, LocalStack}
 use Rattle.janus_meaning.specs.Store.{Store}
 use Rattle.janus_meaning.specs.Outside.{Outside}
-use Rattle.janus_meaning.specs.Moves.{Hole, InThen, InElse, InDo, InLoop, InInt, InStack, InCall, InUncall, rebuild, Move, Over, Into, room, live_in}
-use Rattle.janus_meaning.specs.Moves.{kept_in, begin, leave}
+use Rattle.janus_meaning.specs.Moves.{Hole, InFirst, InSecond, InLocal, InCall, rebuild, Move, Over, Into, room, live_in, kept_in, begin, leave}
 use Rattle.janus_meaning.specs.Stepping.{Frame, Framed, Place, BeforeBlock, AfterBlock, BeforeOne, AfterOne, Next, To, End, Halt, depth, live}
 use Rattle.janus_meaning.specs.Stepping.{kept, beyond, arrive, after_room, step, go_on, steps, frames_of}
 use Rattle.janus_slots.specs.Slots.{stm_in, block_in, procedures_in, names_in, in_slots, outside_in}
@@ -20,24 +19,18 @@ use Rattle.janus_slots.proofs.Named.{IsSound, LeadsSound, step_sound}
 -- ---- what stands outside of open statements
 
 live_same : (es g : List Name) (h : Hole) (k : ℕ) → live_in (hole_in es g h) k ≡ live_in h k
-live_same es g (InThen a t b) k = refl
-live_same es g (InElse a s b) k = refl
-live_same es g (InDo a t b) k = refl
-live_same es g (InLoop a s b) k = refl
-live_same es g (InInt x a b) k = refl
-live_same es g (InStack x) k = refl
-live_same es g (InCall f xs c) k = refl
-live_same es g (InUncall f xs c) k = refl
+live_same es g (InFirst w a t b) k = refl
+live_same es g (InSecond w a s b) k = refl
+live_same es g (InLocal x (LocalInt a b)) k = refl
+live_same es g (InLocal x LocalStack) k = refl
+live_same es g (InCall w f xs c) k = refl
 
 kept_same : (es g : List Name) (h : Hole) (n : ℕ) → kept_in (hole_in es g h) n ≡ kept_in h n
-kept_same es g (InThen a t b) n = refl
-kept_same es g (InElse a s b) n = refl
-kept_same es g (InDo a t b) n = refl
-kept_same es g (InLoop a s b) n = refl
-kept_same es g (InInt x a b) n = refl
-kept_same es g (InStack x) n = refl
-kept_same es g (InCall f xs c) n = ap (λ m. n + m) (held_same c)
-kept_same es g (InUncall f xs c) n = ap (λ m. n + m) (held_same c)
+kept_same es g (InFirst w a t b) n = refl
+kept_same es g (InSecond w a s b) n = refl
+kept_same es g (InLocal x (LocalInt a b)) n = refl
+kept_same es g (InLocal x LocalStack) n = refl
+kept_same es g (InCall w f xs c) n = ap (λ m. n + m) (held_same c)
 
 module _ (es : List Name) (ps : List Proc) (g : List Name) where
   depth_in : (d : ℕ) (fs : List Frame) → depth d (frames_in es ps g fs) ≡ depth d fs

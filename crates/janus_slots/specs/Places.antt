@@ -1,9 +1,9 @@
 -- Places of the machine, with slots in place of names.
 use Rattle.std.specs.Prelude.{List, [], ◌∷◌, length}
 use Rattle.janus_meaning.specs.Fault.{Res, Fine, Bad}
-use Rattle.janus_meaning.specs.Syntax.{Name, Proc, names_of}
+use Rattle.janus_meaning.specs.Syntax.{Name, Proc, names_of, LocalInt, LocalStack}
 use Rattle.janus_meaning.specs.Store.{find}
-use Rattle.janus_meaning.specs.Moves.{Hole, InThen, InElse, InDo, InLoop, InInt, InStack, InCall, InUncall}
+use Rattle.janus_meaning.specs.Moves.{Hole, InFirst, InSecond, InLocal, InCall}
 use Rattle.janus_meaning.specs.Stepping.{Frame, Framed, Place, BeforeBlock, AfterBlock, BeforeOne, AfterOne, Next, To, End, Halt}
 use Rattle.janus_slots.specs.Slots.{slot, slots_in, number_in, exp_in, stm_in, block_in, in_slots}
 
@@ -14,14 +14,11 @@ parameters_of (Bad f) = []
 
 -- the names in sight inside a hole, where those of g are in sight outside: a call sees its parameters alone
 abbrev pub sight_inside : List Proc → Hole → List Name → List Name
-sight_inside ps (InThen a t b) g = g
-sight_inside ps (InElse a s b) g = g
-sight_inside ps (InDo a t b) g = g
-sight_inside ps (InLoop a s b) g = g
-sight_inside ps (InInt x a b) g = x ∷ g
-sight_inside ps (InStack x) g = x ∷ g
-sight_inside ps (InCall f xs c) g = parameters_of (find f ps)
-sight_inside ps (InUncall f xs c) g = parameters_of (find f ps)
+sight_inside ps (InFirst w a t b) g = g
+sight_inside ps (InSecond w a s b) g = g
+sight_inside ps (InLocal x (LocalInt a b)) g = x ∷ g
+sight_inside ps (InLocal x LocalStack) g = x ∷ g
+sight_inside ps (InCall w f xs c) g = parameters_of (find f ps)
 
 -- those in sight inside these open statements, where those of g are in sight outside of all
 abbrev pub sight_at : List Proc → List Name → List Frame → List Name
@@ -30,14 +27,11 @@ sight_at ps g (Framed h before after ∷ fs) = sight_inside ps h (sight_at ps g 
 
 -- a hole, where the names of g are in sight outside
 abbrev pub hole_in : List Name → List Name → Hole → Hole
-hole_in es g (InThen a t b) = InThen (exp_in g a) (block_in es g t) (exp_in g b)
-hole_in es g (InElse a s b) = InElse (exp_in g a) (block_in es g s) (exp_in g b)
-hole_in es g (InDo a t b) = InDo (exp_in g a) (block_in es g t) (exp_in g b)
-hole_in es g (InLoop a s b) = InLoop (exp_in g a) (block_in es g s) (exp_in g b)
-hole_in es g (InInt x a b) = InInt (slot (length g)) (exp_in g a) (exp_in g b)
-hole_in es g (InStack x) = InStack (slot (length g))
-hole_in es g (InCall f xs c) = InCall (number_in es f) (slots_in g xs) (in_slots c)
-hole_in es g (InUncall f xs c) = InUncall (number_in es f) (slots_in g xs) (in_slots c)
+hole_in es g (InFirst w a t b) = InFirst w (exp_in g a) (block_in es g t) (exp_in g b)
+hole_in es g (InSecond w a s b) = InSecond w (exp_in g a) (block_in es g s) (exp_in g b)
+hole_in es g (InLocal x (LocalInt a b)) = InLocal (slot (length g)) (LocalInt (exp_in g a) (exp_in g b))
+hole_in es g (InLocal x LocalStack) = InLocal (slot (length g)) LocalStack
+hole_in es g (InCall w f xs c) = InCall w (number_in es f) (slots_in g xs) (in_slots c)
 
 -- open statements, each with its block round it
 abbrev pub frames_in : List Name → List Proc → List Name → List Frame → List Frame

@@ -1,7 +1,7 @@
 -- Names replaced by slots: a name in sight by how many names stand below it, and the name of a procedure by its number in a table of procedures.
 use Rattle.std.specs.Prelude.{ℕ, zero, suc, ◌<◌, cond, List, [], ◌∷◌, length, map}
-use Rattle.janus_meaning.specs.Syntax.{Name, Exp, Number, Var, At, Empty, Top, Negate, Binary, And, Or, Stm, Blk, Skip, Set, SetAt, Push, Pop, Swap, If, From}
-use Rattle.janus_meaning.specs.Syntax.{LocalInt, LocalStack, Call, Uncall, Nil, Cons, Proc, names_of}
+use Rattle.janus_meaning.specs.Syntax.{Name, Exp, Number, Var, At, Empty, Top, Negate, Binary, And, Or, Atom, Own, Stm, Blk, Do, Skip, Set, SetAt, Push, Pop}
+use Rattle.janus_meaning.specs.Syntax.{Swap, Branch, Local, LocalInt, LocalStack, Call, Nil, Cons, Proc, names_of}
 use Rattle.janus_meaning.specs.Store.{Store, Bare, Slot, same_name}
 use Rattle.janus_meaning.specs.Outside.{Outside}
 use Rattle.janus_names.specs.Numbers.{IsNumbered}
@@ -59,21 +59,25 @@ number_in es f = number_from 0 es f
 
 -- ---- statements and blocks: a local has the first slot above those in sight
 
+abbrev pub atom_in : List Name → Atom → Atom
+atom_in g Skip = Skip
+atom_in g (Set x o e) = Set (slot_in g x) o (exp_in g e)
+atom_in g (SetAt a i o e) = SetAt (slot_in g a) (exp_in g i) o (exp_in g e)
+atom_in g (Push x y) = Push (slot_in g x) (slot_in g y)
+atom_in g (Pop x y) = Pop (slot_in g x) (slot_in g y)
+atom_in g (Swap x y) = Swap (slot_in g x) (slot_in g y)
+
+abbrev pub own_in : List Name → Own → Own
+own_in g (LocalInt a b) = LocalInt (exp_in g a) (exp_in g b)
+own_in g LocalStack = LocalStack
+
 abbrev mutual
   -- a statement, where the names of g are in sight
   pub stm_in : List Name → List Name → Stm → Stm
-  stm_in es g Skip = Skip
-  stm_in es g (Set x o e) = Set (slot_in g x) o (exp_in g e)
-  stm_in es g (SetAt a i o e) = SetAt (slot_in g a) (exp_in g i) o (exp_in g e)
-  stm_in es g (Push x y) = Push (slot_in g x) (slot_in g y)
-  stm_in es g (Pop x y) = Pop (slot_in g x) (slot_in g y)
-  stm_in es g (Swap x y) = Swap (slot_in g x) (slot_in g y)
-  stm_in es g (If a s t b) = If (exp_in g a) (block_in es g s) (block_in es g t) (exp_in g b)
-  stm_in es g (From a s t b) = From (exp_in g a) (block_in es g s) (block_in es g t) (exp_in g b)
-  stm_in es g (LocalInt x a s b) = LocalInt (slot (length g)) (exp_in g a) (block_in es (x ∷ g) s) (exp_in g b)
-  stm_in es g (LocalStack x s) = LocalStack (slot (length g)) (block_in es (x ∷ g) s)
-  stm_in es g (Call f xs) = Call (number_in es f) (slots_in g xs)
-  stm_in es g (Uncall f xs) = Uncall (number_in es f) (slots_in g xs)
+  stm_in es g (Do k) = Do (atom_in g k)
+  stm_in es g (Branch w a s t b) = Branch w (exp_in g a) (block_in es g s) (block_in es g t) (exp_in g b)
+  stm_in es g (Local x k s) = Local (slot (length g)) (own_in g k) (block_in es (x ∷ g) s)
+  stm_in es g (Call w f xs) = Call w (number_in es f) (slots_in g xs)
 
   -- and a block, where they are
   pub block_in : List Name → List Name → Blk → Blk

@@ -53,18 +53,18 @@ plain_exp (Or l r) = tree.Or (plain_exp l) (plain_exp r)
 
 abbrev mutual
   pub plain_stm : Stm → tree.Stm
-  plain_stm Skip = tree.Skip
-  plain_stm (Assign x u e) = tree.Set (text_of x) (update_of u) (plain_exp e)
-  plain_stm (AssignElement a i u e) = tree.SetAt (text_of a) (plain_exp i) (update_of u) (plain_exp e)
-  plain_stm (Push x y) = tree.Push (text_of x) (text_of y)
-  plain_stm (Pop x y) = tree.Pop (text_of x) (text_of y)
-  plain_stm (Swap x y) = tree.Swap (text_of x) (text_of y)
-  plain_stm (If a s t b) = tree.If (plain_exp a) (plain_block s) (plain_block t) (plain_exp b)
-  plain_stm (Loop a s t b) = tree.From (plain_exp a) (plain_block s) (plain_block t) (plain_exp b)
-  plain_stm (LocalInt x a s y b) = tree.LocalInt (text_of x) (plain_exp a) (plain_block s) (plain_exp b)
-  plain_stm (LocalStack x s y) = tree.LocalStack (text_of x) (plain_block s)
-  plain_stm (Call f xs) = tree.Call (text_of f) (map text_of xs)
-  plain_stm (Uncall f xs) = tree.Uncall (text_of f) (map text_of xs)
+  plain_stm Skip = (tree.Do tree.Skip)
+  plain_stm (Assign x u e) = tree.Do (tree.Set (text_of x) (update_of u) (plain_exp e))
+  plain_stm (AssignElement a i u e) = tree.Do (tree.SetAt (text_of a) (plain_exp i) (update_of u) (plain_exp e))
+  plain_stm (Push x y) = tree.Do (tree.Push (text_of x) (text_of y))
+  plain_stm (Pop x y) = tree.Do (tree.Pop (text_of x) (text_of y))
+  plain_stm (Swap x y) = tree.Do (tree.Swap (text_of x) (text_of y))
+  plain_stm (If a s t b) = tree.Branch tree.If (plain_exp a) (plain_block s) (plain_block t) (plain_exp b)
+  plain_stm (Loop a s t b) = tree.Branch tree.From (plain_exp a) (plain_block s) (plain_block t) (plain_exp b)
+  plain_stm (LocalInt x a s y b) = tree.Local (text_of x) (tree.LocalInt (plain_exp a) (plain_exp b)) (plain_block s)
+  plain_stm (LocalStack x s y) = tree.Local (text_of x) tree.LocalStack (plain_block s)
+  plain_stm (Call f xs) = tree.Call tree.Forwards (text_of f) (map text_of xs)
+  plain_stm (Uncall f xs) = tree.Call tree.Backwards (text_of f) (map text_of xs)
 
   pub plain_block : Block → tree.Blk
   plain_block Empty = tree.Nil

@@ -28,18 +28,16 @@ module _ (x : meaning.Name) where
 
   abbrev mutual
     names_stm : meaning.Stm → Bool
-    names_stm meaning.Skip = false
-    names_stm (meaning.Set y u e) = is_name y || names_exp e
-    names_stm (meaning.SetAt a i u e) = is_name a || names_exp i || names_exp e
-    names_stm (meaning.Push y z) = is_name y || is_name z
-    names_stm (meaning.Pop y z) = is_name y || is_name z
-    names_stm (meaning.Swap y z) = is_name y || is_name z
-    names_stm (meaning.If a s t b) = names_exp a || names_block s || names_block t || names_exp b
-    names_stm (meaning.From a s t b) = names_exp a || names_block s || names_block t || names_exp b
-    names_stm (meaning.LocalInt y a s b) = names_exp a || (not (is_name y) && names_block s) || names_exp b
-    names_stm (meaning.LocalStack y s) = not (is_name y) && names_block s
-    names_stm (meaning.Call f ys) = list_any is_name ys
-    names_stm (meaning.Uncall f ys) = list_any is_name ys
+    names_stm (meaning.Do meaning.Skip) = false
+    names_stm (meaning.Do (meaning.Set y u e)) = is_name y || names_exp e
+    names_stm (meaning.Do (meaning.SetAt a i u e)) = is_name a || names_exp i || names_exp e
+    names_stm (meaning.Do (meaning.Push y z)) = is_name y || is_name z
+    names_stm (meaning.Do (meaning.Pop y z)) = is_name y || is_name z
+    names_stm (meaning.Do (meaning.Swap y z)) = is_name y || is_name z
+    names_stm (meaning.Branch w a s t b) = names_exp a || names_block s || names_block t || names_exp b
+    names_stm (meaning.Local y (meaning.LocalInt a b) s) = names_exp a || (not (is_name y) && names_block s) || names_exp b
+    names_stm (meaning.Local y meaning.LocalStack s) = not (is_name y) && names_block s
+    names_stm (meaning.Call w f ys) = list_any is_name ys
 
     names_block : meaning.Blk → Bool
     names_block meaning.Nil = false

@@ -1,8 +1,7 @@
 -- A table of procedures' names that goes on: where all that is called is listed, blocks and procedures keep their numbers.
 use Rattle.std.proofs.Common.{◌≡◌, ℕ, zero, suc, Bool, true, false, List, [], ◌∷◌, ◌++◌, length, Some, None, slice_get, refl, ap, ◌∙◌, sym, arith, cond}
 use Rattle.std.proofs.lemmas.Option.{slice_get_past}
-use Rattle.janus_meaning.specs.Syntax.{Name, Proc, names_of, Stm, Blk, Skip, Set, SetAt, Push, Pop, Swap, If, From, LocalInt, LocalStack, Call, Uncall, Nil}
-use Rattle.janus_meaning.specs.Syntax.{Cons, ANumber, AStack}
+use Rattle.janus_meaning.specs.Syntax.{Name, Proc, names_of, Stm, Blk, Do, Branch, Local, LocalInt, LocalStack, Call, Nil, Cons, ANumber, AStack}
 use Rattle.janus_meaning.specs.Store.{same_name}
 use Rattle.janus_meaning.specs.Shape.{Shape, Heads}
 use Rattle.janus_meaning.specs.Formed.{IsStm, IsBlk, AreProcs}
@@ -17,18 +16,11 @@ use Rattle.janus_code.specs.Slotted.{HasEntries}
 -- each procedure that a statement calls is such a one
 abbrev mutual
   pub CallsIn : (Name → Type 0) → Stm → Type 0
-  CallsIn P Skip = Unit {0}
-  CallsIn P (Set x o e) = Unit {0}
-  CallsIn P (SetAt a i o e) = Unit {0}
-  CallsIn P (Push x y) = Unit {0}
-  CallsIn P (Pop x y) = Unit {0}
-  CallsIn P (Swap x y) = Unit {0}
-  CallsIn P (If a s t b) = CallsOf P s × CallsOf P t
-  CallsIn P (From a s t b) = CallsOf P s × CallsOf P t
-  CallsIn P (LocalInt x a s b) = CallsOf P s
-  CallsIn P (LocalStack x s) = CallsOf P s
-  CallsIn P (Call f xs) = P f
-  CallsIn P (Uncall f xs) = P f
+  CallsIn P (Do k) = Unit {0}
+  CallsIn P (Branch w a s t b) = CallsOf P s × CallsOf P t
+  CallsIn P (Local x (LocalInt a b) s) = CallsOf P s
+  CallsIn P (Local x LocalStack s) = CallsOf P s
+  CallsIn P (Call w f xs) = P f
 
   pub CallsOf : (Name → Type 0) → Blk → Type 0
   CallsOf P Nil = Unit {0}
@@ -43,18 +35,11 @@ BodiesCall P (p ∷ ps) = CallsOf P p.body × BodiesCall P ps
 module _ (hs : Heads) (es : List Name) (q : HasEntries hs es) where
   mutual
     stm_calls : (g : Shape) (c : Stm) → IsStm hs g c → CallsIn (IsMet es) c
-    stm_calls g Skip h = tt
-    stm_calls g (Set x o e) h = tt
-    stm_calls g (SetAt a i o e) h = tt
-    stm_calls g (Push x y) h = tt
-    stm_calls g (Pop x y) h = tt
-    stm_calls g (Swap x y) h = tt
-    stm_calls g (If a s t b) h = (block_calls g s h.1, block_calls g t h.2)
-    stm_calls g (From a s t b) h = (block_calls g s h.1, block_calls g t h.2)
-    stm_calls g (LocalInt x a s b) h = block_calls ((x, ANumber) ∷ g) s h.2
-    stm_calls g (LocalStack x s) h = block_calls ((x, AStack) ∷ g) s h.1
-    stm_calls g (Call f xs) h = q f h.0 h.1
-    stm_calls g (Uncall f xs) h = q f h.0 h.1
+    stm_calls g (Do k) h = tt
+    stm_calls g (Branch w a s t b) h = (block_calls g s h.1, block_calls g t h.2)
+    stm_calls g (Local x (LocalInt a b) s) h = block_calls ((x, ANumber) ∷ g) s h.2
+    stm_calls g (Local x LocalStack s) h = block_calls ((x, AStack) ∷ g) s h.1
+    stm_calls g (Call w f xs) h = q f h.0 h.1
 
     pub block_calls : (g : Shape) (b : Blk) → IsBlk hs g b → CallsOf (IsMet es) b
     block_calls g Nil h = tt
@@ -92,22 +77,13 @@ module _ (es fs : List Name) (onward : GoOn es fs) where
 
   mutual
     stm_stays : (g : List Name) (c : Stm) → CallsIn (IsMet es) c → stm_in fs g c ≡ stm_in es g c
-    stm_stays g Skip h = refl
-    stm_stays g (Set x o e) h = refl
-    stm_stays g (SetAt a i o e) h = refl
-    stm_stays g (Push x y) h = refl
-    stm_stays g (Pop x y) h = refl
-    stm_stays g (Swap x y) h = refl
-    stm_stays g (If a s t b) h =
-        ap (λ s. If (exp_in g a) s (block_in fs g t) (exp_in g b)) (block_stays g s h.0)
-        ∙ ap (λ t. If (exp_in g a) (block_in es g s) t (exp_in g b)) (block_stays g t h.1)
-    stm_stays g (From a s t b) h =
-        ap (λ s. From (exp_in g a) s (block_in fs g t) (exp_in g b)) (block_stays g s h.0)
-        ∙ ap (λ t. From (exp_in g a) (block_in es g s) t (exp_in g b)) (block_stays g t h.1)
-    stm_stays g (LocalInt x a s b) h = ap (λ s. LocalInt (slot (length g)) (exp_in g a) s (exp_in g b)) (block_stays (x ∷ g) s h)
-    stm_stays g (LocalStack x s) h = ap (λ s. LocalStack (slot (length g)) s) (block_stays (x ∷ g) s h)
-    stm_stays g (Call f xs) h = ap (λ n. Call n (slots_in g xs)) (number_stays f h)
-    stm_stays g (Uncall f xs) h = ap (λ n. Uncall n (slots_in g xs)) (number_stays f h)
+    stm_stays g (Do k) h = refl
+    stm_stays g (Branch w a s t b) h =
+        ap (λ s. Branch w (exp_in g a) s (block_in fs g t) (exp_in g b)) (block_stays g s h.0)
+        ∙ ap (λ t. Branch w (exp_in g a) (block_in es g s) t (exp_in g b)) (block_stays g t h.1)
+    stm_stays g (Local x (LocalInt a b) s) h = ap (λ s. Local (slot (length g)) (LocalInt (exp_in g a) (exp_in g b)) s) (block_stays (x ∷ g) s h)
+    stm_stays g (Local x LocalStack s) h = ap (λ s. Local (slot (length g)) LocalStack s) (block_stays (x ∷ g) s h)
+    stm_stays g (Call w f xs) h = ap (λ n. Call w n (slots_in g xs)) (number_stays f h)
 
     pub block_stays : (g : List Name) (b : Blk) → CallsOf (IsMet es) b → block_in fs g b ≡ block_in es g b
     block_stays g Nil h = refl

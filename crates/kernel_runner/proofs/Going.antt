@@ -1,6 +1,6 @@
 -- A runner that goes on or back through the code of a cell: what a slice of the machine makes of where it stood.
 use Rattle.std.proofs.Common.{◌≡◌, ℕ, List, ◌+◌, ◌-◌, ◌<◌, ◌≤◌, Bool, true, false, sym, ap, ◌∙◌, subst, arith, inl, inr}
-use Rattle.janus_meaning.specs.Syntax.{Blk, Proc}
+use Rattle.janus_meaning.specs.Syntax.{Blk, Proc, facing}
 use Rattle.janus_meaning.specs.Cells.{around}
 use Rattle.janus_meaning.specs.Stepping.{Halt}
 use Rattle.janus_meaning.specs.World.{stacks_in}

@@ -1,6 +1,5 @@
 -- What holds of the texts of procedures.
 use Rattle.std.specs.Prelude.{◌≡◌}
-use Rattle.janus_meaning.specs.Syntax.{Proc}
 use Rattle.janus_syntax.specs.Tree.{Procedure}
 use Rattle.janus_syntax.specs.View.{plain_procedure}
 use Rattle.janus_syntax.specs.Printing.{printed_procedure}

@@ -1,5 +1,5 @@
 use Rattle.std.proofs.Common.{true, false, length, ap, ◌∙◌, sym, subst, arith}
-use Rattle.janus_meaning.specs.Syntax.{names_of}
+use Rattle.janus_meaning.specs.Syntax.{names_of, Local}
 use Rattle.janus_slots.specs.Slots.{slot, slot_in}
 use Rattle.janus_syntax.specs.View.{name_of}
 use Rattle.janus_check.specs.Names.{shape_in, over, meant_kind}
