@@ -1,8 +1,8 @@
 -- Names are only added: what flat code stands for among those that were met it stands for when more were.
 use Rattle.std.proofs.Common.{◌≡◌, List}
 use Rattle.janus_meaning.specs.Syntax.{Name}
-use Rattle.janus_names.specs.Numbers.{GoOn}
-use Rattle.janus_names.proofs.NameAt.{goes_on_at}
+use Rattle.janus_slots.specs.Numbers.{GoOn}
+use Rattle.janus_slots.proofs.NameAt.{goes_on_at}
 use Rattle.janus_code.specs.declared.code.Code.{Code}
 use Rattle.janus_code.specs.Numbered.{HaveNumbers}
 use Rattle.janus_code.specs.CodeBlock.{code_block}

@@ -3,7 +3,7 @@ use Rattle.std.specs.Prelude.{List, [], ◌∷◌}
 use Rattle.janus_meaning.specs.Syntax.{Name, Exp, Number, Var, At, Empty, Top, Negate, Binary, And, Or, Stm, Blk, Do, Skip, Set, SetAt, Push, Pop, Swap}
 use Rattle.janus_meaning.specs.Syntax.{Branch, Local, LocalInt, LocalStack, Call, Nil, Cons, ANumber, AStack}
 use Rattle.janus_meaning.specs.Shape.{Shape}
-use Rattle.janus_names.specs.Numbers.{IsMet}
+use Rattle.janus_slots.specs.Numbers.{IsMet}
 use Rattle.janus_check.specs.Sight.{IsSeen}
 
 -- each of several names

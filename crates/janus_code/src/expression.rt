@@ -1,7 +1,7 @@
 //! The names and the expressions of flat code.
 
 ghost use Rattle.std.specs.Prelude.{◌≡◌, ◌<◌, ◌≤◌, ◌^◌, List, IfOk, length, map};
-ghost use Rattle.janus_names.specs.Numbers.{IsMet};
+ghost use Rattle.janus_slots.specs.Numbers.{IsMet};
 ghost use Rattle.janus_meaning.specs.Syntax.{Name as MeaningName, names_of};
 ghost use Rattle.janus_meaning.specs.Formed.{IsExp};
 ghost use Rattle.janus_check.specs.Slots.{slot, slot_in, slots_in, exp_in, number_in};
@@ -16,7 +16,7 @@ ghost use Rattle.janus_code.specs.Slotted.{AreSlots, all_slots};
 use crate::code::{FlatExp, Symbol};
 use crate::copies::both;
 use janus_check::{Sight, SymbolTable};
-use janus_names::Names;
+use janus_slots::Names;
 use janus_syntax::tree;
 use std::alloc::{AllocError, Global};
 

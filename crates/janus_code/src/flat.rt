@@ -20,7 +20,7 @@ use crate::code::{Block, Code, SlottedCode, Statement, Symbol};
 use crate::expression::{entry, slotted_exp, symbol, symbol_of, symbols, two_flat_exps};
 use crate::fault::InvertFault;
 use janus_check::{Checked, Kind, Sight, SymbolTable};
-use janus_names::Names;
+use janus_slots::Names;
 use janus_syntax::tree::Stm;
 use std::alloc::{AllocError, Global};
 

@@ -12,7 +12,7 @@
 //! local exchanges its two expressions; a block is reversed with each of its statements inverted.
 //!
 //! It gives again what the layers above cite with flat code: how trees are read (`View` of `janus_syntax`), of `janus_check` what makes a `Checked` and a
-//! `Sight`, which its calls take, and `Names` of `janus_names`, in which procedures have their numbers.
+//! `Sight`, which its calls take, and `Names` of `janus_slots`, in which procedures have their numbers.
 //!
 //! Flat code tells how many slots it needs, which is a function of the cell and of the table of names.
 #![tactic(auto)]
@@ -39,7 +39,7 @@ pub use crate::flat::flatten;
 pub use crate::inverse::{invert, opposite};
 pub use crate::procedure::flatten_procedure;
 pub use janus_check::{CheckFault, Checked, Env, Kind, Sight, SymbolTable, check};
-pub use janus_names::Names;
+pub use janus_slots::Names;
 
 /// A law about the definitions of `specs/`: the inverse of a cell's inverse is the cell. It does nothing.
 pub fn inverse_cell_twice_law()

@@ -17,7 +17,7 @@ use crate::fault::InvertFault;
 use crate::flat::flat_code;
 use janus_check::parameter::kind_of;
 use janus_check::{Checked, SymbolTable};
-use janus_names::Names;
+use janus_slots::Names;
 use janus_syntax::tree;
 use std::alloc::{AllocError, Global};
 

@@ -5,7 +5,7 @@ use denote.Param.Send.{IsSend, sendable}
 use Rattle.std.proofs.Crossing.{crosses}
 use Rattle.std.proofs.sync.ledger.Book.TheSendSync.{the_send as book_send}
 use Rattle.std.proofs.sync.ledger.Share.TheSendSync.{the_send as share_send}
-use Rattle.janus_names.proofs.Crosses.{Names-send}
+use Rattle.janus_slots.proofs.Crosses.{Names-send}
 use Rattle.janus_frames.specs.contracts.store.Store as Store
 
 module _ (W : RattleType) (w : Ledger.Ghosts W.Denot) where

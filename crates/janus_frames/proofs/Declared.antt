@@ -8,7 +8,7 @@ use Rattle.janus_meaning.specs.Store.{Val, Store, look}
 use Rattle.janus_meaning.specs.World.{size_of, oldest, listed}
 use Rattle.janus_meaning.proofs.Results.{fine_inj}
 use Rattle.janus_meaning.proofs.Worlds.{oldest_whole}
-use Rattle.janus_names.specs.Numbers.{IsNumbered, IsUnmet}
+use Rattle.janus_slots.specs.Numbers.{IsNumbered, IsUnmet}
 use Rattle.janus_slots.specs.Slots.{slot, names_in, in_slots, under_names}
 use Rattle.janus_frames.specs.Calls.{Caller, given_back}
 use Rattle.janus_frames.specs.Cells.{stored, IsPresent}

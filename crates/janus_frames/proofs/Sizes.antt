@@ -10,7 +10,7 @@ use Rattle.janus_meaning.specs.World.{size_of, oldest}
 use Rattle.janus_meaning.proofs.Cleared.{same_size}
 use Rattle.janus_meaning.proofs.Results.{with_parts, by_fine}
 use Rattle.janus_meaning.proofs.Stores.{fill-pull}
-use Rattle.janus_names.specs.Numbers.{HaveOneNumber}
+use Rattle.janus_slots.specs.Numbers.{HaveOneNumber}
 use Rattle.janus_frames.specs.Calls.{Caller, CanLend, Enters, Returns, AreAlone, returned, given_back, names_lent, params_bound, own_names, AreShort}
 use Rattle.janus_frames.specs.Cells.{parameters, stored}
 use Rattle.janus_frames.specs.FramesState.{FramesState, HasShape, names_there, with_names}

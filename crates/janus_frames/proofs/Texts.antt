@@ -9,7 +9,7 @@ use Rattle.janus_meaning.specs.Syntax.{Name}
 use Rattle.janus_meaning.specs.Store.{Val, Store, Bare, Slot, look, look_at, read_slot, same_name}
 use Rattle.janus_meaning.specs.World.{size_of, listed}
 use Rattle.janus_meaning.proofs.Stores.{same_name_self, same_name_true}
-use Rattle.janus_names.specs.Numbers.{IsNumbered, IsUnmet, HaveOneNumber, Adds}
+use Rattle.janus_slots.specs.Numbers.{IsNumbered, IsUnmet, HaveOneNumber, Adds}
 use Rattle.janus_slots.specs.Slots.{slot, names_in, in_slots, under_names}
 use Rattle.janus_frames.specs.Cells.{stored}
 

@@ -1,6 +1,6 @@
 -- How the fields of a store are read, and their invariant.
 use Rattle.std.specs.Prelude.{◌≡◌, ℕ, ◌+◌, ◌≤◌, List, [], ◌∷◌, length}
-use Rattle.janus_names.specs.Numbers.{HaveOneNumber}
+use Rattle.janus_slots.specs.Numbers.{HaveOneNumber}
 use Rattle.janus_meaning.specs.Syntax.{Name}
 use Rattle.janus_meaning.specs.World.{size_of}
 use Rattle.janus_frames.specs.Calls.{Caller, AreShort, params_bound}

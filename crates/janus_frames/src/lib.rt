@@ -53,5 +53,5 @@ pub use crate::fault::RoomFault;
 pub use crate::limit::CALL_LIMIT;
 pub use crate::store::Store;
 pub use janus_memory::{StackView, Tally, ValueView};
-pub use janus_names::Names;
+pub use janus_slots::Names;
 pub use janus_row::code::Row;

@@ -1,3 +1,6 @@
+pub mod Crosses
+pub mod NameAt
+pub mod Places
 pub mod Results
 pub mod Names
 pub mod Whole
@@ -10,4 +13,4 @@ pub mod Steps
 pub mod Shown
 pub mod Laws
 -- Of janus_names, given again.
-pub use Rattle.janus_names.proofs.Places
+pub use Rattle.janus_slots.proofs.Places

@@ -6,7 +6,7 @@ use Rattle.std.proofs.lemmas.Option.{slice_get_past}
 use Rattle.janus_meaning.specs.Syntax.{Name}
 use Rattle.janus_meaning.specs.Store.{same_name}
 use Rattle.janus_meaning.proofs.Stores.{same_name_true, same_name_self}
-use Rattle.janus_names.specs.Numbers.{IsMet}
+use Rattle.janus_slots.specs.Numbers.{IsMet}
 use Rattle.janus_slots.specs.Slots.{slot, slot_in, number_from, number_in}
 
 -- ---- slots

@@ -7,7 +7,7 @@ use Rattle.janus_meaning.specs.Outside.{Outside}
 use Rattle.janus_meaning.specs.World.{size_of, oldest}
 use Rattle.janus_meaning.specs.Meaning.{Block, Exec, Part, Stop}
 use Rattle.janus_meaning.specs.Stepping.{BeforeBlock, steps}
-use Rattle.janus_names.specs.Numbers.{IsMet}
+use Rattle.janus_slots.specs.Numbers.{IsMet}
 use Rattle.janus_slots.specs.Slots.{block_in, names_in, in_slots, under_names, outside_in}
 use Rattle.janus_slots.specs.Places.{next_in}
 

@@ -1,3 +1,4 @@
+pub mod Numbers
 pub mod Slots
 pub mod Places
 pub mod Law

@@ -4,7 +4,7 @@ use Rattle.janus_meaning.specs.Syntax.{Name, Exp, Number, Var, At, Empty, Top, N
 use Rattle.janus_meaning.specs.Syntax.{Swap, Branch, Local, LocalInt, LocalStack, Call, Nil, Cons, Proc, names_of}
 use Rattle.janus_meaning.specs.Store.{Store, Bare, Slot, same_name}
 use Rattle.janus_meaning.specs.Outside.{Outside}
-use Rattle.janus_names.specs.Numbers.{IsNumbered}
+use Rattle.janus_slots.specs.Numbers.{IsNumbered}
 
 -- the name that a number has
 abbrev pub slot : ℕ → Name

@@ -6,7 +6,7 @@
 //! the same values, ends after as many steps, and stops for the same faults. So what runs slots alone, and never compares a name,
 //! runs Janus as it is meant.
 //!
-//! It gives the lemma on places of `janus_names` again, which `janus_check` cites.
+//! It gives the lemma on places of `janus_slots` again, which `janus_check` cites.
 #![tactic(auto)]
 
 ghost use Rattle.janus_slots.specs.Law.{StepsAreTheSame, RunsAreTheSame, SlotsStay};

@@ -23,7 +23,7 @@ use Rattle.kernel_machine.specs.Legal.{CanGo, IsLegal, IsPossible, IsPossibleWor
 use Rattle.kernel_machine.specs.Slices.{cells, stepped, moved, grown, Arrives, Settles, HasEnded}
 use Rattle.kernel_machine.specs.Begins.{Declares}
 use Rattle.janus_meaning.specs.Syntax.{Name}
-use Rattle.janus_names.specs.Numbers.{GoOn}
+use Rattle.janus_slots.specs.Numbers.{GoOn}
 use Rattle.janus_slots.specs.Slots as slots
 use Rattle.janus_slots.specs.Slots.{names_in}
 use Rattle.janus_slots.specs.Law.{AreListed}

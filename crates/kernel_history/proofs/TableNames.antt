@@ -4,7 +4,7 @@ use Rattle.std.specs.Prelude.{◌+◌}
 use Rattle.std.proofs.lemmas.Bool.{cases_lt}
 use Rattle.cell_tree.specs.declared.node.Node.{Node}
 use Rattle.janus_meaning.specs.Syntax.{Name}
-use Rattle.janus_names.specs.Numbers.{IsNumbered, GoOn}
+use Rattle.janus_slots.specs.Numbers.{IsNumbered, GoOn}
 use Rattle.kernel_loader.specs.program.Program.{Program}
 use Rattle.kernel_history.specs.TableNames.{AreOfNodes, AreItsOwn, ListsNoOtherFor}
 use Rattle.kernel_history.specs.declared.tree.EndedCell.{EndedCell}

@@ -1,7 +1,7 @@
 -- Which names of procedures stand in the runner's table.
 use Rattle.std.specs.Prelude.{ℕ, ◌≤◌, List, map, take, Contains}
 use Rattle.janus_meaning.specs.Syntax.{Name, Proc}
-use Rattle.janus_names.specs.Numbers.{IsNumbered}
+use Rattle.janus_slots.specs.Numbers.{IsNumbered}
 use Rattle.kernel_loader.specs.Program.{procedures_of}
 use Rattle.kernel_loader.specs.program.Program.{Program}
 use Rattle.kernel_history.specs.Bodies.{IsCellAt}

@@ -9,7 +9,7 @@ ghost use Rattle.kernel_machine.specs.Slices.{IsSlice, cells};
 ghost use Rattle.kernel_machine.specs.StepsOfSlices.{WritesOnSlice, StepsOnSlice};
 ghost use Rattle.kernel_machine.specs.Begins.{TakesCell, TakesMove, TakesGoto, Departs, Enters, Declares, travel_to};
 ghost use Rattle.janus_meaning.specs.World.{entered};
-ghost use Rattle.janus_names.specs.Numbers.{GoOn};
+ghost use Rattle.janus_slots.specs.Numbers.{GoOn};
 ghost use Rattle.janus_slots.specs.Slots.{names_in};
 ghost use Rattle.janus_slots.specs.Law.{AreListed};
 ghost use Rattle.kernel_loader.specs.StoreState.{shown_store};

@@ -9,7 +9,7 @@ use Rattle.janus_meaning.specs.Fault.{Res, Fine, Bad}
 use Rattle.janus_meaning.specs.Store.{same_name, pick, find}
 use Rattle.janus_meaning.specs.Shape.{Heads, head_at, heads_of, kinds_in, pick_newest}
 use Rattle.janus_meaning.proofs.Stores.{same_name_true, same_name_self}
-use Rattle.janus_names.specs.Numbers.{IsNumbered, IsMet, IsUnmet, HaveOneNumber}
+use Rattle.janus_slots.specs.Numbers.{IsNumbered, IsMet, IsUnmet, HaveOneNumber}
 use Rattle.janus_slots.specs.Slots.{slot, stacked, procedure_in, procedures_in}
 use Rattle.janus_slots.specs.Law.{AreListed}
 use Rattle.janus_slots.proofs.Results.{res_in}

@@ -11,7 +11,7 @@ use Rattle.janus_meaning.specs.Syntax.{Name, Proc, names_of}
 use Rattle.janus_syntax.specs.Tree.{procedure_view, procedures_view}
 use Rattle.janus_syntax.specs.View.{plain_procedure}
 use Rattle.janus_syntax.specs.declared.tree.Procedure as Defined
-use Rattle.janus_names.proofs.NameAt.{name_is}
+use Rattle.janus_slots.proofs.NameAt.{name_is}
 use Rattle.janus_slots.specs.Slots.{slot, no_slot, number_from, stacked, procedure_in, procedures_in}
 use Rattle.janus_code.specs.CodeBlock.{code_block}
 use Rattle.janus_code.specs.Expressions.{symbol_name}

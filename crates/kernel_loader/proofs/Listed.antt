@@ -6,7 +6,7 @@ use Rattle.janus_meaning.specs.Store.{same_name}
 use Rattle.janus_meaning.specs.Shape.{Shape, Heads}
 use Rattle.janus_meaning.specs.Formed.{IsStm, IsBlk, AreProcs}
 use Rattle.janus_meaning.proofs.Stores.{same_name_self}
-use Rattle.janus_names.specs.Numbers.{IsMet, GoOn}
+use Rattle.janus_slots.specs.Numbers.{IsMet, GoOn}
 use Rattle.janus_slots.specs.Slots.{slot, number_from, number_in, slots_in, exp_in, stm_in, block_in, stacked, procedure_in, procedures_in}
 use Rattle.janus_slots.specs.Law.{AreListed}
 use Rattle.janus_code.specs.Slotted.{HasEntries}

@@ -6,7 +6,7 @@ use Rattle.janus_meaning.specs.Syntax.{Name, Blk, Proc}
 use Rattle.janus_meaning.specs.World.{World}
 use Rattle.janus_meaning.specs.Shape.{Shape, Heads, shape_of, heads_of}
 use Rattle.janus_meaning.specs.Formed.{IsBlk, AreProcs}
-use Rattle.janus_names.specs.Numbers.{GoOn}
+use Rattle.janus_slots.specs.Numbers.{GoOn}
 use Rattle.janus_slots.specs.Slots as slots
 use Rattle.janus_slots.specs.Slots.{procedures_in}
 use Rattle.janus_slots.specs.Law.{AreListed}

@@ -4,7 +4,7 @@ use Rattle.std.proofs.Common.{Contains, inl, inr, ⊎_elim}
 use Rattle.std.proofs.lemmas.List.{length-map}
 use Rattle.std.proofs.lemmas.Option.{slice_get_past}
 use Rattle.janus_meaning.specs.Syntax.{Name, Proc}
-use Rattle.janus_names.specs.Numbers.{IsNumbered, Adds}
+use Rattle.janus_slots.specs.Numbers.{IsNumbered, Adds}
 use Rattle.janus_syntax.specs.Tree.{procedure_view, procedures_view}
 use Rattle.janus_syntax.specs.View.{plain_procedure}
 use Rattle.janus_syntax.specs.declared.tree.Procedure as Defined

@@ -5,7 +5,7 @@ use Rattle.janus_meaning.specs.Shape.{shape_of}
 use Rattle.janus_meaning.specs.FormedWorld.{HaveValues}
 use Rattle.janus_meaning.specs.Limit.{name_limit}
 use Rattle.janus_meaning.specs.World.{size_of}
-use Rattle.janus_names.specs.Numbers.{HaveOneNumber}
+use Rattle.janus_slots.specs.Numbers.{HaveOneNumber}
 use Rattle.kernel_machine.specs.Language.{IsSound}
 use Rattle.kernel_runner.specs.StoreState.{shown_store}
 use Rattle.kernel_runner.specs.Runner.{ShownWorld, Is, Between}

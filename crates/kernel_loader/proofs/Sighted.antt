@@ -6,7 +6,7 @@ use Rattle.janus_meaning.specs.Shape.{Shape, Heads, head_at, head_of, heads_of, 
 use Rattle.janus_meaning.specs.World.{World, Declaration, DeclareInt, DeclareArray, DeclareStack, declare, declare_one, declared_name}
 use Rattle.janus_meaning.specs.FormedWorld.{with_declared, with_heads, declared_kind}
 use Rattle.janus_meaning.proofs.Stores.{same_name_true}
-use Rattle.janus_names.specs.Numbers.{IsMet, GoOn, Adds}
+use Rattle.janus_slots.specs.Numbers.{IsMet, GoOn, Adds}
 use Rattle.janus_slots.specs.Slots.{names_in}
 use Rattle.janus_slots.specs.Law.{AreListed}
 use Rattle.janus_slots.proofs.Whole.{shape_names}

@@ -12,7 +12,7 @@ use Rattle.janus_meaning.specs.Shape.{Shape, kind_at, pick_newest, shape_of, sta
 use Rattle.janus_meaning.specs.FormedWorld.{HaveValues}
 use Rattle.janus_meaning.specs.World.{stacks_in}
 use Rattle.janus_meaning.proofs.Stores.{same_name_true, same_name_self}
-use Rattle.janus_names.specs.Numbers.{IsNumbered, IsUnmet, HaveOneNumber}
+use Rattle.janus_slots.specs.Numbers.{IsNumbered, IsUnmet, HaveOneNumber}
 use Rattle.janus_slots.specs.Slots.{slot, slot_in, names_in}
 use Rattle.janus_slots.proofs.Whole.{shape_names}
 use Rattle.janus_check.specs.Names.{meant_kind, shape_in}

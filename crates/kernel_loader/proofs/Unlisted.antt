@@ -2,7 +2,7 @@
 use Rattle.std.proofs.Common.{◌≡◌, ℕ, List, length, take, sym, ap, ◌∙◌, subst}
 use Rattle.std.proofs.Math.Seq.{take-append_seam}
 use Rattle.janus_meaning.specs.Syntax.{Name, Proc}
-use Rattle.janus_names.specs.Numbers.{GoOn}
+use Rattle.janus_slots.specs.Numbers.{GoOn}
 use Rattle.janus_slots.specs.Slots.{procedures_in}
 use Rattle.janus_slots.specs.Law.{AreListed}
 use Rattle.kernel_runner.specs.Bodies.{Define}

@@ -4,7 +4,7 @@ use Rattle.janus_meaning.specs.Syntax.{Name, Proc}
 use Rattle.janus_meaning.specs.FormedWorld.{HaveValues}
 use Rattle.janus_meaning.specs.World as world
 use Rattle.janus_meaning.specs.World.{World}
-use Rattle.janus_names.specs.Numbers.{IsNumbered}
+use Rattle.janus_slots.specs.Numbers.{IsNumbered}
 use Rattle.janus_syntax.specs.Tree.{Cell}
 use Rattle.janus_check.specs.Names.{Known}
 use Rattle.kernel_runner.specs.linked_code.LinkedCode.{LinkedCode}

@@ -4,7 +4,7 @@ use Rattle.janus_meaning.specs.Syntax.{Name}
 use Rattle.janus_meaning.specs.FormedWorld.{HaveValues}
 use Rattle.janus_meaning.specs.Limit.{name_limit}
 use Rattle.janus_meaning.specs.World.{listed, size_of}
-use Rattle.janus_names.specs.Numbers as numbers
+use Rattle.janus_slots.specs.Numbers as numbers
 use Rattle.janus_check.specs.Names.{Known}
 use Rattle.janus_check.specs.declared.env.Kind.{Kind}
 use Rattle.kernel_runner.specs.StoreState.{StoreState, IsWhole, shown_store}

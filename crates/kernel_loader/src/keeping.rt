@@ -12,7 +12,7 @@ ghost use Rattle.kernel_loader.specs.Keeping.{KeepsOlder, KeepsDefined, HaveNumb
 
 use janus_check::{Checked, SymbolTable};
 use janus_code::flatten_procedure;
-use janus_names::Names;
+use janus_slots::Names;
 use janus_syntax::tree::Procedure;
 use kernel_runner::{LinkedProcedure, Procedures};
 use std::alloc::{AllocError, Global};

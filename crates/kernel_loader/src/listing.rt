@@ -1,12 +1,12 @@
 //! The names of a cell's procedures, each with a number in the table of procedures' names.
 ghost use Rattle.std.specs.Prelude.{◌≤◌, ◌+◌, OnOk, length, map};
-ghost use Rattle.janus_names.specs.Numbers.{GoOn};
+ghost use Rattle.janus_slots.specs.Numbers.{GoOn};
 ghost use Rattle.janus_slots.specs.Law.{AreListed};
 ghost use Rattle.janus_syntax.specs.Tree.{procedures_view};
 ghost use Rattle.janus_syntax.specs.View.{plain_procedure};
 ghost use Rattle.kernel_loader.specs.Loading.{AddNamesOf};
 
-use janus_names::Names;
+use janus_slots::Names;
 use janus_syntax::tree::Procedure;
 use std::alloc::AllocError;
 

@@ -2,7 +2,7 @@
 ghost use Rattle.std.specs.Prelude.{◌≡◌, ◌+◌, ℕ, List, IfOk, IfErr, OnOk, OnErr, length};
 ghost use Rattle.janus_meaning.specs.Syntax.{Proc, names_of};
 ghost use Rattle.janus_meaning.specs.World.{declare};
-ghost use Rattle.janus_names.specs.Numbers.{GoOn};
+ghost use Rattle.janus_slots.specs.Numbers.{GoOn};
 ghost use Rattle.janus_slots.specs.Slots.{names_in, block_in};
 ghost use Rattle.janus_slots.specs.Law.{AreListed};
 ghost use Rattle.janus_syntax.specs.Text.{HasTree};
@@ -27,7 +27,7 @@ use crate::listing::list_all;
 use crate::tables::Tables;
 use janus_check::{Checked, SymbolTable};
 use janus_code::flatten;
-use janus_names::Names;
+use janus_slots::Names;
 use janus_syntax::tree::Cell;
 use kernel_machine::Refusal;
 use kernel_runner::{LinkedCode, LinkedProcedure, Program, Runner};

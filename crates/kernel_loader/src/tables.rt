@@ -5,7 +5,7 @@ ghost use Rattle.kernel_loader.specs.Tables.{IsReadable, known_by};
 
 use crate::sight::DeclaredNames;
 use janus_check::{Kind, SymbolTable};
-use janus_names::Names;
+use janus_slots::Names;
 use kernel_runner::{Procedures, Store};
 use std::marker::Model;
 use std::sync::ledger::Ledger;

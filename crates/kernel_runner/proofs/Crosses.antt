@@ -3,7 +3,7 @@ use denote.RattleType.{RattleType}
 use Rattle.std.specs.declared.sync.ledger.Ledger as Ledger
 use denote.Param.Send.{IsSend, sendable}
 use Rattle.std.proofs.Crossing.{crosses}
-use Rattle.janus_names.proofs.Crosses.{Names-send}
+use Rattle.janus_slots.proofs.Crosses.{Names-send}
 use Rattle.janus_syntax.proofs.Crosses.{Cell-send}
 use Rattle.janus_machine.proofs.Crosses.{LinkedCode-send, Procedures-send, CountedStore-send}
 use Rattle.kernel_runner.specs.contracts.program.Program as Program

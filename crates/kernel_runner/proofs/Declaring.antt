@@ -15,7 +15,7 @@ use Rattle.janus_meaning.specs.Limit.{live_stack_limit}
 use Rattle.janus_syntax.specs.Tree.{declaration_view, declarations_view}
 use Rattle.janus_syntax.specs.View.{plain_declaration}
 use Rattle.janus_syntax.specs.declared.tree.Declaration as Tree
-use Rattle.janus_names.specs.Numbers.{IsUnmet}
+use Rattle.janus_slots.specs.Numbers.{IsUnmet}
 use Rattle.janus_slots.specs.Slots.{slot, names_in, in_slots, under_names}
 use Rattle.janus_slots.proofs.Whole.{names_size, stacks_same}
 use Rattle.janus_machine.specs.StoreState.{StoreState, state_of, IsWhole, Declares, shown_store}

@@ -2,7 +2,7 @@
 use Rattle.std.proofs.Common.{◌≡◌, List, [], ◌++◌, sym, ap, ◌∙◌, subst, append_assoc}
 use Rattle.std.proofs.lemmas.List.{append-nil}
 use Rattle.janus_meaning.specs.Syntax.{Name}
-use Rattle.janus_names.specs.Numbers.{GoOn}
+use Rattle.janus_slots.specs.Numbers.{GoOn}
 use Rattle.janus_machine.specs.declared.procedures.Procedures.{Procedures}
 use Rattle.kernel_runner.specs.Program.{IsReady}
 use Rattle.kernel_runner.specs.declared.program.Program.{Program}

@@ -5,7 +5,7 @@ use Rattle.janus_meaning.specs.World.{Cell, Declaration}
 use Rattle.janus_syntax.specs.Tree as tree
 use Rattle.janus_syntax.specs.Tree.{cell_view}
 use Rattle.janus_syntax.specs.View.{plain_cell}
-use Rattle.janus_names.specs.Numbers.{GoOn}
+use Rattle.janus_slots.specs.Numbers.{GoOn}
 use Rattle.janus_slots.specs.Slots.{block_in as block_in_slots, procedures_in}
 use Rattle.janus_machine.specs.Places.{block_in, names_under}
 use Rattle.janus_machine.specs.Bodies.{AreBodiesFrom, onto}

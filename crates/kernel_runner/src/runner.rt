@@ -10,7 +10,7 @@ ghost use Rattle.kernel_runner.specs.Declarable.{HasStackRoom};
 ghost use Rattle.janus_syntax.specs.Tree.{declaration_view, declarations_view};
 ghost use Rattle.janus_syntax.specs.View.{plain_declaration};
 ghost use Rattle.kernel_runner.specs.Program.{cell_of_program};
-ghost use Rattle.janus_names.specs.Numbers.{IsUnmet};
+ghost use Rattle.janus_slots.specs.Numbers.{IsUnmet};
 ghost use Rattle.janus_machine.specs.StoreState.{IsWhole, shown_store};
 ghost use Rattle.janus_machine.specs.Procedures.{kept_in};
 ghost use Rattle.janus_machine.specs.Bodies.{AreDefined, AreBelow};
@@ -26,7 +26,7 @@ use crate::program::Program;
 use janus_machine::{
     Book, CountedStore, Cursor, End, Procedures, RoomFault, Stepped, Store, slice, step,
 };
-use janus_names::Names;
+use janus_slots::Names;
 use janus_syntax::tree::Declaration;
 use kernel_machine::Progress;
 use std::alloc::{AllocError, Global};

@@ -3,7 +3,7 @@ use Rattle.std.proofs.Common.{◌≡◌, ℕ, List, [], ◌∷◌, ◌++◌, sym
 use Rattle.std.specs.Prelude.{All}
 use Rattle.std.proofs.lemmas.List.Elements.{All-append, All-cons, All-nil}
 use Rattle.janus_meaning.specs.Syntax.{Name}
-use Rattle.janus_names.specs.Numbers.{IsNumbered}
+use Rattle.janus_slots.specs.Numbers.{IsNumbered}
 use Rattle.janus_syntax.specs.declared.tree.Procedure.{Procedure}
 use Rattle.kernel_runner.specs.declared.program.Program.{Program}
 use Rattle.kernel_history.specs.declared.tree.HistoryTree.{HistoryTree}

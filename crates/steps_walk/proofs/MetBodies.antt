@@ -9,7 +9,7 @@ use Rattle.janus_meaning.specs.Fault.{Fine, Bad, Broken}
 use Rattle.janus_meaning.specs.Syntax.{Name, Proc}
 use Rattle.janus_meaning.specs.Store.{find, pick, same_name}
 use Rattle.janus_meaning.proofs.Stores.{same_name_self, same_name_true}
-use Rattle.janus_names.specs.Numbers.{IsNumbered, HaveOneNumber}
+use Rattle.janus_slots.specs.Numbers.{IsNumbered, HaveOneNumber}
 use Rattle.janus_slots.specs.Slots.{slot, number_in, procedure_in, procedures_in}
 use Rattle.janus_slots.specs.Law.{AreListed}
 use Rattle.janus_slots.proofs.Names.{slot_number}

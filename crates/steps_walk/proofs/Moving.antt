@@ -2,7 +2,7 @@
 use Rattle.std.proofs.Common.{◌≡◌, ℕ, ◌+◌, ◌-◌, false, List, refl, ap, ◌∙◌, sym, subst}
 use Rattle.std.specs.Prelude.{All}
 use Rattle.janus_meaning.specs.Syntax.{Name}
-use Rattle.janus_names.specs.Numbers.{HaveOneNumber}
+use Rattle.janus_slots.specs.Numbers.{HaveOneNumber}
 use Rattle.janus_places.specs.declared.table.Table.{Table}
 use Rattle.janus_places.specs.Table.{IsTableOf}
 use Rattle.kernel_machine.specs.declared.progress.Progress.{Progress}

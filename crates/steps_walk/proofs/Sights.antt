@@ -9,7 +9,7 @@ use Rattle.std.proofs.lemmas.Option.{slice_get_within}
 use Rattle.janus_meaning.specs.Syntax.{Name}
 use Rattle.janus_meaning.specs.Store.{same_name}
 use Rattle.janus_meaning.proofs.Stores.{same_name_self, same_name_true}
-use Rattle.janus_names.specs.Numbers.{IsNumbered, IsUnmet, HaveOneNumber}
+use Rattle.janus_slots.specs.Numbers.{IsNumbered, IsUnmet, HaveOneNumber}
 use Rattle.janus_slots.specs.Slots.{slot, slot_in, no_slot}
 use Rattle.janus_slots.proofs.Names.{slot_number}
 use Rattle.janus_places.specs.Table.{slot_of}

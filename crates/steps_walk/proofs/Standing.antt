@@ -10,7 +10,7 @@ use Rattle.janus_meaning.specs.Syntax.{Name, Blk, Proc}
 use Rattle.janus_meaning.specs.Store.{find, same_name}
 use Rattle.janus_meaning.specs.World.{World, entered}
 use Rattle.janus_meaning.proofs.Stores.{same_name_self}
-use Rattle.janus_names.specs.Numbers.{IsNumbered, HaveOneNumber}
+use Rattle.janus_slots.specs.Numbers.{IsNumbered, HaveOneNumber}
 use Rattle.janus_slots.specs.Slots.{slot, number_from, number_in, procedure_in, procedures_in}
 use Rattle.janus_slots.proofs.Results.{res_in}
 use Rattle.janus_slots.proofs.Stores.{find_in}

@@ -4,7 +4,7 @@ use Rattle.janus_meaning.specs.Fault.{Fine}
 use Rattle.janus_meaning.specs.Syntax.{Name, Proc, names_of}
 use Rattle.janus_meaning.specs.Store.{find}
 use Rattle.janus_meaning.specs.World.{define}
-use Rattle.janus_names.specs.Numbers.{IsNumbered}
+use Rattle.janus_slots.specs.Numbers.{IsNumbered}
 use Rattle.janus_syntax.specs.Tree.{Block, block_view, procedure_view, procedures_view}
 use Rattle.janus_syntax.specs.View.{plain_procedure}
 use Rattle.janus_syntax.specs.declared.tree.Procedure.{Procedure}

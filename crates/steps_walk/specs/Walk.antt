@@ -2,7 +2,7 @@
 -- steps do to it.
 use Rattle.std.specs.Prelude.{◌≡◌, ℕ, Bool, false, List, length, All}
 use Rattle.janus_meaning.specs.Store.{Store}
-use Rattle.janus_names.specs.Numbers.{HaveOneNumber}
+use Rattle.janus_slots.specs.Numbers.{HaveOneNumber}
 use Rattle.janus_machine.specs.Cursor.{calls_of, has_no_calls}
 use Rattle.janus_places.specs.declared.table.Table.{Table}
 use Rattle.janus_places.specs.Table.{IsTableOf}

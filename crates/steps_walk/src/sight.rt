@@ -9,7 +9,7 @@ ghost use Rattle.kernel_runner.specs.Values.{shown};
 use crate::level::Level;
 use crate::walk::Walk;
 use janus_machine::ValueView;
-use janus_names::Names;
+use janus_slots::Names;
 use janus_places::Table;
 use std::alloc::{AllocError, Global};
 use std::sync::ledger::Ledger;

@@ -1,6 +1,6 @@
 use Rattle.std.proofs.Common.{◌∙◌, ◌<◌, length, sym, subst, arith}
-use Rattle.janus_names.specs.Numbers.{IsNumbered}
-use Rattle.janus_names.proofs.NameAt.{number_fits}
+use Rattle.janus_slots.specs.Numbers.{IsNumbered}
+use Rattle.janus_slots.proofs.NameAt.{number_fits}
 use Rattle.janus_syntax.specs.View.{name_of}
 use Rattle.janus_code.proofs.Slotting.{entry_at}
 use Rattle.janus_code.proofs.expression.entry.Goals as goal

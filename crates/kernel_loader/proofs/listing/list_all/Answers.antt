@@ -1,6 +1,6 @@
 use Rattle.std.proofs.Common.{ℕ, List, length, map, take, sym, ap, subst, arith, add-one, Contains}
 use Rattle.janus_meaning.specs.Syntax.{Name, Proc}
-use Rattle.janus_names.specs.Numbers.{IsMet, GoOn}
+use Rattle.janus_slots.specs.Numbers.{IsMet, GoOn}
 use Rattle.janus_slots.specs.Law.{AreListed}
 use Rattle.janus_syntax.specs.Tree.{procedure_view, procedures_view}
 use Rattle.janus_syntax.specs.View.{plain_procedure}

@@ -1,5 +1,5 @@
 use Rattle.std.proofs.Common.{◌≤◌, ◌+◌, length, map, take}
-use Rattle.janus_names.specs.Numbers.{GoOn}
+use Rattle.janus_slots.specs.Numbers.{GoOn}
 use Rattle.janus_slots.specs.Law.{AreListed}
 use Rattle.janus_syntax.specs.Tree.{procedures_view}
 use Rattle.janus_syntax.specs.View.{plain_procedure}

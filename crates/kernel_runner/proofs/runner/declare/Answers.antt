@@ -1,7 +1,7 @@
 use Rattle.std.proofs.Common.{◌≡◌, ℕ, List, [], ◌<◌, ◌≤◌, length, map, take, get_or, sym, ap, ◌∙◌, subst, arith, add-one}
 use Rattle.janus_meaning.specs.Syntax.{Name}
 use Rattle.janus_meaning.specs.Store.{Store}
-use Rattle.janus_names.specs.Numbers.{IsUnmet}
+use Rattle.janus_slots.specs.Numbers.{IsUnmet}
 use Rattle.janus_slots.specs.Slots.{names_in}
 use Rattle.janus_machine.specs.StoreState.{shown_store}
 use Rattle.janus_meaning.specs.World.{Declaration, DeclareInt, declare, declare_one, declared_name}

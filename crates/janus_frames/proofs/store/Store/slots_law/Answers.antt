@@ -1,7 +1,7 @@
 use Rattle.std.proofs.Common.{◌≡◌, ap, ◌∙◌, subst}
 use Rattle.std.specs.Prelude.{reverse}
 use Rattle.janus_meaning.specs.Store.{look}
-use Rattle.janus_names.specs.Numbers.{IsUnmet}
+use Rattle.janus_slots.specs.Numbers.{IsUnmet}
 use Rattle.janus_slots.specs.Slots.{names_in, in_slots}
 use Rattle.janus_frames.specs.StoreState.{StoreState, shown_store, declared_store}
 use Rattle.janus_frames.proofs.Declared as declared

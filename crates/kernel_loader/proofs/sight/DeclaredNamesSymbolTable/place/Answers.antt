@@ -4,7 +4,7 @@ use Rattle.std.proofs.lemmas.Option.{slice_get_within}
 use Rattle.janus_meaning.specs.Syntax.{Name, names_of}
 use Rattle.janus_meaning.specs.Shape.{Shape, kind_at}
 use Rattle.janus_slots.specs.Slots.{slot, slot_in}
-use Rattle.janus_names.specs.Numbers.{IsNumbered, IsUnmet}
+use Rattle.janus_slots.specs.Numbers.{IsNumbered, IsUnmet}
 use Rattle.janus_check.specs.Names.{Known, shape_in}
 use Rattle.kernel_runner.specs.StoreState.{shown_store}
 use Rattle.kernel_loader.specs.Tables.{names_shown}

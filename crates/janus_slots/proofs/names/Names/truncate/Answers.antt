@@ -1,8 +1,8 @@
 use Rattle.std.proofs.Common.{map, take, string_bytes, ap, ◌∙◌, sym, subst}
 use Rattle.std.proofs.lemmas.List.{take-map}
-use Rattle.janus_names.specs.Numbers.{HaveOneNumber}
-use Rattle.janus_names.proofs.Places.{fewer_names}
-use Rattle.janus_names.proofs.names.Names.truncate.Goals as goal
+use Rattle.janus_slots.specs.Numbers.{HaveOneNumber}
+use Rattle.janus_slots.proofs.Places.{fewer_names}
+use Rattle.janus_slots.proofs.names.Names.truncate.Goals as goal
 
 pub returns-clause-names : goal.returns-clause-names
 returns-clause-names c =

@@ -14,7 +14,7 @@ use Rattle.std.proofs.lemmas.Map.Made.{lookup_key_passes}
 use Rattle.std.proofs.lemmas.Option.{slice_get_past}
 use Rattle.std.proofs.lemmas.Slice.Eq.{bytes_eq-Decides}
 use Rattle.indexmap.proofs.MapLemmas.{Found-position, Missing-position}
-use Rattle.janus_names.specs.Numbers.{Name, IsNumbered, IsUnmet, HaveOneNumber}
+use Rattle.janus_slots.specs.Numbers.{Name, IsNumbered, IsUnmet, HaveOneNumber}
 
 -- keys as those of a map
 abbrev paired : {K : Type 0} → List K → List (K × Unit {0})

@@ -1,7 +1,7 @@
 use Rattle.std.proofs.Common.{IfSome, ◌∙◌, sym, subst}
-use Rattle.janus_names.specs.Numbers.{IsNumbered, IsUnmet}
-use Rattle.janus_names.proofs.Places.{if_numbered, unmet_there}
-use Rattle.janus_names.proofs.names.Names.number.Goals as goal
+use Rattle.janus_slots.specs.Numbers.{IsNumbered, IsUnmet}
+use Rattle.janus_slots.proofs.Places.{if_numbered, unmet_there}
+use Rattle.janus_slots.proofs.names.Names.number.Goals as goal
 
 pub returns-clause-met : goal.returns-clause-met
 returns-clause-met c =

@@ -2,7 +2,7 @@
 use denote.Param.Send.{IsSend, sendable}
 use Rattle.std.proofs.Crossing.{crosses}
 use Rattle.std.proofs.MapsCrossing.{crosses as maps}
-use Rattle.janus_names.specs.contracts.names.Names as Names
+use Rattle.janus_slots.specs.contracts.names.Names as Names
 
 pub Names-send : IsSend (Names.the_field).row
 Names-send = search (crosses, maps, sendable) depth 60 fits 20000

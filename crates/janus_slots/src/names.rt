@@ -1,7 +1,7 @@
 //! The table of names.
 
 ghost use Rattle.std.specs.Prelude.{◌≡◌, ◌<◌, ◌^◌, ◌++◌, ◌∷◌, [], length, take, string_bytes, None, IfSome, IfOk, OnOk, OnErr};
-ghost use Rattle.janus_names.specs.Numbers.{IsNumbered, IsUnmet, Adds, HaveOneNumber};
+ghost use Rattle.janus_slots.specs.Numbers.{IsNumbered, IsUnmet, Adds, HaveOneNumber};
 
 use indexmap::IndexSet;
 use std::alloc::{AllocError, Global};
@@ -15,7 +15,7 @@ pub struct Names {
 
 impl Model for Names {
     ghost use Rattle.std.specs.Prelude.{List, ℕ, map, string_bytes};
-    ghost use Rattle.janus_names.specs.Numbers.{HaveOneNumber};
+    ghost use Rattle.janus_slots.specs.Numbers.{HaveOneNumber};
 
     ghost Value = { List (List ℕ) };
 

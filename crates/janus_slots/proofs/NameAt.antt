@@ -3,7 +3,7 @@ use Rattle.std.proofs.Common.{◌≡◌, ℕ, ◌<◌, List, [], length, ap, ◌
 use Rattle.std.specs.Prelude.{Some}
 use Rattle.std.proofs.Math.ListN.{get_or-append}
 use Rattle.std.proofs.lemmas.Option.{slice_get-get_or, slice_get_within}
-use Rattle.janus_names.specs.Numbers.{Name, IsNumbered, GoOn, name_at}
+use Rattle.janus_slots.specs.Numbers.{Name, IsNumbered, GoOn, name_at}
 
 pub is_numbered : (xs : List Name) (k : ℕ) → k < length xs → IsNumbered xs k (name_at xs k)
 is_numbered xs k lt = slice_get-get_or xs k [] lt

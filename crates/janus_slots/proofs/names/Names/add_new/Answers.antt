@@ -1,7 +1,7 @@
 use Rattle.std.proofs.Common.{◌++◌, ◌∷◌, [], map, string_bytes, ap, ◌∙◌, sym, subst}
-use Rattle.janus_names.specs.Numbers.{IsUnmet, HaveOneNumber}
-use Rattle.janus_names.proofs.Places.{one_more, inserted_last}
-use Rattle.janus_names.proofs.names.Names.add_new.Goals as goal
+use Rattle.janus_slots.specs.Numbers.{IsUnmet, HaveOneNumber}
+use Rattle.janus_slots.proofs.Places.{one_more, inserted_last}
+use Rattle.janus_slots.proofs.names.Names.add_new.Goals as goal
 
 pub returns-clause-added : goal.returns-clause-added
 returns-clause-added c =
