@@ -1,3 +1,6 @@
+pub mod Reversed
+pub mod Placed
+pub mod InvertedPairs
 pub mod Cells
 pub mod Pairs
 pub mod HeldLemmas

@@ -1,3 +1,7 @@
+pub mod FlatCode
+pub mod InvertedBlock
+pub mod Inverted
+pub mod Longer
 pub mod Cells
 pub mod Expressions
 pub mod Numbered

@@ -3,7 +3,7 @@
 //! To the layer above it promises that `invert` gives the inverse of a cell's statements, that `closed` gives a procedure with its local's
 //! name behind each `delocal`, that flat code stands for one block over a table of names, that `flatten` gives code that over a table of slots stands for
 //! the cell's block with slots in place of names, and `flatten_procedure` a procedure whose code stands for its body so, both without a statement that no
-//! block holds. `janus_invert` has the inverse of
+//! block holds. `janus_code` has the inverse of
 //! flat code; what it makes of copied expressions is copied here, where they stand. In flat code a variable's slot stands for it, and for a procedure its
 //! number in a table of procedures' names, so that what runs compares no text. What code means is told over a table of names.
 //! The inverse of a statement is that of Yokoyama and Glück (2007), "A reversible programming language and its invertible

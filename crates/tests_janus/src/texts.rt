@@ -3,7 +3,7 @@
 //! is printed, `procedures` what is printed of each procedure alone, and `inverse` what is printed of the inverse. `exp` gives the tree of
 //! an expression, which is copied, and what is printed of the copy.
 use crate::outlines::{write_cell, write_exp};
-use janus_invert::invert;
+use janus_code::invert;
 use janus_syntax::{
     Cell, Exp, SyntaxFault, Token, TokenKind, parse_cell, parse_exp, print_cell, print_exp,
     print_procedure, tokens,

@@ -8,7 +8,7 @@ use Rattle.janus_code.specs.declared.code.Symbol.{Symbol}
 use Rattle.janus_code.specs.declared.code.Statement.{Statement}
 use Rattle.janus_code.specs.declared.code.Statement.TheVariants.{Skip, Assign, AssignElement, Push, Pop, Swap, If, Loop, LocalInt, LocalStack, Call, Uncall}
 use Rattle.janus_code.specs.Numbered.{HasItsNumber, HaveTheirNumbers, StatementHasNumbers, HaveNumbers}
-use Rattle.janus_invert.specs.Inverted.{IsInverse, AreInverse}
+use Rattle.janus_code.specs.Inverted.{IsInverse, AreInverse}
 
 same_at : (xs : List Name) (x y : Symbol) → y ≡ x → HasItsNumber xs x → HasItsNumber xs y
 same_at xs x y same at = subst (HasItsNumber xs) (sym same) at

@@ -4,9 +4,9 @@ ghost use Rattle.std.specs.Prelude.{◌≡◌, ℕ, List, ◌<◌, ◌≤◌, le
 ghost use Rattle.janus_meaning.specs.Syntax.{Name, inverse_block};
 ghost use Rattle.janus_code.specs.Numbered.{HaveNumbers};
 ghost use Rattle.janus_code.specs.Flat.{BlocksAreBelow};
-ghost use Rattle.janus_invert.specs.Inverted.{IsInverse, IsBackward, AreInverse};
+ghost use Rattle.janus_code.specs.Inverted.{IsInverse, IsBackward, AreInverse};
 ghost use Rattle.janus_code.specs.CodeBlock.{code_block};
-ghost use Rattle.janus_invert.specs.Longer.{IsLonger};
+ghost use Rattle.janus_code.specs.Longer.{IsLonger};
 
 use janus_code::expression::{copy, two_copies};
 use janus_code::{Block, Code, InvertFault, Statement, opposite};

@@ -2,11 +2,11 @@ use Rattle.std.proofs.Common.{◌≡◌, ℕ, List, ◌∷◌, [], ◌<◌, leng
 use Rattle.std.specs.Prelude.{slice_get, Some}
 use Rattle.std.proofs.lemmas.Option.{slice_get_read}
 use Rattle.janus_code.specs.CodeBlock.{code_tree, inner_block}
-use Rattle.janus_invert.specs.Inverted.{IsInverse, IsBackward}
-use Rattle.janus_invert.proofs.Pairs.{ArePairs, pairs_more}
-use Rattle.janus_invert.proofs.Reversed.{body_turned, inverse_longer, are_inverse, inverse_downward}
-use Rattle.janus_invert.proofs.Placed.{all_turned}
-use Rattle.janus_invert.proofs.turned.inverse_code.Goals as goal
+use Rattle.janus_code.specs.Inverted.{IsInverse, IsBackward}
+use Rattle.janus_code.proofs.InvertedPairs.{ArePairs, pairs_more}
+use Rattle.janus_code.proofs.Reversed.{body_turned, inverse_longer, are_inverse, inverse_downward}
+use Rattle.janus_code.proofs.Placed.{all_turned}
+use Rattle.janus_code.proofs.turned.inverse_code.Goals as goal
 
 pub loop-i-preserved : goal.loop-i-preserved
 loop-i-preserved c =

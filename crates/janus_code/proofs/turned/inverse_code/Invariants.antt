@@ -1,7 +1,7 @@
 use Rattle.std.proofs.Common.{◌≡◌, length}
-use Rattle.janus_invert.specs.Inverted.{IsInverse}
-use Rattle.janus_invert.proofs.Pairs.{ArePairs}
-use Rattle.janus_invert.proofs.turned.inverse_code.Given as goal
+use Rattle.janus_code.specs.Inverted.{IsInverse}
+use Rattle.janus_code.proofs.InvertedPairs.{ArePairs}
+use Rattle.janus_code.proofs.turned.inverse_code.Given as goal
 
 abbrev pub invariant-loop-i : goal.invariant-loop-i
 invariant-loop-i l = record {

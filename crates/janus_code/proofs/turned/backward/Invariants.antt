@@ -1,6 +1,6 @@
 use Rattle.std.proofs.Common.{◌≡◌, ℕ, suc, ◌+◌, ◌-◌, ◌<◌, ◌≤◌, length, get_or}
-use Rattle.janus_invert.specs.Longer.{IsLonger}
-use Rattle.janus_invert.proofs.turned.backward.Given as goal
+use Rattle.janus_code.specs.Longer.{IsLonger}
+use Rattle.janus_code.proofs.turned.backward.Given as goal
 
 abbrev pub invariant-loop-i : goal.invariant-loop-i
 invariant-loop-i l = record {

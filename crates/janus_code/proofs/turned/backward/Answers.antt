@@ -1,5 +1,5 @@
 use Rattle.std.proofs.Common.{◌≡◌, length, arith}
-use Rattle.janus_invert.proofs.turned.backward.Goals as goal
+use Rattle.janus_code.proofs.turned.backward.Goals as goal
 
 pub returns-clause-backward : goal.returns-clause-backward
 returns-clause-backward c =

@@ -6,7 +6,7 @@ use Rattle.janus_syntax.specs.Tree.{Cell, cell_of, Empty}
 use Rattle.janus_syntax.specs.View.{plain_cell}
 use Rattle.janus_code.specs.Cells.{inverse_cell}
 use Rattle.janus_code.proofs.Cells.{turned_plain}
-use Rattle.janus_invert.proofs.inverted_is_flat_code_of_inverse_law.Goals as goal
+use Rattle.janus_code.proofs.inverted_is_flat_code_of_inverse_law.Goals as goal
 
 inverse_cell_plain : (c : Cell) → (plain_cell (inverse_cell c)).block ≡ inverse_block (plain_cell c).block
 inverse_cell_plain (cell_of ds b ps) = turned_plain b Empty

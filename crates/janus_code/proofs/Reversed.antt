@@ -15,8 +15,8 @@ use Rattle.janus_code.specs.declared.code.Statement.TheVariants.{Skip, Assign, A
 use Rattle.janus_code.specs.Expressions.{exp_of, symbol_name, names_in}
 use Rattle.janus_code.specs.Flat.{ahead, block_at, built, tree_at, IsBelow, BlocksAreBelow, AreBelow, IsDownward}
 use Rattle.janus_code.specs.Cells.{IsOpposite}
-use Rattle.janus_invert.specs.Inverted.{IsBackward, IsInverse, AreInverse}
-use Rattle.janus_invert.specs.Longer.{IsLonger}
+use Rattle.janus_code.specs.Inverted.{IsBackward, IsInverse, AreInverse}
+use Rattle.janus_code.specs.Longer.{IsLonger}
 use Rattle.janus_code.proofs.Trees.{tree_of}
 
 -- ---- blocks

@@ -1,4 +1,0 @@
-pub mod Longer
-pub mod Inverted
-pub mod InvertedBlock
-pub mod FlatCode
