@@ -7,10 +7,10 @@ ghost use Rattle.janus_meaning.specs.Value.{value as value_of, first, is_none};
 ghost use Rattle.janus_meaning.specs.Word.{wrap, bit, nonzero};
 ghost use Rattle.kernel_text.specs.Stacks.{held};
 ghost use Rattle.kernel_ask.specs.LookedUp.{IsNumber, IsArray, IsStack};
-ghost use Rattle.janus_evaluation.specs.Results.{result_of};
+ghost use Rattle.janus_row.specs.NumberResults.{result_of};
 ghost use Rattle.janus_syntax.specs.View.{exp_of};
 
-use janus_evaluation::{ValueFault, bit_of, holds, negative, operate};
+use janus_row::{ValueFault, bit_of, holds, negative, operate};
 use janus_syntax::tree::Exp;
 use kernel_text::{StackView, ValueView, View};
 use std::sync::ledger::Ledger;

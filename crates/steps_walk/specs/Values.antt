@@ -13,7 +13,7 @@ use Rattle.janus_memory.specs.declared.value.ValueView.{ValueView}
 use Rattle.janus_memory.specs.declared.stack_view.StackView.{StackView}
 use Rattle.janus_memory.specs.Stacks.{held}
 use Rattle.janus_memory.specs.Values.{shown}
-use Rattle.janus_evaluation.specs.Results.{fault_of}
+use Rattle.janus_row.specs.NumberResults.{fault_of}
 use Rattle.steps_walk.specs.declared.evaluation.NoValue.{NoValue}
 use Rattle.steps_walk.specs.declared.evaluation.NoValue.TheVariants.{Unknown, Kind, Fault}
 use Rattle.steps_walk.specs.declared.sight.Sight.{Sight}

@@ -13,7 +13,7 @@ ghost use Rattle.steps_walk.specs.Values.{sighted, told, found_value, found_arra
 
 use crate::sight::Sight;
 use crate::walk::Walk;
-use janus_evaluation::{ValueFault, bit_of, holds, negative, operate};
+use janus_row::{ValueFault, bit_of, holds, negative, operate};
 use janus_machine::ValueView;
 use janus_memory::StackView;
 use janus_syntax::tree::{Exp, Operator};

@@ -7,8 +7,8 @@ use Rattle.janus_meaning.specs.Value.{value}
 use Rattle.janus_meaning.specs.Word.{wrap, bit, nonzero, operate}
 use Rattle.janus_meaning.specs.Store.{Stk, Arr, look, element}
 use Rattle.janus_syntax.specs.View.{name_of, exp_of, operator_of}
-use Rattle.janus_evaluation.specs.Results.{fault_of}
-use Rattle.janus_evaluation.proofs.Numbers.{wrap_number, bit_wraps}
+use Rattle.janus_row.specs.NumberResults.{fault_of}
+use Rattle.janus_row.proofs.Numbers.{wrap_number, bit_wraps}
 use Rattle.kernel_text.specs.Stacks.{held}
 use Rattle.kernel_ask.proofs.Sizes.{exp_size}
 use Rattle.kernel_ask.proofs.Values.{number_in, variable_at, is_number, is_array, empty_is_stack, top_is_stack, empty_is, top_is, element_is, element_bad}

@@ -5,7 +5,7 @@ use Rattle.janus_meaning.specs.Value.{value}
 use Rattle.janus_meaning.specs.Word.{wrap}
 use Rattle.janus_meaning.specs.Store.{look, number, array, stack}
 use Rattle.janus_syntax.specs.View.{name_of, exp_of, operator_of}
-use Rattle.janus_evaluation.proofs.Numbers.{wrap_number}
+use Rattle.janus_row.proofs.Numbers.{wrap_number}
 use Rattle.steps_walk.specs.Values.{sighted}
 use Rattle.steps_walk.specs.Walk.{slots_in}
 use Rattle.steps_walk.proofs.Values.{variable_told, element_told, empty_told, top_told, negative_told, binary_told, and_told, or_told}

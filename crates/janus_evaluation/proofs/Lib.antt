@@ -1,4 +1,0 @@
-pub mod Assigns
-pub mod Numbers
-pub mod Swaps
-pub mod Transfers
