@@ -12,5 +12,3 @@ pub mod Named
 pub mod Steps
 pub mod Shown
 pub mod Laws
--- Of janus_names, given again.
-pub use Rattle.janus_slots.proofs.Places

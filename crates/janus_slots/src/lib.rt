@@ -1,15 +1,20 @@
 //! Names don't matter: Janus with slots in place of names.
 //!
-//! This crate has no code. Its definitions, in specs/, replace each name of a variable by its slot, which is how many names stand
-//! below it in the store in sight, and each name of a procedure by its number in a table. Its public functions are empty, and their
-//! contracts are the laws of that: a block with slots takes the same steps as the block with names, through the same places, with
-//! the same values, ends after as many steps, and stops for the same faults. So what runs slots alone, and never compares a name,
-//! runs Janus as it is meant.
+//! Its definitions, in specs/, replace each name of a variable by its slot, which is how many names stand below it in the store in
+//! sight, and each name of a procedure by its number in a table. Its laws are the contracts of functions that do nothing: a block with
+//! slots takes the same steps as the block with names, through the same places, with the same values, ends after as many steps, and
+//! stops for the same faults. So what runs slots alone, and never compares a name, runs Janus as it is meant.
 //!
-//! It gives the lemma on places of `janus_slots` again, which `janus_check` cites.
+//! Its one type is `Names`, a table of names, each with its number: those of procedures, and the texts of declared names. A number stands for
+//! one name and a name has one number at most, and a name that has a number keeps it for as long as it is there: names are added behind the others,
+//! and only the newest ones are taken away.
 #![tactic(auto)]
 
 ghost use Rattle.janus_slots.specs.Law.{StepsAreTheSame, RunsAreTheSame, SlotsStay};
+
+mod names;
+
+pub use crate::names::Names;
 
 /// Law: with slots in place of names, and the numbers of a table in which each procedure is listed, the machine on places takes the
 /// same steps.
