@@ -2,7 +2,7 @@ pub mod Crosses
 pub mod NameAt
 pub mod Places
 pub mod Results
-pub mod Names
+pub mod NamesInSight
 pub mod Whole
 pub mod Stores
 pub mod Values

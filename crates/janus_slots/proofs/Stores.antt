@@ -9,7 +9,7 @@ use Rattle.janus_meaning.proofs.Stores.{same_name_self, put-take, fill-pull}
 use Rattle.janus_slots.specs.Slots.{slot, slot_in, slots_in, number_in, stacked, procedure_in, procedures_in, names_in, in_slots}
 use Rattle.janus_slots.specs.Law.{AreListed}
 use Rattle.janus_slots.proofs.Results.{res_in, then_in}
-use Rattle.janus_slots.proofs.Names.{IsBelow, slot_in_below, numbers_same}
+use Rattle.janus_slots.proofs.NamesInSight.{IsBelow, slot_in_below, numbers_same}
 
 -- ---- reading
 

@@ -12,7 +12,7 @@ use Rattle.janus_meaning.proofs.Stores.{same_name_self, same_name_true}
 use Rattle.janus_slots.specs.Numbers.{IsNumbered, HaveOneNumber}
 use Rattle.janus_slots.specs.Slots.{slot, number_in, procedure_in, procedures_in}
 use Rattle.janus_slots.specs.Law.{AreListed}
-use Rattle.janus_slots.proofs.Names.{slot_number}
+use Rattle.janus_slots.proofs.NamesInSight.{slot_number}
 use Rattle.janus_machine.specs.FrameCalls.{Caller}
 use Rattle.janus_machine.specs.declared.linked_code.LinkedCode.{LinkedCode}
 use Rattle.janus_machine.specs.declared.linked_procedure.LinkedProcedure.{LinkedProcedure}

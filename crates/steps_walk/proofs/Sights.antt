@@ -11,7 +11,7 @@ use Rattle.janus_meaning.specs.Store.{same_name}
 use Rattle.janus_meaning.proofs.Stores.{same_name_self, same_name_true}
 use Rattle.janus_slots.specs.Numbers.{IsNumbered, IsUnmet, HaveOneNumber}
 use Rattle.janus_slots.specs.Slots.{slot, slot_in, no_slot}
-use Rattle.janus_slots.proofs.Names.{slot_number}
+use Rattle.janus_slots.proofs.NamesInSight.{slot_number}
 use Rattle.janus_places.specs.Table.{slot_of}
 use Rattle.steps_walk.proofs.Bodies.{false_unless}
 use Rattle.steps_walk.proofs.Lists.{get_left, get_last, turned, drop_at, length_drop, drop_none}

@@ -13,7 +13,7 @@ use Rattle.janus_memory.specs.declared.value.ValueView.{ValueView}
 use Rattle.janus_memory.specs.declared.value.ValueView.TheVariants as views
 use Rattle.janus_memory.specs.Values.{shown}
 use Rattle.janus_slots.specs.Slots.{slot, slot_in, no_slot}
-use Rattle.janus_slots.proofs.Names.{slot_number}
+use Rattle.janus_slots.proofs.NamesInSight.{slot_number}
 use Rattle.steps_walk.specs.Values.{sighted, value_or_lent}
 use Rattle.steps_walk.proofs.Sights.{no_number}
 
