@@ -8,8 +8,8 @@ ghost use Rattle.janus_code.specs.Inverted.{IsInverse, IsBackward, AreInverse};
 ghost use Rattle.janus_code.specs.CodeBlock.{code_block};
 ghost use Rattle.janus_code.specs.Longer.{IsLonger};
 
-use janus_code::expression::{copy, two_copies};
-use janus_code::{Block, Code, InvertFault, Statement, opposite};
+use crate::expression::{copy, two_copies};
+use crate::{Block, Code, InvertFault, Statement, opposite};
 use std::alloc::{AllocError, Global};
 
 /// The code whose block is the inverse of this one's: its statements keep their numbers. Or want of memory.
