@@ -13,24 +13,26 @@ use Rattle.steps_walk.specs.Runner.{Is, Inside}
 use Rattle.steps_walk.specs.program.Program.{Program}
 use Rattle.steps_walk.specs.runner.Runner.{Runner}
 use Rattle.steps_walk.specs.Program.{cell_of_program}
+use Rattle.steps_walk.specs.Fields.{past_of}
 use Rattle.kernel_machine.specs.Language.{Forward}
 use Rattle.kernel_machine.specs.State as state
 use Rattle.kernel_machine.specs.declared.heading.Heading.TheVariants.{GoesOn}
 use Rattle.steps_walk.specs.declared.walk.Walk.{Walk}
-use Rattle.steps_walk.specs.Walk.{runner_of, program_of, IsWalking}
+use Rattle.steps_walk.specs.Walk.{runner_of, program_of, tree_of, IsWalking}
 use Rattle.steps_program.specs.Before.{Stage, Text, Finds, cell_of, sought}
 use Rattle.steps_program.proofs.Telling.{Goes}
 use Rattle.steps_program.specs.Walked.{Begins, StandsInside, Enters, TellsWalk, WalksThrough}
 
 -- the walk has the runner and the program of an open cell
 pub stands_inside : {L : Type 0} (inside : Machine) (o : OpenCell L) (w : Walk L) → runner_of w ≡ o.runner → program_of w ≡ o.program →
-    IsOpenCell inside.state o → StandsInside inside w
-stands_inside {L} inside o w e f h = record {
+    tree_of w ≡ o.tree → IsOpenCell inside.state o → StandsInside inside w
+stands_inside {L} inside o w e f k h = record {
   at = h.at;
   stands = subst (λ (r : Runner L). Is r (Inside (program_of w) h.at false)) (sym e)
       (subst (λ (p : Program). Is o.runner (Inside p h.at false)) (sym f) h.stands);
   code = h.code ∙ ap (λ (p : Program). Forward (cell_of_program p)) (sym f);
   world = h.world;
+  past = ap past_of k ∙ h.past;
   job = h.job
       ∙ ap (λ (p : Program). state.Inside (record { work = state.Posted (cell_of_program p); count = h.at.count; heading = GoesOn })) (sym f);
 }

@@ -3,6 +3,8 @@ pub mod Sources
 pub mod Stacked
 pub mod Obeying
 pub mod Stopping
+pub mod Seeking
+pub mod Watching
 pub mod Telling
 pub mod Sighting
 pub mod Talking

@@ -8,10 +8,11 @@ use Rattle.kernel_machine.specs.State.{here}
 use Rattle.kernel_machine.specs.declared.heading.Heading.TheVariants.{GoesOn}
 use Rattle.kernel_machine.specs.declared.outcome.Begun.TheVariants.{Going}
 use Rattle.steps_walk.specs.Program.{cell_of_program}
+use Rattle.steps_walk.specs.Fields.{past_of}
 use Rattle.steps_walk.specs.Runner.{Place, Is, Inside}
 use Rattle.cells_program.specs.Served.{lane}
 use Rattle.steps_walk.specs.declared.walk.Walk.{Walk}
-use Rattle.steps_walk.specs.Walk.{runner_of, program_of, IsWalking}
+use Rattle.steps_walk.specs.Walk.{runner_of, program_of, tree_of, IsWalking}
 use Rattle.steps_program.specs.declared.source.Source.{Source}
 use Rattle.steps_program.specs.Before.{Stage, Text, Finds, cell_of, sought, text_of}
 use Rattle.steps_program.specs.Transcript.{ReadsAll, Transcribes}
@@ -21,12 +22,15 @@ abbrev pub Begins : Machine → List ℕ → Machine → Type 0
 Begins old text new =
     (posted : Machine) × (number : ℕ) × IsPost old lane (RunCell text false true) (Ok number) posted × IsBegin posted Going new
 
--- The walk stands where a machine does that is inside a posted cell: in its code, in the world in which it was entered, behind as many steps.
+-- The walk stands where a machine does that is inside a posted cell: in its code, in the world in which it was entered, beside the same cells, behind as
+-- many steps.
 pub record StandsInside {L : Type 0} (inside : Machine) (w : Walk L) : Type 0 where
   pub at : Place
   pub stands : Is (runner_of w) (Inside (program_of w) at false)
   pub code : at.code ≡ Forward (cell_of_program (program_of w))
   pub world : at.world ≡ here inside.state.past
+  -- the cells before it are those of the machine, each at its node
+  pub past : past_of (tree_of w) ≡ inside.state.past
   pub job : inside.state.job ≡ state.Inside (record { work = state.Posted (cell_of_program (program_of w)); count = at.count; heading = GoesOn })
 
 -- a machine begins a cell of this text, and the walk stands there

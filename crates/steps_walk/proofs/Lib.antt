@@ -13,3 +13,5 @@ pub mod InSight
 pub mod Values
 pub mod Naming
 pub mod MetBodies
+pub mod Unchanged
+pub mod Seen

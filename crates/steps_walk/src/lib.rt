@@ -31,11 +31,12 @@
 mod body;
 mod evaluation;
 mod level;
+mod quiet;
 mod sight;
 mod turning;
 mod walk;
 
-pub use crate::evaluation::{NoValue, is_holding, number_of, value_of};
+pub use crate::evaluation::{NoValue, is_holding, is_true, number_of, seen_number, value_of};
 pub use crate::level::{Level, Spot};
 pub use crate::sight::Sight;
 pub use crate::walk::Walk;
