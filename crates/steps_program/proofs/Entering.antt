@@ -1,5 +1,5 @@
 -- A cell that is begun, and the walk from there.
-use Rattle.std.proofs.Common.{◌≡◌, ◌∙◌, ℕ, List, [], ◌∷◌, ◌++◌, false, true, refl, ap, ap₂, sym, subst}
+use Rattle.std.proofs.Common.{◌≡◌, ◌∙◌, ℕ, List, [], ◌∷◌, ◌++◌, false, true, map, refl, ap, ap₂, sym, subst}
 use Rattle.std.specs.Prelude.{Option, Result, Ok, Err, OnOk, IfOk}
 use Rattle.std.specs.Io.KnownBytes.{Appends}
 use Rattle.exact_write.proofs.SendLemmas.{appends_join}
@@ -19,9 +19,11 @@ use Rattle.kernel_machine.specs.State as state
 use Rattle.kernel_machine.specs.declared.heading.Heading.TheVariants.{GoesOn}
 use Rattle.steps_walk.specs.declared.walk.Walk.{Walk}
 use Rattle.steps_walk.specs.Walk.{runner_of, program_of, tree_of, IsWalking}
-use Rattle.steps_program.specs.Before.{Stage, Text, Finds, cell_of, sought}
+use Rattle.steps_program.specs.declared.source.Source.{Source}
+use Rattle.steps_program.specs.Before.{Stage, Text, Finds, cell_of, sought, text_of}
+use Rattle.steps_program.specs.Transcript.{ReadsAll, Transcribes}
 use Rattle.steps_program.proofs.Telling.{Goes}
-use Rattle.steps_program.specs.Walked.{Begins, StandsInside, Enters, TellsWalk, WalksThrough}
+use Rattle.steps_program.specs.Walked.{AreRead, Begins, StandsInside, Enters, TellsWalk, WalksThrough}
 
 -- the walk has the runner and the program of an open cell
 pub stands_inside : {L : Type 0} (inside : Machine) (o : OpenCell L) (w : Walk L) → runner_of w ≡ o.runner → program_of w ≡ o.program →
@@ -60,6 +62,14 @@ pub walked : {L E : Type 0} (m : Machine) (text : List ℕ) (texts : List Text) 
     IsWalking w → Enters m text w → OnOk r (Goes (TellsWalk texts w input) a b) → OnOk r (Walks L m text texts input a b)
 walked m text texts input a b w (Ok u) walks enters (told, tells, sent) = (w, told, walks, enters, tells, sent)
 walked m text texts input a b w (Err e) walks enters h = tt
+
+-- the places that a transcript tells are those of the texts
+pub told_as_read : {L E : Type 0} (sources : List Source) (texts : List Text) (w : Walk L) (input a b : Option (List ℕ)) (r : Result (Unit {0}) E) →
+    map text_of sources ≡ texts → OnOk r (AreRead sources w) → OnOk r (Goes (Transcribes sources w (ReadsAll input)) a b) →
+    OnOk r (Goes (TellsWalk texts w input) a b)
+told_as_read sources texts w input a b (Ok u) are read (out, h, sent) =
+    (out, record { sources = sources; are = are; read = read; transcribes = h }, sent)
+told_as_read sources texts w input a b (Err e) are read h = tt
 
 -- behind what is written of the cells before
 module _ (L : Type 0) {E : Type 0} (cell : Option ℕ) (file : List ℕ) (input a b c : Option (List ℕ)) (m : Machine) (texts : List Text) (text : Text) where

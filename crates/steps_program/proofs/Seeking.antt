@@ -33,7 +33,7 @@ module _ {L : Type 0} where
   module _ (sources : List Source) (exp : Bor Exp) (old new : Walk L) (one : TakesOne old new) where
     pub last_seen : (to : Came) → IsSeenTrue exp.now new to → TakesLast sources (Holds exp) old new to
     last_seen came.There h = (one, h)
-    last_seen came.Memory h = one
+    last_seen came.Memory h = (one, h)
     last_seen came.End h = absurd h
     last_seen came.Start h = absurd h
     last_seen (came.Fault fault) h = absurd h

@@ -17,14 +17,14 @@ use Rattle.steps_program.proofs.Obeying.{led}
 module _ {L : Type 0} (sources : List Source) (goal : Goal) (old new : Walk L) where
   pub last_on : (to : Came) → TakesOne old new → Arrives sources goal new to → TakesLast sources goal old new to
   last_on came.There t a = (t, a)
-  last_on came.Memory t a = t
+  last_on came.Memory t a = (t, a)
   last_on came.End t a = absurd a
   last_on came.Start t a = absurd a
   last_on (came.Fault fault) t a = absurd a
 
   pub last_back : (to : Came) → TakesOneBack old new → Arrives sources goal new to → TakesLastBack sources goal old new to
   last_back came.There t a = (t, a)
-  last_back came.Memory t a = t
+  last_back came.Memory t a = (t, a)
   last_back came.End t a = absurd a
   last_back came.Start t a = absurd a
   last_back (came.Fault fault) t a = absurd a

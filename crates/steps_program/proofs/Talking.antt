@@ -43,15 +43,15 @@ module _ (lines : List (List ℕ)) (line : List ℕ) (n : ℕ) where
 
   pub read_on : (input left new : Option (List ℕ)) → asked_of line ≢ Quit → ReadsLine true left new line → ReadsSoFar input left n lines →
       ReadsSoFar input new (n + 1) (lines ++ line ∷ [])
-  read_on None left new no one h = (tt, longer h.1)
-  read_on (Some input) None new no one ((rest, reads, e), many) = absurd (cc)
-  read_on (Some input) (Some xs) new no (is, left) ((rest, reads, e), many) =
+  read_on None left new other one h = (tt, longer h.1)
+  read_on (Some input) None new other one ((rest, reads, e), many) = absurd (cc)
+  read_on (Some input) (Some xs) new other (is, left) ((rest, reads, e), many) =
       let same = same_left xs rest e in
       let front = is ∙ ap (take_through 10) same in (
         (
           drop_through 10 rest,
           subst (λ x. Reads input (lines ++ x ∷ []) (drop_through 10 rest)) (sym front)
-              (ReadOn lines rest reads (λ quit. no (ap asked_of front ∙ quit))),
+              (ReadOn lines rest reads (λ quit. other (ap asked_of front ∙ quit))),
           left ∙ ap (λ r. Some (drop_through 10 r)) same,
         ),
         longer many,

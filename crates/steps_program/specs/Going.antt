@@ -10,7 +10,7 @@ use Rattle.steps_walk.specs.declared.walk.Walk.{Walk}
 use Rattle.steps_walk.specs.Walk.{runner_of, program_of, calls_in, Moves}
 use Rattle.steps_walk.specs.declared.level.Level.{Level}
 use Rattle.steps_walk.specs.declared.level.Spot.{Spot}
-use Rattle.steps_walk.specs.Standing.{TellsStand}
+use Rattle.steps_walk.specs.Standing.{TellsStand, IsMetHere}
 use Rattle.steps_walk.specs.Stops.{TellsStop, is_stop}
 use Rattle.janus_syntax.specs.declared.tree.Exp.{Exp}
 use Rattle.steps_walk.specs.Quiet.{IsNumberAt}
@@ -51,10 +51,10 @@ IsThere sources (Line line) w there = TellsOnLine sources line w there
 IsThere sources (Holds exp) w there = TellsHolding exp.now w there
 IsThere sources (Changes name depth old) w there = TellsChange name.now depth (value_in old) w there
 
--- where it was looked: it is there, or there is no memory to look
+-- where it was looked: it is there, or there is no memory to look, which is wanted only in a body that was not met
 abbrev pub Arrives : {L : Type 0} → List Source → Goal → Walk L → Came → Type 0
 Arrives sources goal w came.There = IsThere sources goal w true
-Arrives sources goal w came.Memory = Unit {0}
+Arrives sources goal w came.Memory = IsMetHere w → ⊥
 Arrives sources goal w _ = ⊥
 
 -- at this level, which is the innermost one, an expression was seen not to hold
@@ -64,7 +64,7 @@ IsSeenFalse exp w level = (r : Res ℤ) × IsNumberAt exp w level r × (holds_as
 -- it was seen to hold; or there is no memory to look
 abbrev pub IsSeenTrue : {L : Type 0} → Exp → Walk L → Came → Type 0
 IsSeenTrue exp w came.There = TellsHolding exp w true
-IsSeenTrue exp w came.Memory = Unit {0}
+IsSeenTrue exp w came.Memory = IsMetHere w → ⊥
 IsSeenTrue exp w _ = ⊥
 
 -- ---- the way there
@@ -91,17 +91,18 @@ pub data PassesBack {L : Type 0} (sources : List Source) (goal : Goal) (old : Wa
   FurtherBack : (mid new : Walk L) → PassesBack sources goal old mid → TakesOneBack mid new → IsThere sources goal new false →
       PassesBack sources goal old new
 
--- the step that is left to be taken: to where the command goes, or to the end, or to none where a fault is met
+-- the step that is left to be taken: to where the command goes, or to the end, or to none where a fault is met; or into a body that was not met, for which there
+-- is no memory
 abbrev pub TakesLast : {L : Type 0} → List Source → Goal → Walk L → Walk L → Came → Type 0
 TakesLast sources goal old new came.There = TakesOne old new × IsThere sources goal new true
 TakesLast sources goal old new came.End = (n : ℕ) × Runs (program_of old) 1 (Ended n) (runner_of old) (runner_of new)
 TakesLast sources goal old new (came.Fault fault) = (n : ℕ) × Runs (program_of old) 1 (Stopped n fault) (runner_of old) (runner_of new)
-TakesLast sources goal old new came.Memory = TakesOne old new
+TakesLast sources goal old new came.Memory = TakesOne old new × (IsMetHere new → ⊥)
 TakesLast sources goal old new came.Start = ⊥
 
 abbrev pub TakesLastBack : {L : Type 0} → List Source → Goal → Walk L → Walk L → Came → Type 0
 TakesLastBack sources goal old new came.There = TakesOneBack old new × IsThere sources goal new true
-TakesLastBack sources goal old new came.Memory = TakesOneBack old new
+TakesLastBack sources goal old new came.Memory = TakesOneBack old new × (IsMetHere new → ⊥)
 TakesLastBack sources goal old new came.Start = (new ≡ old) × (count_of (runner_of new) ≡ 0)
 TakesLastBack sources goal old new came.End = ⊥
 TakesLastBack sources goal old new (came.Fault fault) = ⊥

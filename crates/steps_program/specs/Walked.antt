@@ -1,5 +1,5 @@
 -- All that is written: of the cells before the one that is walked through, and then of the walk.
-use Rattle.std.specs.Prelude.{◌≡◌, ℕ, false, true, List, [], ◌∷◌, ◌++◌, map, Option, Ok}
+use Rattle.std.specs.Prelude.{◌≡◌, ◌<◌, ◌≤◌, ℕ, false, true, List, [], ◌∷◌, ◌++◌, map, Option, None, Some, Ok, string_bytes}
 use Rattle.kernel_machine.specs.Language.{Forward}
 use Rattle.kernel_machine.specs.Request.{RunCell}
 use Rattle.kernel_machine.specs.Runs.{Machine, new_machine, IsPost, IsBegin}
@@ -14,6 +14,8 @@ use Rattle.cells_program.specs.Served.{lane}
 use Rattle.steps_walk.specs.declared.walk.Walk.{Walk}
 use Rattle.steps_walk.specs.Walk.{runner_of, program_of, tree_of, IsWalking}
 use Rattle.steps_program.specs.declared.source.Source.{Source}
+use Rattle.steps_walk.specs.Texts.{IsTextAt, nodes_in}
+use Rattle.steps_program.specs.Places.{source_of}
 use Rattle.steps_program.specs.Before.{Stage, Text, Finds, cell_of, sought, text_of}
 use Rattle.steps_program.specs.Transcript.{ReadsAll, Transcribes}
 
@@ -39,10 +41,20 @@ pub record Enters {L : Type 0} (old : Machine) (text : List ℕ) (w : Walk L) : 
   pub begins : Begins old text inside
   pub stands : StandsInside inside w
 
+-- the text of a node, or for none that of the cell that is walked through, has the very tree whose places the walk tells
+abbrev pub IsReadAt : {L : Type 0} → List Source → Walk L → Option ℕ → Type 0
+IsReadAt sources w node = (s : Source) × (source_of sources node ≡ Some s) × IsTextAt w node (string_bytes s.text)
+
+-- that is so of the cell that is walked through, and of each node
+pub record AreRead {L : Type 0} (sources : List Source) (w : Walk L) : Type 0 where
+  pub own : IsReadAt sources w None
+  pub nodes : (n : ℕ) → 0 < n → n ≤ nodes_in w → IsReadAt sources w (Some n)
+
 -- the transcript of a walk, to whose cells these texts belong
 pub record TellsWalk {L : Type 0} (texts : List Text) (w : Walk L) (input : Option (List ℕ)) (out : List ℕ) : Type 0 where
   pub sources : List Source
   pub are : map text_of sources ≡ texts
+  pub read : AreRead sources w
   pub transcribes : Transcribes sources w (ReadsAll input) out
 
 -- A new kernel's machine serves the cells of a file before the one that is looked for, and begins that one; behind what is written of them stands the

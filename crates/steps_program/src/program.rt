@@ -11,12 +11,13 @@ ghost use Rattle.steps_program.specs.declared.talk.Reply.TheVariants.{Place};
 ghost use Rattle.steps_program.specs.Before.{Finds, Stage, cell_of, sought, text_of};
 ghost use Rattle.steps_program.specs.Told.{Answers};
 ghost use Rattle.steps_program.specs.Transcript.{ReadsAll, ReadsLine, ReadsSome, Serves, Talked, Transcribes};
-ghost use Rattle.steps_program.specs.Walked.{Begins, Enters, StandsInside, TellsWalk, WalksThrough};
+ghost use Rattle.steps_program.specs.Walked.{AreRead, Begins, Enters, StandsInside, TellsWalk, WalksThrough};
 
 use crate::command::Command;
 use crate::reply::answer;
 use crate::source::{Source, Stray, count_cells, job_of, run_before};
 use crate::talk::{Reply, obey};
+use crate::text::are_read;
 use cells_program::{Begun, Kernel, WriteFailed, send_outcome, send_post_fault};
 use std::alloc::{AllocError, Global};
 use std::io::{BufRead, Write};
@@ -34,6 +35,9 @@ pub enum RunFault {
     /// The text of the cell, or of one before it, is refused.
     #[error("refused")]
     Refused,
+    /// The tree of a cell is not that of its text: each text is read once more before the walk begins, and no file is known for which that is so.
+    #[error("a cell differs from its text")]
+    Differs,
     #[error("no memory")]
     Memory,
     #[error("cannot read")]
@@ -154,7 +158,33 @@ fn walk_among<L: Ledger, R: BufRead + Drop, W: Write>(
 {
     let mut sources = sources;
     match sources.push(source) {
-        Ok(()) => walk_through(alloc, walk, sources.as_slice(), reader, writer),
+        Ok(()) => walk_as_read(alloc, walk, sources.as_slice(), reader, writer),
+        Err(_) => {
+            walk.discard();
+            Err(RunFault::Memory)
+        }
+    }
+}
+
+/// Walks through a cell, if the places that are told are those of the texts.
+fn walk_as_read<L: Ledger, R: BufRead + Drop, W: Write>(
+    alloc: Global,
+    walk: Walk<L>,
+    sources: &[Source],
+    reader: &mut R,
+    writer: &mut W,
+) -> Result<(), RunFault>
+    requires { IsWalking walk }
+    ensures read { OnOk result (AreRead sources.now walk) }
+    ensures tells { OnOk result ((out : List ℕ) × Transcribes sources.now walk (ReadsAll (R.remaining reader.old)) out
+        × Appends (W.contents writer.old) (W.contents writer.new) out) }
+{
+    match are_read(alloc, &walk, sources) {
+        Ok(true) => walk_through(alloc, walk, sources, reader, writer),
+        Ok(false) => {
+            walk.discard();
+            Err(RunFault::Differs)
+        }
         Err(_) => {
             walk.discard();
             Err(RunFault::Memory)

@@ -15,3 +15,4 @@ pub mod Naming
 pub mod MetBodies
 pub mod Unchanged
 pub mod Seen
+pub mod Meant

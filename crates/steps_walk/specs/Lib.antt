@@ -7,6 +7,8 @@ pub mod Stops
 pub mod Sights
 pub mod Values
 pub mod Quiet
+pub mod Texts
+pub mod Meant
 -- Of kernel_runner, given again.
 pub use Rattle.kernel_runner.specs.Runner
 pub use Rattle.kernel_runner.specs.Program

@@ -30,9 +30,11 @@
 
 mod body;
 mod evaluation;
+mod law;
 mod level;
 mod quiet;
 mod sight;
+mod text;
 mod turning;
 mod walk;
 

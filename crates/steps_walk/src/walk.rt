@@ -23,7 +23,7 @@ pub struct Walk<L: Ledger> {
 }
 
 impl<L: Ledger> Walk<L> {
-    ghost use Rattle.std.specs.Prelude.{IfSome, IsSome, OnOk, ℕ};
+    ghost use Rattle.std.specs.Prelude.{IfSome, IsSome, OnOk, OnErr, ℕ};
     ghost use Rattle.steps_walk.specs.Walking.{StepsBack};
     ghost use Rattle.steps_walk.specs.Walk.{runner_of, program_of, tree_of, bodies_of, IsEntered, IsWalking, Moves, KeepsMet};
     ghost use Rattle.steps_walk.specs.Bodies.{IsMet};
@@ -115,6 +115,8 @@ impl<L: Ledger> Walk<L> {
         requires { IsWalking self.old }
         ensures kept { KeepsMet self.old self.new }
         ensures met { OnOk result (IsMetHere self.new) }
+        // Nothing is wanted where that body was met, or where no call is open.
+        ensures err { OnErr result (IsMetHere self.new → ⊥) }
     {
         let open = self.open.runner.cursor.open_calls();
         if open == 0 {
@@ -130,6 +132,7 @@ impl<L: Ledger> Walk<L> {
         requires { IsWalking self.old }
         ensures kept { KeepsMet self.old self.new }
         ensures met { OnOk result (HasBody self.old number → IsMetAt self.new number) }
+        ensures err { OnErr result (IsMetAt self.new number → ⊥) }
         // Those that were met before are met still.
         ensures more { (other : ℕ) → IsMetAt self.old other → IsMetAt self.new other }
     {

@@ -1,4 +1,6 @@
-use Rattle.std.proofs.Common.{◌-◌, ◌^◌}
+use Rattle.std.proofs.Common.{◌≡◌, ◌-◌, ◌^◌}
+use Rattle.std.specs.Borrow.{Bor}
+use Rattle.janus_syntax.specs.declared.tree.Exp.{Exp}
 use Rattle.steps_walk.specs.Walk.{runner_of, IsWalking, Moves}
 use Rattle.steps_walk.specs.Runner.{count_of}
 use Rattle.steps_program.specs.declared.going.Goal.TheVariants.{Holds}
@@ -10,7 +12,7 @@ abbrev pub invariant-loop-came : goal.invariant-loop-came
 invariant-loop-came g l = record {
   walks : IsWalking l.walk;
   moves : Moves l.fn.walk l.walk;
-  passes : Passes l.fn.sources (Holds l.fn.exp) l.fn.walk l.walk;
+  passes : (e : Bor Exp) → e.now ≡ l.exp → Passes l.fn.sources (Holds e) l.fn.walk l.walk;
   seen : IsSeenFalse l.exp l.walk l.level;
 }
 

@@ -60,7 +60,7 @@ returns-in_err-obey_one-clause-err g c =
     let line = string_bytes c.read_line.new.line in
     let one = subst (λ b. ReadsLine b left new line) c.if-not-some.false c.in_ok-some.ensures in
     let asks = c.read-command.ensures ∙ ap asked_of c.as_str.ensures.value in
-    let on : asked_of line ≢ Quit = λ quit. (let yes = c.is_quit.ensures.1 (asks ∙ quit) in let no = c.if-is_quit.false in cc) in
+    let on : asked_of line ≢ Quit = λ quit. (let asked = c.is_quit.ensures.1 (asks ∙ quit) in let other = c.if-is_quit.false in cc) in
     failed c.from_residual-in_err-obey_one.result
     (one_cut c.args.sources.now c.args.walk.now c.loop.walk c.obey_one.new.walk line c.read-command.result asks
     (ReadsSoFar input left c.loop.counter) (ReadsSome input)
@@ -76,7 +76,7 @@ loop-preserved g c =
     let line = string_bytes c.read_line.new.line in
     let one = subst (λ b. ReadsLine b left new line) c.if-not-some.false c.in_ok-some.ensures in
     let asks = c.read-command.ensures ∙ ap asked_of c.as_str.ensures.value in
-    let on : asked_of line ≢ Quit = λ quit. (let yes = c.is_quit.ensures.1 (asks ∙ quit) in let no = c.if-is_quit.false in cc) in
+    let on : asked_of line ≢ Quit = λ quit. (let asked = c.is_quit.ensures.1 (asks ∙ quit) in let other = c.if-is_quit.false in cc) in
     record {
       walks = c.obey_one.ensures.walks;
       moves = further c.args.walk.now c.loop.walk c.obey_one.new.walk c.loop.invariant.moves c.obey_one.ensures.moves;

@@ -9,8 +9,8 @@ use Rattle.steps_program.specs.Obeyed.{IsLed, watched}
 use Rattle.steps_program.proofs.Watching.{led_by}
 use Rattle.steps_program.proofs.talk.watch_from.Goals as goal
 
-no : false ≡ true → ⊥
-no e = cc
+never : false ≡ true → ⊥
+never e = cc
 
 pub returns-then-is_absent-clause-led : goal.returns-then-is_absent-clause-led
 returns-then-is_absent-clause-led g c =
@@ -25,7 +25,7 @@ returns-clause-led g c =
     led_by sources c.args.is_onward c.args.name old new c.watched.result (record {
       kept = c.args.old;
       value = c.requires.value;
-      in_sight = λ e. no (c.if-is_absent.ensures.1 e);
+      in_sight = λ e. never (c.if-is_absent.ensures.1 e);
       to = came;
       led = subst (λ (n : ℕ). IsLed sources c.args.is_onward (Changes c.args.name n c.args.old) old new came) c.open_calls-depth.ensures c.go-came.ensures.led;
       tells = c.watched.ensures
