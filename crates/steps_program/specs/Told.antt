@@ -36,6 +36,7 @@ use Rattle.steps_walk.specs.declared.level.Spot.{Spot}
 use Rattle.steps_walk.specs.declared.sight.Sight.{Sight}
 use Rattle.steps_walk.specs.declared.walk.Walk.{Walk}
 use Rattle.steps_walk.specs.Walk.{calls_in, runner_of, slots_in}
+use Rattle.steps_walk.specs.Meant.{Means}
 use Rattle.steps_walk.specs.Sights.{AreInSight, IsSightHere}
 use Rattle.steps_walk.specs.Standing.{TellsStand, TellsLevel, IsSpotAt, name_of}
 use Rattle.steps_walk.specs.Slots.{slot, slot_in}
@@ -284,6 +285,8 @@ pub record TellsNames {L : Type 0} (w : Walk L) (out : List ℕ) : Type 0 where
   pub sight : Sight
   pub of : IsSightHere w sight
   pub is : (g : List Name) → AreInSight sight g → out ≡ value_lines (listed (sighted (slots_in w) g))
+  -- and these are the values of the meaning's store behind as many steps
+  pub meant : Means w
 
 -- ---- the open calls
 

@@ -464,6 +464,7 @@ pub(crate) fn send_names<L: Ledger, W: Write>(
 ) -> Result<(), WriteFailed>
     ensures { OnOk result ((out : List ℕ) × TellsNames walk.now out × Appends (W.contents writer.old) (W.contents writer.new) out) }
 {
+    walk.meant_law();
     let Some(sight) = walk.sight_here() else {
         return Err(WriteFailed);
     };

@@ -16,3 +16,4 @@ pub mod MetBodies
 pub mod Unchanged
 pub mod Seen
 pub mod Meant
+pub mod Stops

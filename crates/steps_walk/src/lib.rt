@@ -39,6 +39,7 @@ mod turning;
 mod walk;
 
 pub use crate::evaluation::{NoValue, is_holding, is_true, number_of, seen_number, value_of};
+pub use crate::law::stops_are_meant_law;
 pub use crate::level::{Level, Spot};
 pub use crate::sight::Sight;
 pub use crate::walk::Walk;
