@@ -34,8 +34,8 @@ impl<L: Ledger> Walk<L> {
         Some(&self.open.tree.cells.content(n).program.cell)
     }
 
-    /// Reads a text once more, and tells whether its tree is that of the cell of a node, with all places; of none, that of the open cell. Where it answers true
-    /// it is. The only error is want of memory.
+    /// Reads a text once more. Where it answers true, its tree is that of the cell of a node, or for none of the open cell, with all places. The only error is
+    /// want of memory.
     pub fn has_text(
         &self,
         alloc: Global,
