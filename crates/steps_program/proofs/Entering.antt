@@ -1,6 +1,6 @@
 -- A cell that is begun, and the walk from there.
 use Rattle.std.proofs.Common.{◌≡◌, ◌∙◌, ℕ, List, [], ◌∷◌, ◌++◌, false, true, map, refl, ap, ap₂, sym, subst}
-use Rattle.std.specs.Prelude.{Option, Result, Ok, Err, OnOk, IfOk}
+use Rattle.std.specs.Prelude.{Option, Result, Ok, Err, IsOk, OnOk, IfOk}
 use Rattle.std.specs.Io.KnownBytes.{Appends}
 use Rattle.exact_write.proofs.SendLemmas.{appends_join}
 use Rattle.steps_walk.specs.OpenCell.{IsOpenCell}
@@ -52,6 +52,15 @@ enters old text inside (Err e) begins stands = tt
 pub anyway : {A E : Type 0} (P : Type 0) (r : Result A E) → P → OnOk r P
 anyway P (Ok x) h = h
 anyway P (Err e) h = tt
+
+-- what a walk comes to is told for the whole run
+pub told_ok : {E F : Type 0} (P : Type 0) (r : Result (Unit {0}) E) (t : Result (Unit {0}) F) → (IsOk t → IsOk r) → OnOk r P → OnOk t P
+told_ok P (Ok u) t f h = anyway P t h
+told_ok P (Err e) (Ok u) f h = absurd (never (f refl))
+  where
+    never : false ≡ true → ⊥
+    never e = cc
+told_ok P (Err e) (Err d) f h = tt
 
 -- the walk is entered, and then its transcript is written
 abbrev pub Walks : (L : Type 0) → Machine → List ℕ → List Text → Option (List ℕ) → Option (List ℕ) → Option (List ℕ) → Type 0

@@ -206,3 +206,8 @@ pub record Finds (n : ℕ) (file : List ℕ) (machine : Machine) (s : Stage) (ou
   pub leads : Leads n machine lines s out
   pub end : IsTextEnd left
   pub is : is_cell n s ≡ true
+
+-- A file is read to its end, and none of its cells has this number: so far has that led.
+pub record Lacks (n : ℕ) (file : List ℕ) (machine : Machine) (s : Stage) (out : List ℕ) : Type 0 where
+  pub leads : Leads n machine (lines_of file) s out
+  pub none : is_cell n s ≡ false
