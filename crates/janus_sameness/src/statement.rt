@@ -33,10 +33,7 @@ fn is_same_statement(one: &Stm, other: &Stm) -> bool
             is_same_name(x, y) && is_same_update(*u, *v) && is_same_exp(e, f)
         }
         (Stm::AssignElement(x, i, u, e), Stm::AssignElement(y, j, v, f)) => {
-            is_same_name(x, y)
-                && is_same_exp(i, j)
-                && is_same_update(*u, *v)
-                && is_same_exp(e, f)
+            is_same_name(x, y) && is_same_exp(i, j) && is_same_update(*u, *v) && is_same_exp(e, f)
         }
         (Stm::Push(x, s), Stm::Push(y, t)) => is_same_name(x, y) && is_same_name(s, t),
         (Stm::Pop(x, s), Stm::Pop(y, t)) => is_same_name(x, y) && is_same_name(s, t),

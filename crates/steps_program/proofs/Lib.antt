@@ -17,3 +17,4 @@ pub mod Changing
 pub mod Reading
 pub mod Leading
 pub mod Entering
+pub mod Numbering

@@ -91,8 +91,8 @@ pub data PassesBack {L : Type 0} (sources : List Source) (goal : Goal) (old : Wa
   FurtherBack : (mid new : Walk L) → PassesBack sources goal old mid → TakesOneBack mid new → IsThere sources goal new false →
       PassesBack sources goal old new
 
--- the step that is left to be taken: to where the command goes, or to the end, or to none where a fault is met; or into a body that was not met, for which there
--- is no memory
+-- the step that is left to be taken: to where the command goes, or to the end, or to none where a fault is met; or into a body that was not met, for which
+-- there is no memory
 abbrev pub TakesLast : {L : Type 0} → List Source → Goal → Walk L → Walk L → Came → Type 0
 TakesLast sources goal old new came.There = TakesOne old new × IsThere sources goal new true
 TakesLast sources goal old new came.End = (n : ℕ) × Runs (program_of old) 1 (Ended n) (runner_of old) (runner_of new)

@@ -87,8 +87,8 @@ fn told(ended: Result<(), Stop>) -> Result<(), RunFault>
 /// there are none, or `quit`.
 ///
 /// What is written is what comes of the cells before, as a new kernel serves them, and then the transcript of a walk through the one that is looked for: where
-/// it begins, and the answers to the lines that are read. Of a run that ends with an error it is said only when the file has no such cell. The clause speaks of a reader and a writer
-/// whose octets are known, as those over memory; of others, as std's `Stdin` and `Stdout`, which tell none, it says nothing.
+/// it begins, and the answers to the lines that are read. Of a run that ends with an error it is said only when the file has no such cell. The clause speaks of
+/// a reader and a writer whose octets are known, as those over memory; of others, as std's `Stdin` and `Stdout`, which tell none, it says nothing.
 pub fn run<R: BufRead + Drop, W: Write>(
     alloc: Global,
     file: &String,

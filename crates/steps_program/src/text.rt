@@ -7,8 +7,8 @@ use std::alloc::{AllocError, Global};
 use std::sync::ledger::Ledger;
 use steps_walk::Walk;
 
-/// Whether there is a text for a node, or for none that of the cell that is walked through, and its tree is the one whose places are told. The only error is want
-/// of memory.
+/// Whether there is a text for a node, or for none that of the cell that is walked through, and its tree is the one whose places are told. The only error is
+/// want of memory.
 fn is_read<L: Ledger>(
     alloc: Global,
     walk: &Walk<L>,

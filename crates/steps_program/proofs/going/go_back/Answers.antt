@@ -31,7 +31,8 @@ loop-preserved g c = record {
       FurtherBack c.loop.walk c.arrived.new.walk c.loop.invariant.passes one
       c.in_default.ensures.none;
   taken =
-      let back : GoesBack 1 c.loop.walk c.back.new.self = record { moves = c.back.ensures.moves; goes = c.back.ensures.goes; counted = c.back.ensures.counted } in
+      let back : GoesBack 1 c.loop.walk c.back.new.self =
+      record { moves = c.back.ensures.moves; goes = c.back.ensures.goes; counted = c.back.ensures.counted } in
       let led = led_back c.loop.walk c.back.new.self c.arrived.new.walk c.arrived.ensures.kept 1 back in
       let one = count_back c.loop.walk c.arrived.new.walk c.loop.invariant.walks led in
       let before = c.loop.invariant.taken in

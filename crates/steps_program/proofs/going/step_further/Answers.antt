@@ -18,7 +18,8 @@ returns-in-Some-clause-ok g c =
       record {
         moves = e.moves;
         runs = subst (λ (t : Progress). Runs (program_of old) 1 t (runner_of old) (runner_of new)) c.in-Went.is e.runs;
-        counted = subst (λ (t : Progress). steps_of (runner_of new) ≡ steps_of (runner_of old) + steps_on (count_of (runner_of old)) 1 t) c.in-Went.is e.counted;
+        counted =
+            subst (λ (t : Progress). steps_of (runner_of new) ≡ steps_of (runner_of old) + steps_on (count_of (runner_of old)) 1 t) c.in-Went.is e.counted;
       },
       alike_false c.args.exp.now old new c.args.level.now c.in-Some.level
           (subst (λ (o : Option Level). IfSome o (IsSeenAlike old c.args.level.now new)) c.in-Some.is e.alike) c.requires.seen,
