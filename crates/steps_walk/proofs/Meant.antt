@@ -57,7 +57,7 @@ many_listed (Slot x v s) =
 sighted_under : (all s : Store) (more : List (Name × Val)) → listed all ≡ listed (in_slots s) ++ more → sighted all (names_in s) ≡ s
 sighted_under all Bare more e = refl
 sighted_under all (Slot x v s) more e =
-    let here = (slot (length (names_in s)), v) in
+    let here : Name × Val = (slot (length (names_in s)), v) in
     let rest : listed all ≡ listed (in_slots s) ++ here ∷ more = e ∙ append_assoc (listed (in_slots s)) (here ∷ []) more in
     let last : slice_get (listed (in_slots s) ++ here ∷ []) (length (names_in s)) ≡ Some here =
     ap (λ n. slice_get (listed (in_slots s) ++ here ∷ []) n) (sym (many_listed s)) ∙ there_last (listed (in_slots s)) here in

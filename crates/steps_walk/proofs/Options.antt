@@ -16,3 +16,7 @@ on_ok (Err e) P Q f h = h
 pub on_err : {A E : Type 0} (r : Result A E) (P Q : Type 0) → (P → Q) → OnErr r P → OnErr r Q
 on_err (Ok a) P Q f h = h
 on_err (Err e) P Q f h = f h
+
+pub failed : {A E : Type 0} (r : Result A E) (P : Type 0) → P → OnErr r P
+failed (Ok a) P h = tt
+failed (Err e) P h = h

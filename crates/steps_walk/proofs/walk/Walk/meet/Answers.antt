@@ -4,6 +4,7 @@ use Rattle.std.specs.Prelude.{Option, IfSome}
 use Rattle.steps_walk.specs.declared.body.Body.{Body}
 use Rattle.steps_walk.specs.Bodies.{IsMet}
 use Rattle.steps_walk.specs.Walk.{runner_of, program_of, tree_of, bodies_of}
+use Rattle.steps_walk.proofs.Options.{failed}
 use Rattle.steps_walk.proofs.Meeting.{met_pushed, met_kept}
 use Rattle.steps_walk.specs.Standing.{IsMetAt}
 use Rattle.steps_walk.proofs.MetBodies.{met_before, met_last, still_unmet}
@@ -32,5 +33,6 @@ returns-in_ok-push-clause-met g c = λ has.
 
 pub returns-in_err-push-clause-err : goal.returns-in_err-push-clause-err
 returns-in_err-push-clause-err g c =
-    still_unmet c.args.self.now _ c.in_err-push.ensures.items c.args.number
-    (λ met. let some = c.body_of.ensures.met met in let none = c.if-is_some.false in cc)
+    failed c.from_residual-in_err-push.result _
+    (still_unmet c.args.self.now _ c.in_err-push.ensures.items c.args.number
+    (λ old. let some = c.body_of.ensures.met old in let none = c.if-is_some.false in cc))
