@@ -25,7 +25,7 @@ module _ (b : Bool) (old new : Stage) where
 no : false ≡ true → ⊥
 no e = cc
 
-both : (a b : Bool) → (a && b) ≡ true → (a ≡ true) × (b ≡ true)
+pub both : (a b : Bool) → (a && b) ≡ true → (a ≡ true) × (b ≡ true)
 both true b e = (refl, e)
 both false b e = absurd (no e)
 

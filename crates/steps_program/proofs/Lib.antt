@@ -18,3 +18,4 @@ pub mod Reading
 pub mod Leading
 pub mod Entering
 pub mod Numbering
+pub mod LastCell

@@ -171,7 +171,7 @@ module _ (lines : List (List ℕ)) (line : List ℕ) where
 
 known : (n : ℕ) (machine : Machine) (lines : List (List ℕ)) (s : Stage) (out : List ℕ) → length lines + 1 < 2 ^ 64 → Leads n machine lines s out →
     Known lines s
-known n machine [] s out few Unled = record {
+known n machine all s out few Unled = record {
   next_line = refl;
   before = [];
   own = [];
@@ -180,7 +180,7 @@ known n machine [] s out few Unled = record {
   made = refl;
   ran = All-nil (Stands []);
 }
-known n machine _ s out few (LedOn lines line mid new before after leads other on) =
+known n machine all s out few (LedOn lines line mid new before after leads other on) =
     let m = many lines line in
     known_behind lines line mid (known n machine lines mid before (omega (arith, few, m)) leads) (omega (arith, few, m)) (is_command_line line) new after on
 

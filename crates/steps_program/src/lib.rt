@@ -10,7 +10,8 @@
 //!
 //! The modules, in the order in which a reader needs them: `source` (the cells of a file), `command` (what a line asks for), `place` (lines and columns),
 //! `kept` (a value that is kept), `going` (how far a command goes), `talk` (commands that are obeyed), `text` (whether the places are those of the texts),
-//! `output` (what is written), `reply` (the answers), `program` (all of it over a file's text), `law` (that lines are those of the file).
+//! `output` (what is written), `reply` (the answers), `program` (all of it over a file's text), `law` (that lines are those of the file, and which cell is the
+//! last).
 #![tactic(auto)]
 
 mod command;
@@ -26,5 +27,5 @@ mod talk;
 mod text;
 
 pub use crate::command::Command;
-pub use crate::law::texts_stand_in_file_law;
+pub use crate::law::{last_cell_is_last_law, texts_stand_in_file_law};
 pub use crate::program::{RunFault, run};
