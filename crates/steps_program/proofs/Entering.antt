@@ -1,6 +1,7 @@
 -- A cell that is begun, and the walk from there.
-use Rattle.std.proofs.Common.{◌≡◌, ◌∙◌, ℕ, List, [], ◌∷◌, ◌++◌, false, true, map, refl, ap, ap₂, sym, subst}
-use Rattle.std.specs.Prelude.{Option, Result, Ok, Err, IsOk, OnOk, IfOk}
+use Rattle.std.proofs.lemmas.Bool.Decides.{leb_tells}
+use Rattle.std.proofs.Common.{◌≡◌, ◌∙◌, ◌+◌, ◌<◌, ◌≤◌, ◌⊎◌, inl, inr, leb, arith, Bool, ℕ, List, [], ◌∷◌, ◌++◌, false, true, map, refl, ap, ap₂, sym, subst}
+use Rattle.std.specs.Prelude.{Option, None, Some, IfNone, IfSome, Result, Ok, Err, IsOk, IsTrue, OnOk, IfOk}
 use Rattle.std.specs.Io.KnownBytes.{Appends}
 use Rattle.exact_write.proofs.SendLemmas.{appends_join}
 use Rattle.steps_walk.specs.OpenCell.{IsOpenCell}
@@ -52,6 +53,26 @@ enters old text inside (Err e) begins stands = tt
 pub anyway : {A E : Type 0} (P : Type 0) (r : Result A E) → P → OnOk r P
 anyway P (Ok x) h = h
 anyway P (Err e) h = tt
+
+-- of what is in an option, or of none
+pub some_of : {A : Type 0} (P : A → Type 0) (o : Option A) (a : A) → o ≡ Some a → IfSome o P → P a
+some_of {A} P o a e h = subst (λ (x : Option A). IfSome x P) e h
+
+pub none_of : {A : Type 0} (P : Type 0) (o : Option A) → o ≡ None → IfNone o P → P
+none_of {A} P o e h = subst (λ (x : Option A). IfNone x P) e h
+
+-- of a test that may fail
+pub if_true : {E : Type 0} (r : Result Bool E) (P Q : Type 0) → (P → Q) → IfOk r (λ b. IsTrue b → P) → IfOk r (λ b. IsTrue b → Q)
+if_true (Ok b) P Q f h = λ yes. f (h yes)
+if_true (Err e) P Q f h = h
+
+-- of each node up to one, and of the next
+pub one_more_node : (P : ℕ → Type 0) (k : ℕ) → ((n : ℕ) → 0 < n → n ≤ k → P n) → P (k + 1) → (n : ℕ) → 0 < n → n ≤ k + 1 → P n
+one_more_node P k h last n some low = by (leb_tells n k)
+  where
+    by : ((leb n k ≡ true) × (n ≤ k)) ⊎ ((leb n k ≡ false) × (k < n)) → P n
+    by (inl e) = h n some e.1
+    by (inr e) = let l = e.1 in let z : k + 1 ≡ n = omega (arith, l, low) in subst P z last
 
 -- what a walk comes to is told for the whole run
 pub told_ok : {E F : Type 0} (P : Type 0) (r : Result (Unit {0}) E) (t : Result (Unit {0}) F) → (IsOk t → IsOk r) → OnOk r P → OnOk t P

@@ -100,25 +100,32 @@ grows (line ∷ ls) c low =
     let first = one.0 in
     omega (arith, first, rest)
 
-quiet : (ls : List (List ℕ)) (c : Counted) → c.has_text ≡ false → c.number < most → (fold counted_with c ls).number ≡ c.number → All IsQuietLine ls
+-- so it is of what is left
+abbrev IsQuietBehind : List (List ℕ) → Type 0
+IsQuietBehind ls = (c : Counted) → c.has_text ≡ false → c.number < most → (fold counted_with c ls).number ≡ c.number → All IsQuietLine ls
+
+module _ (line : List ℕ) (ls : List (List ℕ)) (rest : IsQuietBehind ls) (c : Counted) (none : c.has_text ≡ false) (low : c.number < most)
+    (same : (fold counted_with c (line ∷ ls)).number ≡ c.number) where
+  quiet_by : (command blank : Bool) → is_command_line line ≡ command → is_blank line ≡ blank → All IsQuietLine (line ∷ ls)
+  quiet_by true blank e f =
+      let is : counted_with c line ≡ record { number = c.number; has_text = false } = ap (λ b. counted_by b (is_blank line) c.has_text c) e in
+      All-cons IsQuietLine line ls (inl e)
+      (rest (record { number = c.number; has_text = false }) refl low (ap (λ (d : Counted). (fold counted_with d ls).number) (sym is) ∙ same))
+  quiet_by false true e f =
+      let is : counted_with c line ≡ c = ap (λ b. counted_by b (is_blank line) c.has_text c) e ∙ ap (λ b. counted_by false b c.has_text c) f in
+      All-cons IsQuietLine line ls (inr f) (rest c none low (ap (λ (d : Counted). (fold counted_with d ls).number) (sym is) ∙ same))
+  quiet_by false false e f =
+      let is : counted_with c line ≡ record { number = next c.number; has_text = true } =
+      ap (λ b. counted_by b (is_blank line) c.has_text c) e ∙ ap (λ b. counted_by false b c.has_text c) f ∙ ap (λ b. counted_by false false b c) none in
+      let number : next c.number ≡ c.number + 1 = min-eq_left {n = c.number + 1} {m = most} (omega (arith, low)) in
+      let more = grows ls (record { number = next c.number; has_text = true }) (min-le_right (c.number + 1) most) in
+      let all = ap (λ (d : Counted). (fold counted_with d ls).number) (sym is) ∙ same in
+      absurd (omega (arith, number, more, all))
+
+quiet : (ls : List (List ℕ)) → IsQuietBehind ls
 quiet [] c none low same = All-nil IsQuietLine
-quiet (line ∷ ls) c none low same = by (is_command_line line) (is_blank line) refl refl
-  where
-    by : (command blank : Bool) → is_command_line line ≡ command → is_blank line ≡ blank → All IsQuietLine (line ∷ ls)
-    by true blank e f =
-        let is : counted_with c line ≡ record { number = c.number; has_text = false } = ap (λ b. counted_by b (is_blank line) c.has_text c) e in
-        All-cons IsQuietLine line ls (inl e)
-        (quiet ls (record { number = c.number; has_text = false }) refl low (ap (λ (d : Counted). (fold counted_with d ls).number) (sym is) ∙ same))
-    by false true e f =
-        let is : counted_with c line ≡ c = ap (λ b. counted_by b (is_blank line) c.has_text c) e ∙ ap (λ b. counted_by false b c.has_text c) f in
-        All-cons IsQuietLine line ls (inr f) (quiet ls c none low (ap (λ (d : Counted). (fold counted_with d ls).number) (sym is) ∙ same))
-    by false false e f =
-        let is : counted_with c line ≡ record { number = next c.number; has_text = true } =
-        ap (λ b. counted_by b (is_blank line) c.has_text c) e ∙ ap (λ b. counted_by false b c.has_text c) f ∙ ap (λ b. counted_by false false b c) none in
-        let number : next c.number ≡ c.number + 1 = min-eq_left {n = c.number + 1} {m = most} (omega (arith, low)) in
-        let more = grows ls (record { number = next c.number; has_text = true }) (min-le_right (c.number + 1) most) in
-        let all = ap (λ (d : Counted). (fold counted_with d ls).number) (sym is) ∙ same in
-        absurd (omega (arith, number, more, all))
+quiet (line ∷ ls) c none low same =
+    quiet_by line ls (λ d a b e. quiet ls d a b e) c none low same (is_command_line line) (is_blank line) refl refl
 
 -- ---- the law
 

@@ -28,19 +28,18 @@ all_more P Q f [] h = All-nil Q
 all_more P Q f (x ∷ xs) h = All-cons Q x xs (f x (All-head P x xs h)) (all_more P Q f xs (All-tail P x xs h))
 
 onto_clean : (b : ℕ) → is_end b ≡ false → (ls : List (List ℕ)) → All IsClean ls → All IsClean (onto_first b ls)
-onto_clean b e [] h = h
+onto_clean b e [] h = All-cons IsClean (b ∷ []) [] (All-cons (λ c. is_end c ≡ false) b [] e (All-nil (λ c. is_end c ≡ false))) (All-nil IsClean)
 onto_clean b e (l ∷ ls) h =
     All-cons IsClean (b ∷ l) ls (All-cons (λ c. is_end c ≡ false) b l e (All-head IsClean l ls h)) (All-tail IsClean l ls h)
 
+one_more_clean : (x : ℕ) (xs : List ℕ) → All IsClean (lines_of xs) → (b : Bool) → is_end x ≡ b → All IsClean (lines_of (x ∷ xs))
+one_more_clean x xs h true e =
+    subst (All IsClean) (sym (slice_split-cons_yes is_end x xs e)) (All-cons IsClean [] (lines_of xs) (All-nil (λ b. is_end b ≡ false)) h)
+one_more_clean x xs h false e = subst (All IsClean) (sym (slice_split-cons_no is_end x xs e)) (onto_clean x e (lines_of xs) h)
+
 lines_clean : (xs : List ℕ) → All IsClean (lines_of xs)
 lines_clean [] = All-cons IsClean [] [] (All-nil (λ b. is_end b ≡ false)) (All-nil IsClean)
-lines_clean (x ∷ xs) = by (is_end x) refl
-  where
-    by : (b : Bool) → is_end x ≡ b → All IsClean (lines_of (x ∷ xs))
-    by true e =
-        subst (All IsClean) (sym (slice_split-cons_yes is_end x xs e))
-        (All-cons IsClean [] (lines_of xs) (All-nil (λ b. is_end b ≡ false)) (lines_clean xs))
-    by false e = subst (All IsClean) (sym (slice_split-cons_no is_end x xs e)) (onto_clean x e (lines_of xs) (lines_clean xs))
+lines_clean (x ∷ xs) = one_more_clean x xs (lines_clean xs) (is_end x) refl
 
 all_left : {A : Type 0} (P : A → Type 0) (xs ys : List A) → All P (xs ++ ys) → All P xs
 all_left P [] ys h = All-nil P
@@ -52,7 +51,7 @@ all_right P (x ∷ xs) ys h = all_right P xs ys (All-tail P x (xs ++ ys) h)
 
 -- ---- a text that is made of lines
 
-texted : List (List ℕ) → List ℕ
+abbrev texted : List (List ℕ) → List ℕ
 texted [] = []
 texted (l ∷ ls) = l ++ 10 ∷ texted ls
 
@@ -123,8 +122,8 @@ module _ (lines : List (List ℕ)) (line : List ℕ) where
     }
 
     -- the text that is gathered, whatever node it becomes
-    here : (node : Option ℕ) → Stands (lines ++ line ∷ []) (s.gathered, s.first_line, node)
-    here node = record {
+    here : (at : Option ℕ) → Stands (lines ++ line ∷ []) (s.gathered, s.first_line, at)
+    here at = record {
       before = k.before;
       own = k.own;
       behind = line ∷ [];
@@ -133,7 +132,7 @@ module _ (lines : List (List ℕ)) (line : List ℕ) where
       made = k.made;
     }
 
-    kept : (node : Option ℕ) → All (Stands (lines ++ line ∷ [])) (kept_as (cell_of s) node s.ran)
+    kept : (at : Option ℕ) → All (Stands (lines ++ line ∷ [])) (kept_as (cell_of s) at s.ran)
     kept None = all_more (Stands lines) (Stands (lines ++ line ∷ [])) stands_on s.ran k.ran
     kept (Some node) =
         let P = Stands (lines ++ line ∷ []) in

@@ -1,7 +1,7 @@
 -- Commands of lines that are obeyed one after the other.
 use Rattle.std.proofs.Common.{◌≡◌, ◌∙◌, inl, inr, ℕ, ◌+◌, List, [], ◌∷◌, ◌++◌, length, true, false, refl, ap, sym, subst}
 use Rattle.std.proofs.Common.{arith, append-nil, length-append}
-use Rattle.std.specs.Prelude.{Option, None, Some, Result, Ok, Err, OnOk, OnErr, unwrap_or}
+use Rattle.std.specs.Prelude.{◌≢◌, Option, None, Some, Result, Ok, Err, OnOk, OnErr, unwrap_or}
 use Rattle.std.specs.Io.BufRead.{take_through, drop_through}
 use Rattle.exact_write.specs.Sent.{SentSome}
 use Rattle.exact_write.proofs.SendLemmas.{appends_join, sent_first, sent_then}

@@ -8,8 +8,8 @@ use Rattle.steps_program.specs.Going.{IsSeenFalse, Passes}
 use Rattle.steps_program.proofs.going.seek.Given as goal
 
 -- it still walks, has moved in its run, and the expression held nowhere on the way, and was seen not to hold where it stands
-abbrev pub invariant-loop-came : goal.invariant-loop-came
-invariant-loop-came g l = record {
+abbrev pub invariant-loop-next : goal.invariant-loop-next
+invariant-loop-next g l = record {
   walks : IsWalking l.walk;
   moves : Moves l.fn.walk l.walk;
   passes : (e : Bor Exp) → e.now ≡ l.exp → Passes l.fn.sources (Holds e) l.fn.walk l.walk;
@@ -17,5 +17,5 @@ invariant-loop-came g l = record {
 }
 
 -- a `u64` counts the steps
-abbrev pub decreases-loop-came : goal.decreases-loop-came
-decreases-loop-came g l = 2 ^ 64 - count_of (runner_of l.walk)
+abbrev pub decreases-loop-next : goal.decreases-loop-next
+decreases-loop-next g l = 2 ^ 64 - count_of (runner_of l.walk)

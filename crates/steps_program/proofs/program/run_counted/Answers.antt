@@ -2,13 +2,13 @@ use Rattle.std.proofs.Common.{◌∙◌, ℕ, List, map, string_bytes, ap, subst
 use Rattle.kernel_machine.specs.Runs.{Machine, new_machine}
 use Rattle.steps_program.specs.Before.{Finds, Lacks, sought, text_of}
 use Rattle.steps_program.specs.Walked.{WalksThrough}
-use Rattle.steps_program.proofs.Entering.{told_ok, whole}
+use Rattle.steps_program.proofs.Entering.{none_of, some_of, told_ok, whole}
 use Rattle.steps_program.proofs.Telling.{Goes}
 use Rattle.steps_program.proofs.program.run_counted.Goals as goal
 
 pub returns-in-Ok-Some-clause-ok : goal.returns-in-Ok-Some-clause-ok
 returns-in-Ok-Some-clause-ok g c =
-    let found = c.in-Ok-Some.ensures.found in
+    let found = some_of _ c.in-Ok-Some.field-0 c.in-Ok-Some.found c.in-Ok-Some.field-0-is c.in-Ok-Some.ensures.found in
     let file = string_bytes c.args.file.now in
     let s = found.0 in
     let out = found.1 in
@@ -27,7 +27,7 @@ returns-in-Ok-Some-clause-ok g c =
 
 pub returns-in-Ok-None-clause-no_cell : goal.returns-in-Ok-None-clause-no_cell
 returns-in-Ok-None-clause-no_cell g c = λ e.
-    let none = c.in-Ok-None.ensures.none in
+    let none = none_of _ c.in-Ok-None.field-0 c.in-Ok-None.field-0-is c.in-Ok-None.ensures.none in
     let file = string_bytes c.args.file.now in
     let s = none.0 in
     let out = none.1 in

@@ -4,7 +4,7 @@ use Rattle.kernel_core.specs.Request.{Request, RunCell}
 use Rattle.cells_program.specs.Lines.{ended_line}
 use Rattle.cells_program.specs.Served.{Finished, NotPosted, Serves}
 use Rattle.cells_program.specs.Transcript.{came_line}
-use Rattle.steps_program.specs.Before.{cell_line, cell_words}
+use Rattle.steps_program.specs.Before.{cell_line, cell_steps, cell_words}
 use Rattle.steps_program.proofs.source.run_cell.Goals as goal
 
 pub returns-in_ok-keep-in-Ok-clause-runs : goal.returns-in_ok-keep-in-Ok-clause-runs
