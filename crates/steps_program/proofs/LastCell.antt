@@ -1,7 +1,6 @@
 -- The cell whose number is that of all cells is the last one.
-use Rattle.std.proofs.Common.{◌≡◌, ◌∙◌, ℕ, ◌+◌, ◌-◌, ◌<◌, ◌≤◌, ◌^◌, min, not, ◌&&◌, Bool, true, false, List, [], ◌∷◌, ◌++◌, fold, refl, ap, sym, subst, arith, inl, inr}
+use Rattle.std.proofs.Common.{◌≡◌, ◌∙◌, ℕ, ◌+◌, ◌-◌, ◌<◌, ◌≤◌, ◌^◌, not, ◌&&◌, Bool, true, false, List, [], ◌∷◌, ◌++◌, fold, refl, ap, sym, arith, inl, inr}
 use Rattle.std.specs.Prelude.{All, if◌then◌else◌, ◌||◌, ◌==◌, nat_eq}
-use Rattle.std.specs.List.{list_all}
 use Rattle.std.proofs.Math.Bool.{and-true}
 use Rattle.std.proofs.Math.Nat.{min-eq_left, min-le_right, le-min}
 use Rattle.std.proofs.lemmas.Bool.{eqb-true}
@@ -12,9 +11,9 @@ use Rattle.kernel_core.specs.Runs.{Machine}
 use Rattle.cells_program.specs.Command.{command_of}
 use Rattle.cells_program.specs.Lines.{ended_line, is_blank, is_command_line, is_trimmed, trimmed}
 use Rattle.steps_program.specs.declared.source.Counted.{Counted}
-use Rattle.steps_program.specs.Before.{Stage, RunsIf, LeadsIf, Leads, Unled, LedOn, Finds, begun_behind, cells_in, counted_on, counted_with, is_cell, none_counted}
+use Rattle.steps_program.specs.Before.{Stage, RunsIf, LeadsIf, Leads, Unled, LedOn, begun_behind, cells_in, counted_on, counted_with, none_counted}
 use Rattle.steps_program.specs.Before.{number_of, runs_before, IsTextEnd}
-use Rattle.steps_program.specs.Places.{next, lines_of}
+use Rattle.steps_program.specs.Places.{next}
 use Rattle.steps_program.specs.Numbered.{IsQuietLine, LastCellIsLast}
 use Rattle.steps_program.proofs.Leading.{both}
 

@@ -1,16 +1,15 @@
 -- The lines of texts are those of the file.
-use Rattle.std.proofs.Common.{◌≡◌, ◌∙◌, ℕ, suc, ◌+◌, ◌-◌, ◌<◌, ◌≤◌, ◌^◌, min, ◌==◌, Bool, true, false, List, [], ◌∷◌, ◌++◌, length, refl, ap, sym, subst, arith}
+use Rattle.std.proofs.Common.{◌≡◌, ◌∙◌, ℕ, ◌+◌, ◌-◌, ◌<◌, ◌^◌, ◌==◌, Bool, true, false, List, [], ◌∷◌, ◌++◌, length, refl, ap, sym, subst, arith}
 use Rattle.std.proofs.Common.{append_assoc, append-nil, length-append}
 use Rattle.std.specs.Prelude.{All, Option, None, Some}
-use Rattle.std.specs.List.{slice_split, onto_first}
+use Rattle.std.specs.List.{onto_first}
 use Rattle.std.proofs.Math.Nat.{min-eq_left}
 use Rattle.std.proofs.lemmas.List.Elements.{All-append, All-cons, All-nil, All-head, All-tail}
 use Rattle.std.proofs.lemmas.List.Splits.{slice_split_at, slice_split-cons_yes, slice_split-cons_no}
 use Rattle.kernel_core.specs.Runs.{Machine}
 use Rattle.cells_program.specs.Command.{command_of}
 use Rattle.cells_program.specs.Lines.{ended_line, is_blank, is_command_line, trimmed}
-use Rattle.cells_program.specs.declared.command.Command.{Command}
-use Rattle.steps_program.specs.Before.{Stage, Text, RunsAs, RunsIf, CommandLeads, LeadsIf, Leads, Unled, LedOn, Finds, cell_of, first_stage, with_line, taken}
+use Rattle.steps_program.specs.Before.{Stage, Text, RunsIf, LeadsIf, Leads, Unled, LedOn, cell_of, with_line}
 use Rattle.steps_program.specs.Before.{begun_behind, kept_as, runs_before, node_come}
 use Rattle.steps_program.specs.Places.{next, lines_of}
 use Rattle.steps_program.specs.Numbered.{StandsInFile, TextsStandInFile}

@@ -1,5 +1,5 @@
 -- Where an expression was seen to hold or not.
-use Rattle.std.proofs.Common.{◌≡◌, ℤ, Bool, true, false, List, ap, ◌∙◌, sym, subst}
+use Rattle.std.proofs.Common.{◌≡◌, ℤ, Bool, false, List, ap, ◌∙◌, sym}
 use Rattle.std.specs.Borrow.{Bor}
 use Rattle.std.specs.Prelude.{Result, Ok, Err, IfOk, IfErr}
 use Rattle.janus_meaning.specs.Fault.{Res}

@@ -1,5 +1,5 @@
 -- Where a walk stands in the meaning.
-use Rattle.std.proofs.Common.{◌≡◌, ℕ, zero, suc, ◌+◌, List, [], ◌∷◌, ◌++◌, length, refl, ap, ◌∙◌, sym, subst, arith}
+use Rattle.std.proofs.Common.{◌≡◌, ℕ, List, [], ◌∷◌, ◌++◌, length, refl, ap, ◌∙◌, sym, subst, arith}
 use Rattle.std.proofs.lemmas.List.{append_assoc, append-nil, length-append}
 use Rattle.std.specs.Prelude.{Option, Some, slice_get, false}
 use Rattle.janus_meaning.specs.Syntax.{Name, Blk, Proc}
@@ -17,13 +17,12 @@ use Rattle.janus_slots.proofs.Steps.{steps_are_the_same}
 use Rattle.janus_machine.specs.Steps.{alone}
 use Rattle.kernel_machine.specs.Language.{run_block}
 use Rattle.kernel_runner.specs.declared.program.Program.{Program}
-use Rattle.kernel_runner.specs.declared.runner.Runner.{Runner}
 use Rattle.kernel_runner.specs.Runner.{Place, Is, Inside, at_count, start_at, block_of, slots_of, count_of}
 use Rattle.steps_walk.specs.declared.walk.Walk.{Walk}
 use Rattle.steps_walk.specs.Walk.{runner_of, program_of, slots_in, IsWalking, Moves}
 use Rattle.steps_walk.specs.Where.{names_at}
 use Rattle.steps_walk.specs.Values.{sighted, value_or_lent}
-use Rattle.steps_walk.specs.Meant.{place_at_cursor, IsMeant, Means, StandAlike}
+use Rattle.steps_walk.specs.Meant.{place_at_cursor, Means, StandAlike}
 use Rattle.steps_walk.proofs.Lists.{there_still, there_last}
 
 -- a place with its store, of which these are the slots

@@ -8,7 +8,6 @@ use Rattle.janus_syntax.specs.View.{exp_of}
 use Rattle.janus_places.specs.Table.{AreOpenIn, HasSameLocals, places_in}
 use Rattle.janus_places.specs.declared.table.Table.{Table}
 use Rattle.janus_places.proofs.Open.{same_open}
-use Rattle.kernel_runner.specs.declared.runner.Runner.{Runner}
 use Rattle.steps_walk.specs.declared.body.Body.{Body}
 use Rattle.steps_walk.specs.declared.level.Level.{Level}
 use Rattle.steps_walk.specs.declared.sight.Sight.{Sight}
@@ -17,7 +16,7 @@ use Rattle.steps_walk.specs.Walk.{runner_of, bodies_of, calls_in, slots_in, IsWa
 use Rattle.steps_walk.specs.Standing.{IsHere, IsCodeAt, IsTableAt, IsTableIn, node_at}
 use Rattle.steps_walk.specs.Sights.{AreInSight, base_at, parameters_in}
 use Rattle.steps_walk.specs.Values.{sighted}
-use Rattle.steps_walk.specs.Quiet.{LeavesValues, IsNumberAt, IsSeenAlike}
+use Rattle.steps_walk.specs.Quiet.{IsSeenAlike}
 use Rattle.steps_walk.proofs.Standing.{same_table}
 
 module _ {L : Type 0} (old new : Walk L) (walking : IsWalking old) (moves : Moves old new) (bodies : bodies_of new ≡ bodies_of old)

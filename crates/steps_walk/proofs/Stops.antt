@@ -3,11 +3,11 @@ use Rattle.std.proofs.Common.{◌≡◌, Bool, true, false, List, [], ◌∷◌,
 use Rattle.janus_meaning.specs.Syntax as tree
 use Rattle.janus_meaning.specs.Syntax.{Name}
 use Rattle.janus_meaning.specs.Moves.{Hole, InThen, InElse, InDo, InLoop, InInt, InStack, InCall, InUncall, rebuild, inverse_hole}
-use Rattle.janus_meaning.specs.Stepping.{Frame, Framed, Place, BeforeBlock, AfterBlock, BeforeOne, AfterOne}
+use Rattle.janus_meaning.specs.Stepping.{Framed, BeforeBlock, AfterBlock, BeforeOne, AfterOne}
 use Rattle.janus_slots.specs.Slots.{stm_in}
 use Rattle.janus_syntax.specs.Tree.{Stm, Skip, Assign, AssignElement, Push, Pop, Swap, If, Loop, LocalInt, LocalStack, Call, Uncall}
 use Rattle.janus_syntax.specs.View.{plain_stm}
-use Rattle.janus_places.specs.Spots.{Spot, Begin, End, Before, After, Enters, Leaves, form_of}
+use Rattle.janus_places.specs.Spots.{Begin, End, Before, After, Enters, Leaves, form_of}
 use Rattle.steps_walk.specs.Stops.{has_end, is_ended, StopsAreMeant}
 
 -- whether a statement of the meaning has a block at whose end a test is made or a local ends

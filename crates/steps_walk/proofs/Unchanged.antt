@@ -1,7 +1,7 @@
 -- Steps that change no value.
-use Rattle.std.proofs.Common.{◌≡◌, ℕ, zero, suc, List, [], ◌∷◌, ◌++◌, Bool, true, false, refl, ap, ◌∙◌, sym, subst}
+use Rattle.std.proofs.Common.{◌≡◌, ℕ, zero, List, [], ◌∷◌, ◌++◌, Bool, true, false, refl, ap, ◌∙◌, sym, subst}
 use Rattle.janus_meaning.specs.Fault.{Fault, Res, Fine, Bad, and_then, FiAssertion, EntryAssertion, LoopAssertion}
-use Rattle.janus_meaning.specs.Syntax.{Exp, Stm, Blk, Proc, Skip, Set, SetAt, Push, Pop, Swap, If, From, LocalInt, LocalStack, Call, Uncall, inverse, inverse_block}
+use Rattle.janus_meaning.specs.Syntax.{Exp, Stm, Blk, Proc, Skip, Set, SetAt, Push, Pop, Swap, If, From, LocalInt, LocalStack, Call, Uncall, inverse}
 use Rattle.janus_meaning.specs.Syntax.{Name}
 use Rattle.janus_meaning.specs.Store.{Store}
 use Rattle.janus_meaning.specs.Value.{test}
@@ -23,20 +23,17 @@ use Rattle.janus_machine.specs.Cursors.{place_in, place_of, outside_of}
 use Rattle.janus_machine.specs.Steps.{alone}
 use Rattle.janus_machine.specs.Whereabouts.{faced, faces_inverse}
 use Rattle.janus_places.specs.declared.part.Part.{Part}
-use Rattle.janus_places.specs.declared.part.Part.TheVariants as part
 use Rattle.janus_places.specs.Spots as spots
 use Rattle.janus_places.specs.Spots.{Spot, part_of, form_of}
 use Rattle.janus_places.specs.Standing.{IsAt, IsTold, code_of}
 use Rattle.janus_syntax.specs.declared.token.Span.{Span}
 use Rattle.janus_syntax.specs.Tree.{Block}
 use Rattle.std.specs.Prelude.{Option, IsTrue}
-use Rattle.kernel_runner.specs.declared.runner.Runner.{Runner}
-use Rattle.kernel_runner.specs.Runner.{CameBy}
 use Rattle.kernel_runner.proofs.Going.{safe_on}
 use Rattle.steps_walk.specs.declared.level.Level.{Level}
 use Rattle.steps_walk.specs.declared.level.Spot as level_spot
 use Rattle.steps_walk.specs.declared.walk.Walk.{Walk}
-use Rattle.steps_walk.specs.Walk.{runner_of, program_of, slots_in, is_outside, IsWalking}
+use Rattle.steps_walk.specs.Walk.{runner_of, program_of, is_outside, IsWalking}
 use Rattle.steps_walk.specs.Bodies.{parameters_of, text_body}
 use Rattle.steps_walk.specs.Where.{names_at, text_block}
 use Rattle.steps_walk.specs.Standing.{TellsPlace}

@@ -2,7 +2,7 @@
 use Rattle.std.specs.Prelude.{◌≡◌, Bool, true, false, not, ◌&&◌, List, [], ◌∷◌}
 use Rattle.janus_meaning.specs.Syntax.{Name}
 use Rattle.janus_meaning.specs.Moves.{Hole, InThen, InElse, InDo, InLoop, InInt, InStack, InCall, InUncall}
-use Rattle.janus_meaning.specs.Stepping.{Frame, Framed, Place, BeforeBlock, AfterBlock, BeforeOne, AfterOne, mirror}
+use Rattle.janus_meaning.specs.Stepping.{Framed, Place, BeforeBlock, AfterBlock, BeforeOne, AfterOne, mirror}
 use Rattle.janus_places.specs.Spots as spots
 use Rattle.janus_places.specs.Standing.{IsAt}
 use Rattle.janus_places.specs.declared.part.Form.{Form}

@@ -1,4 +1,4 @@
-use Rattle.std.proofs.Common.{◌+◌, arith}
+use Rattle.std.proofs.Common.{arith}
 use Rattle.std.specs.Prelude.{Some}
 use Rattle.steps_program.specs.Walked.{IsReadAt}
 use Rattle.steps_program.proofs.Entering.{one_more_node}

@@ -1,6 +1,4 @@
-use Rattle.std.proofs.Common.{◌≡◌, refl}
-use Rattle.steps_walk.specs.declared.level.Level.{Level}
-use Rattle.steps_walk.specs.Walk.{runner_of, calls_in, bodies_of, slots_in}
+use Rattle.steps_walk.specs.Walk.{runner_of}
 use Rattle.steps_walk.proofs.Seen.{still_alike}
 use Rattle.steps_walk.proofs.walk.Walk.on_from.Goals as goal
 
