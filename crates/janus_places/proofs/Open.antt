@@ -1,7 +1,7 @@
 -- The locals that are open at a place: how many, and which slot a name has among them.
 use Rattle.std.proofs.Common.{◌≡◌, ℕ, zero, suc, ◌+◌, ◌-◌, ◌<◌, List, [], ◌∷◌, length, get_or, Bool, true, false, cond, refl, ap, ◌∙◌, sym, subst, arith}
 use Rattle.std.proofs.Common.{nat_lt}
-use Rattle.std.specs.Prelude.{Some, string_bytes}
+use Rattle.std.specs.Prelude.{Some, string_bytes, unwrap_or}
 use Rattle.std.proofs.lemmas.Option.{slice_get-get_or, slice_get_within, get_or_from_slice_get}
 use Rattle.std.proofs.lemmas.Bool.{lt-ltb}
 use Rattle.janus_meaning.specs.Syntax.{Name}
@@ -13,7 +13,7 @@ use Rattle.janus_places.specs.declared.table.Local.{Local}
 use Rattle.janus_places.specs.declared.table.Row.{Row}
 use Rattle.janus_places.specs.declared.table.Table.{Table}
 use Rattle.janus_places.specs.Spots.{locals_of}
-use Rattle.janus_places.specs.Table.{AreLocals, AreOpenIn, HasLocals, IsTableOf}
+use Rattle.janus_places.specs.Table.{AreLocals, AreOpenIn, HasLocals, HasSameLocals, IsTableOf}
 use Rattle.janus_places.proofs.Rows.{stands_there}
 
 -- the first of those that are left
@@ -123,6 +123,16 @@ pub in_row : (t : Table) (n : ℕ) (row : Row) (xs : List Name) → row ≡ get_
 in_row t n row xs is lt h =
     let same : h.0 ≡ row = sym (get_or_from_slice_get t.rows.items n h.0 row h.1) ∙ sym is in
     subst (λ (r : Row). AreLocals t.locals.items r.locals xs) same h.2
+
+-- ---- the same at two places
+
+pub same_open : (t : Table) (n m : ℕ) (xs : List Name) → HasSameLocals t n m → AreOpenIn t n xs → AreOpenIn t m xs
+same_open t n m xs h there =
+    let same : there.0 ≡ h.row = ap (λ o. unwrap_or o h.row) (sym there.1 ∙ h.there) in (
+      h.other,
+      h.there_too,
+      subst (λ k. AreLocals t.locals.items k xs) h.same (subst (λ (r : Row). AreLocals t.locals.items r.locals xs) same there.2),
+    )
 
 pub has_locals : (t : Table) (es g : List Name) (b : Block) (n : ℕ) (row : Row) → row ≡ get_or t.rows.items n row → n < length t.rows.items →
     IsTableOf t b → HasLocals t es g b n

@@ -55,6 +55,14 @@ AreOpenIn t n xs = (row : Row) × (slice_get t.rows.items n ≡ Some row) × Are
 abbrev pub HasLocals : Table → (es g : List Name) → Block → ℕ → Type 0
 HasLocals t es g b n = (xs : List Name) × AreOpenIn t n xs × AreOpen es g b n xs
 
+-- at two places of a table the same locals are open: behind one place in the table of locals
+pub record HasSameLocals (t : Table) (n m : ℕ) : Type 0 where
+  pub row : Row
+  pub there : slice_get t.rows.items n ≡ Some row
+  pub other : Row
+  pub there_too : slice_get t.rows.items m ≡ Some other
+  pub same : row.locals ≡ other.locals
+
 -- the slot of a number, if there is one
 abbrev pub slot_of : Option ℕ → Name
 slot_of None = no_slot

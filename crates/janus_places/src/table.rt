@@ -1,6 +1,6 @@
 //! The places of a block's code, each with the part of the text that stands there.
 
-ghost use Rattle.std.specs.Prelude.{◌≡◌, ◌<◌, ◌≤◌, ◌∷◌, ◌++◌, [], ℕ, suc, List, length, map, slice_get, Some, IfOk, OnOk, string_bytes};
+ghost use Rattle.std.specs.Prelude.{◌≡◌, ◌<◌, ◌≤◌, ◌∷◌, ◌++◌, [], ℕ, suc, List, length, map, slice_get, Some, IfOk, OnOk, IsTrue, ◌↔◌, string_bytes};
 ghost use Rattle.janus_meaning.specs.Syntax.{Name as TheName};
 ghost use Rattle.janus_syntax.specs.Tree.{Block};
 ghost use Rattle.janus_syntax.specs.View.{name_of};
@@ -41,7 +41,7 @@ pub struct Table {
 
 impl Table {
     ghost use Rattle.janus_places.specs.Standing.{IsTold, AreOpen, code_of};
-    ghost use Rattle.janus_places.specs.Table.{IsTableOf, AreLocals, Opens, Adds, places_in, AreOpenIn, HasLocals, slot_of};
+    ghost use Rattle.janus_places.specs.Table.{IsTableOf, AreLocals, Opens, Adds, places_in, AreOpenIn, HasLocals, HasSameLocals, slot_of};
     ghost use Rattle.janus_linear.specs.Layout.{block_size};
 
     /// No places.
@@ -132,6 +132,15 @@ impl Table {
         ensures text { (es g : List TheName) (b : Block) → IsTableOf self.now b → HasLocals self.now es g b at }
     {
         self.find(self.rows[at].locals, name)
+    }
+
+    /// Whether the same locals are open at another place.
+    pub fn has_same_locals(&self, at: usize, other: usize) -> bool
+        requires at { at < places_in self.now }
+        requires other { other < places_in self.now }
+        ensures { IsTrue result ↔ HasSameLocals self.now at other }
+    {
+        self.rows[at].locals == self.rows[other].locals
     }
 
     /// How many locals are open behind a place in the table of locals.

@@ -1,11 +1,11 @@
 -- The lines of a file that are obeyed one after the other.
-use Rattle.std.proofs.Common.{◌≡◌, ◌∙◌, ℕ, List, [], ◌∷◌, ◌++◌, Bool, true, false, ◌&&◌, refl, ap, sym, subst, append_assoc}
+use Rattle.std.proofs.Common.{◌≡◌, ◌∙◌, ℕ, List, [], ◌∷◌, ◌++◌, Bool, true, false, ◌&&◌, refl, ap, sym, subst, append_assoc, append-nil}
 use Rattle.std.specs.Prelude.{Option}
 use Rattle.std.specs.Io.KnownBytes.{Appends}
 use Rattle.exact_write.proofs.SendLemmas.{appends_none, appends_join}
 use Rattle.kernel_core.specs.Runs.{Machine}
 use Rattle.cells_program.specs.Lines.{is_command_line}
-use Rattle.steps_program.specs.Before.{Stage, Text, RunsAs, RunsIf, LineLeads, Leads, Unled, LedOn, Finds, cell_of, ends_before, first_stage, is_cell, taken}
+use Rattle.steps_program.specs.Before.{Stage, Text, RunsAs, RunsIf, LineLeads, Leads, Unled, LedOn, Finds, Lacks, cell_of, ends_before, first_stage, is_cell, taken}
 use Rattle.steps_program.specs.Places.{lines_of}
 
 -- ---- the text before a command
@@ -25,7 +25,7 @@ module _ (b : Bool) (old new : Stage) where
 no : false ≡ true → ⊥
 no e = cc
 
-both : (a b : Bool) → (a && b) ≡ true → (a ≡ true) × (b ≡ true)
+pub both : (a b : Bool) → (a && b) ≡ true → (a ≡ true) × (b ≡ true)
 both true b e = (refl, e)
 both false b e = absurd (no e)
 
@@ -72,4 +72,11 @@ module _ (n : ℕ) (file : List ℕ) (machine : Machine) where
       leads = so_far.leads;
       end = tt;
       is = sym is;
+    }
+
+    pub lacking : left ≡ [] → false ≡ is_cell n s → Lacks n file machine s so_far.out
+    lacking e is = record {
+      leads = subst (λ (l : List (List ℕ)). Leads n machine l s so_far.out)
+          (sym (so_far.cut ∙ ap (λ (l : List (List ℕ)). so_far.lines ++ l) e ∙ append-nil so_far.lines)) so_far.leads;
+      none = sym is;
     }

@@ -3,6 +3,8 @@ pub mod Sources
 pub mod Stacked
 pub mod Obeying
 pub mod Stopping
+pub mod Seeking
+pub mod Watching
 pub mod Telling
 pub mod Sighting
 pub mod Talking
@@ -15,3 +17,5 @@ pub mod Changing
 pub mod Reading
 pub mod Leading
 pub mod Entering
+pub mod Numbering
+pub mod LastCell

@@ -3,10 +3,11 @@ use Rattle.std.proofs.Common.{◌≡◌, ◌∙◌, ℕ, List, [], ◌∷◌, �
 use Rattle.std.specs.Prelude.{Option, Result, Ok, Err, OnOk}
 use Rattle.std.specs.Io.KnownBytes.{Appends}
 use Rattle.exact_write.proofs.SendLemmas.{appends_join}
+use Rattle.steps_program.specs.declared.output.CentreLine.{CentreLine}
 use Rattle.steps_program.specs.Places.{next, lines_of}
 use Rattle.steps_program.specs.Told.{line_listed, lines_listed}
 
-module _ (here : ℕ) (all : List ℕ) (number : ℕ) (rest : List ℕ) where
+module _ (here : CentreLine) (all : List ℕ) (number : ℕ) (rest : List ℕ) where
   -- what is written, and what is left
   abbrev pub Left : Option (List ℕ) → Option (List ℕ) → ℕ → List ℕ → Type 0
   Left a b n xs = (out : List ℕ) × Appends a b out × (all ≡ out ++ lines_listed here n (lines_of xs))

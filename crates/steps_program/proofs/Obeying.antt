@@ -4,7 +4,7 @@ use Rattle.std.specs.Borrow.{Bor}
 use Rattle.steps_walk.specs.declared.walk.Walk.{Walk}
 use Rattle.steps_walk.specs.Walk.{runner_of, program_of, Moves, KeepsMet}
 use Rattle.steps_walk.specs.runner.Runner.{Runner}
-use Rattle.steps_walk.specs.Runner.{Runs, count_of}
+use Rattle.steps_walk.specs.Runner.{Runs, count_of, steps_of}
 use Rattle.steps_walk.specs.Walking.{StepsBack}
 use Rattle.steps_walk.proofs.Moving.{stays, further}
 use Rattle.steps_program.specs.declared.command.Command.{Command}
@@ -28,6 +28,8 @@ module _ {L : Type 0} (sources : List Source) (old new : Walk L) where
   comes goes f (reply.Refused fault) h = absurd h
   comes goes f reply.Unknown h = absurd h
   comes goes f reply.NoMemory h = absurd h
+  comes goes f reply.NotInSight h = absurd h
+  comes goes f reply.CallLeft h = absurd h
   comes goes f reply.Names h = absurd h
   comes goes f reply.Place h = absurd h
   comes goes f reply.Calls h = absurd h
@@ -41,6 +43,8 @@ module _ {L : Type 0} (sources : List Source) (old new : Walk L) where
   seeks goes f (reply.Refused fault) h = absurd h
   seeks goes f reply.Unknown h = absurd h
   seeks goes f reply.NoMemory h = absurd h
+  seeks goes f reply.NotInSight h = absurd h
+  seeks goes f reply.CallLeft h = absurd h
   seeks goes f reply.Names h = absurd h
   seeks goes f reply.Place h = absurd h
   seeks goes f reply.Calls h = absurd h
@@ -54,6 +58,8 @@ module _ {L : Type 0} (sources : List Source) (old new : Walk L) where
   until onward text (reply.Refused fault) h = left h.1
   until onward text reply.Unknown h = absurd h
   until onward text reply.NoMemory h = absurd h
+  until onward text reply.NotInSight h = absurd h
+  until onward text reply.CallLeft h = absurd h
   until onward text reply.Names h = absurd h
   until onward text reply.Place h = absurd h
   until onward text reply.Calls h = absurd h
@@ -62,17 +68,19 @@ module _ {L : Type 0} (sources : List Source) (old new : Walk L) where
   until onward text reply.Nothing h = absurd h
 
   change : (onward : Bool) (name : Bor (List ℕ)) (r : Reply) → IsLedByChange sources onward name old new r → Moves old new
-  change onward name (reply.Sought to) h = h.2.moves
-  change onward name (reply.Came to) h = absurd h
-  change onward name (reply.Refused fault) h = absurd h
-  change onward name reply.Unknown h = absurd h
+  change onward name (reply.Sought to) h = h.led.moves
+  change onward name (reply.Came to) h = h.led.moves
+  change onward name (reply.Refused fault) h = h.led.moves
+  change onward name reply.Unknown h = h.led.moves
   change onward name reply.NoMemory h = left h
-  change onward name reply.Names h = absurd h
-  change onward name reply.Place h = absurd h
-  change onward name reply.Calls h = absurd h
-  change onward name reply.Lines h = absurd h
-  change onward name reply.Count h = absurd h
-  change onward name reply.Nothing h = absurd h
+  change onward name reply.NotInSight h = left h.1
+  change onward name reply.CallLeft h = h.led.moves
+  change onward name reply.Names h = h.led.moves
+  change onward name reply.Place h = h.led.moves
+  change onward name reply.Calls h = h.led.moves
+  change onward name reply.Lines h = h.led.moves
+  change onward name reply.Count h = h.led.moves
+  change onward name reply.Nothing h = h.led.moves
 
   pub obeyed : (command : Command) (r : Reply) → Obeys sources command old new r → Moves old new
   obeyed (Step n) r h = comes _ (λ to g. g.moves) r h
@@ -109,12 +117,14 @@ module _ {L : Type 0} (a b c : Walk L) (met : KeepsMet b c) where
     told = h.told;
     runs = subst (λ (r : Runner L). Runs (program_of a) n h.told (runner_of a) r) (sym met.runner) h.runs;
     led = h.led;
+    counted = ap (λ (r : Runner L). steps_of r) met.runner ∙ h.counted;
   }
 
   pub led_back : (n : ℕ) → GoesBack n a b → GoesBack n a c
   led_back n h = record {
     moves = led h.moves;
     goes = subst (λ (r : Runner L). StepsBack (program_of a) n (runner_of a) r) (sym met.runner) h.goes;
+    counted = ap (λ (r : Runner L). steps_of r) met.runner ∙ h.counted;
   }
 
   pub come_back : (n : ℕ) (to : Came) → ComesBack n a b to → ComesBack n a c to

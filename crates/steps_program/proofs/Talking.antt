@@ -1,7 +1,7 @@
 -- Commands of lines that are obeyed one after the other.
 use Rattle.std.proofs.Common.{◌≡◌, ◌∙◌, inl, inr, ℕ, ◌+◌, List, [], ◌∷◌, ◌++◌, length, true, false, refl, ap, sym, subst}
 use Rattle.std.proofs.Common.{arith, append-nil, length-append}
-use Rattle.std.specs.Prelude.{Option, None, Some, Result, Ok, Err, OnOk, OnErr, unwrap_or}
+use Rattle.std.specs.Prelude.{◌≢◌, Option, None, Some, Result, Ok, Err, OnOk, OnErr, unwrap_or}
 use Rattle.std.specs.Io.BufRead.{take_through, drop_through}
 use Rattle.exact_write.specs.Sent.{SentSome}
 use Rattle.exact_write.proofs.SendLemmas.{appends_join, sent_first, sent_then}
@@ -41,15 +41,17 @@ module _ (lines : List (List ℕ)) (line : List ℕ) (n : ℕ) where
   longer : length lines ≡ n → length (lines ++ line ∷ []) ≡ n + 1
   longer e = omega (arith, e, length-append lines (line ∷ []))
 
-  pub read_on : (input left new : Option (List ℕ)) → ReadsLine true left new line → ReadsSoFar input left n lines →
+  pub read_on : (input left new : Option (List ℕ)) → asked_of line ≢ Quit → ReadsLine true left new line → ReadsSoFar input left n lines →
       ReadsSoFar input new (n + 1) (lines ++ line ∷ [])
-  read_on None left new one h = (tt, longer h.1)
-  read_on (Some input) None new one ((rest, reads, e), many) = absurd (cc)
-  read_on (Some input) (Some xs) new (is, left) ((rest, reads, e), many) =
-      let same = same_left xs rest e in (
+  read_on None left new other one h = (tt, longer h.1)
+  read_on (Some input) None new other one ((rest, reads, e), many) = absurd (cc)
+  read_on (Some input) (Some xs) new other (is, left) ((rest, reads, e), many) =
+      let same = same_left xs rest e in
+      let front = is ∙ ap (take_through 10) same in (
         (
           drop_through 10 rest,
-          subst (λ x. Reads input (lines ++ x ∷ []) (drop_through 10 rest)) (sym (is ∙ ap (take_through 10) same)) (ReadOn lines rest reads),
+          subst (λ x. Reads input (lines ++ x ∷ []) (drop_through 10 rest)) (sym front)
+              (ReadOn lines rest reads (λ quit. other (ap asked_of front ∙ quit))),
           left ∙ ap (λ r. Some (drop_through 10 r)) same,
         ),
         longer many,

@@ -1,5 +1,5 @@
 -- What of a file is run before the cell that is walked through, and what is written of that.
-use Rattle.std.specs.Prelude.{◌≡◌, ℕ, Bool, true, false, not, ◌&&◌, nat_eq, if◌then◌else◌, List, [], ◌∷◌, ◌++◌, map, fold, codes, string_bytes}
+use Rattle.std.specs.Prelude.{◌≡◌, ℕ, ◌^◌, Bool, true, false, not, ◌&&◌, nat_eq, if◌then◌else◌, List, [], ◌∷◌, ◌++◌, map, fold, codes, string_bytes}
 use Rattle.std.specs.Prelude.{Option, None, Some}
 use Rattle.kernel_core.specs.Runs.{Machine}
 use Rattle.kernel_core.specs.Request.{RunCell}
@@ -16,7 +16,6 @@ use Rattle.cells_program.specs.declared.command.Command.TheVariants as command
 use Rattle.steps_program.specs.declared.source.Counted.{Counted}
 use Rattle.steps_program.specs.declared.source.Reading.{Reading}
 use Rattle.steps_program.specs.declared.source.Source.{Source}
-use Rattle.steps_program.specs.declared.source.TheConstants.{STEPS}
 use Rattle.steps_program.specs.Places.{next, lines_of}
 
 -- ---- how far a file is read
@@ -126,11 +125,15 @@ cell_words n = counted_text (codes "cell ") n ++ codes " "
 abbrev pub cell_line : ℕ → Came → List ℕ
 cell_line n came = cell_words n ++ ended_line (came_line came)
 
+-- how many steps a cell before the one that is looked for may take: as many as any cell may
+abbrev pub cell_steps : ℕ
+cell_steps = 10 ^ 12
+
 -- a text runs as a cell
 pub record RunsAs (text : Text) (old new : Stage) (out : List ℕ) : Type 0 where
   pub came : Came
   pub machine : Machine
-  pub serves : Serves STEPS old.machine (RunCell text.0 false true) came machine
+  pub serves : Serves cell_steps old.machine (RunCell text.0 false true) came machine
   pub left : new ≡ record old { machine = machine; ran = kept_as text (node_come came) old.ran }
   pub is : out ≡ cell_line old.number came
 
@@ -150,7 +153,7 @@ RunsIf false old new out = (new ≡ taken old) × (out ≡ [])
 
 -- an undo, a redo or a goto is served; other commands do nothing
 abbrev pub IsServed : request.Request → Machine → Machine → List ℕ → Type 0
-IsServed r old new out = (came : Came) × Serves STEPS old r came new × (out ≡ ended_line (came_line came))
+IsServed r old new out = (came : Came) × Serves cell_steps old r came new × (out ≡ ended_line (came_line came))
 
 abbrev pub Moves : Command → Machine → Machine → List ℕ → Type 0
 Moves command.Run old new out = (new ≡ old) × (out ≡ [])
@@ -203,3 +206,8 @@ pub record Finds (n : ℕ) (file : List ℕ) (machine : Machine) (s : Stage) (ou
   pub leads : Leads n machine lines s out
   pub end : IsTextEnd left
   pub is : is_cell n s ≡ true
+
+-- A file is read to its end, and none of its cells has this number: so far has that led.
+pub record Lacks (n : ℕ) (file : List ℕ) (machine : Machine) (s : Stage) (out : List ℕ) : Type 0 where
+  pub leads : Leads n machine (lines_of file) s out
+  pub none : is_cell n s ≡ false

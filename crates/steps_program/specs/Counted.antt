@@ -1,8 +1,9 @@
 -- Steps by their number, on and back.
-use Rattle.std.specs.Prelude.{◌≡◌, ℕ, zero, suc, ◌^◌, ◌-◌}
+use Rattle.std.specs.Prelude.{◌≡◌, ℕ, zero, suc, ◌+◌, ◌^◌, ◌-◌}
 use Rattle.steps_walk.specs.progress.Progress.{Progress}
 use Rattle.steps_walk.specs.progress.Progress.TheVariants.{Went, Ended, Stopped}
-use Rattle.steps_walk.specs.Runner.{Runs, count_of}
+use Rattle.kernel_machine.specs.StepsOfSlices.{steps_on, steps_back}
+use Rattle.steps_walk.specs.Runner.{Runs, count_of, steps_of}
 use Rattle.steps_walk.specs.Walking.{StepsBack}
 use Rattle.steps_walk.specs.declared.walk.Walk.{Walk}
 use Rattle.steps_walk.specs.Walk.{runner_of, program_of, Moves}
@@ -21,11 +22,15 @@ pub record GoesOn {L : Type 0} (n : ℕ) (old new : Walk L) (to : Came) : Type 0
   pub told : Progress
   pub runs : Runs (program_of old) n told (runner_of old) (runner_of new)
   pub led : to ≡ came_by told
+  -- the machine counts no step more: none is run again
+  pub counted : steps_of (runner_of new) ≡ steps_of (runner_of old) + steps_on (count_of (runner_of old)) n told
 
 -- n steps back, or all
 pub record GoesBack {L : Type 0} (n : ℕ) (old new : Walk L) : Type 0 where
   pub moves : Moves old new
   pub goes : StepsBack (program_of old) n (runner_of old) (runner_of new)
+  -- the machine counts no step more: none is run again
+  pub counted : steps_of (runner_of new) ≡ steps_of (runner_of old) + steps_back (count_of (runner_of old)) n
 
 -- where steps back have led, by how many steps are left
 abbrev pub came_back : ℕ → Came

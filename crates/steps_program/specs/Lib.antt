@@ -7,4 +7,5 @@ pub mod Obeyed
 pub mod Told
 pub mod Transcript
 pub mod Before
+pub mod Numbered
 pub mod Walked

@@ -1,6 +1,7 @@
 -- What a command does to the walk, and what there is to tell then.
-use Rattle.std.specs.Prelude.{◌≡◌, ℕ, Bool, true, false, List, Err}
+use Rattle.std.specs.Prelude.{◌≡◌, ◌≢◌, ℕ, Bool, true, false, nat_lt, List, Err}
 use Rattle.std.specs.Borrow.{Bor}
+use Rattle.janus_meaning.specs.Fault.{Bad, Broken}
 use Rattle.janus_syntax.specs.Text.{HasExp, IsParsedExp}
 use Rattle.janus_syntax.specs.Tree.{exp_view}
 use Rattle.janus_syntax.specs.declared.tree.Exp.{Exp}
@@ -10,6 +11,7 @@ use Rattle.steps_walk.specs.Values.{IsValueHere}
 use Rattle.steps_program.specs.declared.command.Command.{Command}
 use Rattle.steps_program.specs.declared.command.Command.TheVariants as command
 use Rattle.steps_program.specs.declared.going.Came.{Came}
+use Rattle.steps_program.specs.declared.going.Came.TheVariants as came
 use Rattle.steps_program.specs.declared.going.Goal.{Goal}
 use Rattle.steps_program.specs.declared.going.Goal.TheVariants.{Next, Fewer, Line, Holds, Changes}
 use Rattle.steps_program.specs.declared.kept.Kept.{Kept}
@@ -52,13 +54,30 @@ IsLedUntil sources onward text old new (reply.Sought to) = (exp : Bor Exp) × Ha
 IsLedUntil sources onward text old new (reply.Refused fault) = IsParsedExp text (Err fault) × (new ≡ old)
 IsLedUntil sources onward text old new _ = ⊥
 
--- until the value of a name is another one than where the command began, or the call is left in which it began; or there was no memory to keep that, and
--- nothing changes
+-- what there is to tell where a watch has come, by whether the call is left in which it began
+abbrev pub watched : Came → Bool → Reply
+watched came.There true = reply.CallLeft
+watched came.There false = reply.Sought came.There
+watched came.End left = reply.Sought came.End
+watched came.Start left = reply.Sought came.Start
+watched (came.Fault fault) left = reply.Sought (came.Fault fault)
+watched came.Memory left = reply.Sought came.Memory
+
+-- a name is in sight, and it has gone on until its value is another one, or the call is left
+pub record IsWatched {L : Type 0} (sources : List Source) (onward : Bool) (name : Bor (List ℕ)) (old new : Walk L) (r : Reply) : Type 0 where
+  pub kept : Kept
+  pub value : IsValueHere old name.now (value_in kept)
+  pub in_sight : value_in kept ≢ Bad Broken
+  pub to : Came
+  pub led : IsLed sources onward (Changes name (calls_in old) kept) old new to
+  pub tells : r ≡ watched to (nat_lt (calls_in new) (calls_in old))
+
+-- until the value of a name is another one than where the command began, or the call is left in which it began; or the name isn't in sight, or there was no
+-- memory to keep its value, and nothing changes
 abbrev pub IsLedByChange : {L : Type 0} → List Source → Bool → Bor (List ℕ) → Walk L → Walk L → Reply → Type 0
-IsLedByChange sources onward name old new (reply.Sought to) =
-    (kept : Kept) × IsValueHere old name.now (value_in kept) × IsLed sources onward (Changes name (calls_in old) kept) old new to
+IsLedByChange sources onward name old new reply.NotInSight = IsValueHere old name.now (Bad Broken) × (new ≡ old)
 IsLedByChange sources onward name old new reply.NoMemory = new ≡ old
-IsLedByChange sources onward name old new _ = ⊥
+IsLedByChange sources onward name old new r = IsWatched sources onward name old new r
 
 -- Steps and ends by their numbers; other moves as far as the first place at which their goal is met. What looks at the walk, and what is refused, changes
 -- nothing.

@@ -36,12 +36,14 @@ use Rattle.steps_walk.specs.declared.level.Spot.{Spot}
 use Rattle.steps_walk.specs.declared.sight.Sight.{Sight}
 use Rattle.steps_walk.specs.declared.walk.Walk.{Walk}
 use Rattle.steps_walk.specs.Walk.{calls_in, runner_of, slots_in}
+use Rattle.steps_walk.specs.Meant.{Means}
 use Rattle.steps_walk.specs.Sights.{AreInSight, IsSightHere}
 use Rattle.steps_walk.specs.Standing.{TellsStand, TellsLevel, IsSpotAt, name_of}
 use Rattle.steps_walk.specs.Slots.{slot, slot_in}
 use Rattle.steps_walk.specs.Values.{sighted, value_or_lent}
 use Rattle.steps_program.specs.declared.going.Came.{Came}
 use Rattle.steps_program.specs.declared.going.Came.TheVariants as came
+use Rattle.steps_program.specs.declared.output.CentreLine.{CentreLine}
 use Rattle.steps_program.specs.declared.place.Place.{Place}
 use Rattle.steps_program.specs.declared.source.Source.{Source}
 use Rattle.steps_program.specs.declared.talk.Reply.{Reply}
@@ -52,6 +54,9 @@ use Rattle.steps_program.specs.Places.{next, line_in, lines_of, source_of, place
 
 abbrev pub no_memory : List ℕ
 no_memory = codes "refused no memory\n"
+
+abbrev pub not_in_sight : List ℕ
+not_in_sight = codes "refused not in sight\n"
 
 abbrev pub bad_command : List ℕ
 bad_command = codes "refused 80 BadCommand\n"
@@ -269,6 +274,10 @@ sought_text came.Memory = []
 abbrev pub TellsSought : {L : Type 0} → List Source → Came → Walk L → List ℕ → Type 0
 TellsSought sources to w out = (rest : List ℕ) × TellsCame sources to w rest × (out ≡ sought_text to ++ rest)
 
+-- what is told before that of a watch that ended as the call was left
+abbrev pub TellsLeft : {L : Type 0} → List Source → Walk L → List ℕ → Type 0
+TellsLeft sources w out = (rest : List ℕ) × TellsCame sources came.There w rest × (out ≡ codes "call left\n" ++ rest)
+
 -- ---- the names in sight
 
 -- each with its value, the oldest first; a name that has none stands alone
@@ -276,6 +285,8 @@ pub record TellsNames {L : Type 0} (w : Walk L) (out : List ℕ) : Type 0 where
   pub sight : Sight
   pub of : IsSightHere w sight
   pub is : (g : List Name) → AreInSight sight g → out ≡ value_lines (listed (sighted (slots_in w) g))
+  -- and these are the values of the meaning's store behind as many steps
+  pub meant : Means w
 
 -- ---- the open calls
 
@@ -331,33 +342,34 @@ TellsCalls sources w out = TellsSomeCalls sources w (calls_in w) out
 -- ---- the lines around the next step
 
 -- up to five lines before it and behind it
-abbrev pub is_listed : ℕ → ℕ → Bool
-is_listed number here = nat_le (here - 5) number && nat_le number (min (here + 5) (2 ^ 64 - 1))
+abbrev pub is_listed : ℕ → CentreLine → Bool
+is_listed number here = nat_le (here.line - 5) number && nat_le number (min (here.line + 5) (2 ^ 64 - 1))
 
-abbrev pub mark : ℕ → ℕ → List ℕ
-mark number here = if nat_eq number here then codes "> " else codes "  "
+-- the line on which the next step stands has a mark
+abbrev pub mark : ℕ → CentreLine → List ℕ
+mark number here = if here.is_next && nat_eq number here.line then codes "> " else codes "  "
 
-abbrev pub listed_line : ℕ → ℕ → List ℕ → List ℕ
+abbrev pub listed_line : ℕ → CentreLine → List ℕ → List ℕ
 listed_line number here line = counted_text (mark number here) number ++ named_line line
 
-abbrev pub listed_if : Bool → ℕ → ℕ → List ℕ → List ℕ
+abbrev pub listed_if : Bool → ℕ → CentreLine → List ℕ → List ℕ
 listed_if true number here line = listed_line number here line
 listed_if false number here line = []
 
-abbrev pub line_listed : ℕ → ℕ → List ℕ → List ℕ
+abbrev pub line_listed : ℕ → CentreLine → List ℕ → List ℕ
 line_listed number here line = listed_if (is_listed number here) number here line
 
 -- those of a text whose first line has this number
-abbrev pub lines_listed : ℕ → ℕ → List (List ℕ) → List ℕ
+abbrev pub lines_listed : CentreLine → ℕ → List (List ℕ) → List ℕ
 lines_listed here number [] = []
 lines_listed here number (line ∷ more) = line_listed number here line ++ lines_listed here (next number) more
 
--- where the next step has no place, the first line stands for its own
-abbrev pub line_or : ℕ → Option Place → ℕ
-line_or n None = n
-line_or n (Some p) = p.line
+-- where the next step has no place, they are the first ones
+abbrev pub line_or : ℕ → Option Place → CentreLine
+line_or n None = record { line = n; is_next = false }
+line_or n (Some p) = record { line = p.line; is_next = true }
 
-abbrev pub middle : Source → Option Span → ℕ
+abbrev pub middle : Source → Option Span → CentreLine
 middle s span = line_or s.first_line (place_in s span)
 
 abbrev pub source_listed : Option Source → Option Span → List ℕ
@@ -375,6 +387,8 @@ Tells sources (reply.Sought to) w out = TellsSought sources to w out
 Tells sources (reply.Refused fault) w out = out ≡ refused_line fault
 Tells sources reply.Unknown w out = out ≡ bad_command
 Tells sources reply.NoMemory w out = out ≡ no_memory
+Tells sources reply.NotInSight w out = out ≡ not_in_sight
+Tells sources reply.CallLeft w out = TellsLeft sources w out
 Tells sources reply.Names w out = TellsNames w out
 Tells sources reply.Place w out = TellsStep sources w out
 Tells sources reply.Calls w out = TellsCalls sources w out

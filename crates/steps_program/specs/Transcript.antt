@@ -1,5 +1,5 @@
 -- What is written while commands are obeyed.
-use Rattle.std.specs.Prelude.{◌≡◌, ◌⊎◌, ℕ, Bool, true, false, List, [], ◌∷◌, ◌++◌, length, Option, None, Some}
+use Rattle.std.specs.Prelude.{◌≡◌, ◌≢◌, ◌⊎◌, ℕ, Bool, true, false, List, [], ◌∷◌, ◌++◌, length, Option, None, Some}
 use Rattle.std.specs.Io.BufRead.{take_through, drop_through}
 use Rattle.steps_walk.specs.declared.walk.Walk.{Walk}
 use Rattle.steps_program.specs.declared.command.Command.{Command}
@@ -38,10 +38,10 @@ pub record Transcribes {L : Type 0} (sources : List Source) (walk : Walk L) (rea
 
 -- ---- the lines of an input
 
--- these lines are at the front of an input, each as far as its LF or the end, and this is behind them
+-- these lines are at the front of an input, each as far as its LF or the end, none of which asks to end, and this is behind them
 pub data Reads (input : List ℕ) : List (List ℕ) → List ℕ → Type 0 where
   Unread : Reads input [] input
-  ReadOn : (lines : List (List ℕ)) (left : List ℕ) → Reads input lines left →
+  ReadOn : (lines : List (List ℕ)) (left : List ℕ) → Reads input lines left → asked_of (take_through 10 left) ≢ Quit →
       Reads input (lines ++ take_through 10 left ∷ []) (drop_through 10 left)
 
 -- the same of a reader whose octets are known

@@ -17,8 +17,8 @@ pub enum Command<'a> {
     /// To go on until the innermost call is left; outside of calls to the end.
     Finish,
     /// To go on to a line of the file.
-    To(usize),
-    BackTo(usize),
+    To(u64),
+    BackTo(u64),
     ToFault,
     ToEnd,
     ToStart,
@@ -46,13 +46,6 @@ fn number(word: &str) -> Option<u64>
     word.parse::<u64>().ok()
 }
 
-/// The line whose number a word writes.
-fn line_number(word: &str) -> Option<usize>
-    ensures { result ≡ number_of_word word.now }
-{
-    word.parse::<usize>().ok()
-}
-
 /// The command of a word with another behind it.
 fn with_word<'a>(first: &str, word: &'a str) -> Command<'a>
     ensures { asked result ≡ asked_with first.now word.now }
@@ -70,13 +63,13 @@ fn with_word<'a>(first: &str, word: &'a str) -> Command<'a>
         };
     }
     if first == "to" {
-        return match line_number(word) {
+        return match number(word) {
             Some(line) => Command::To(line),
             None => Command::Unknown,
         };
     }
     if first == "back-to" {
-        return match line_number(word) {
+        return match number(word) {
             Some(line) => Command::BackTo(line),
             None => Command::Unknown,
         };

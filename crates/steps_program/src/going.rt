@@ -1,10 +1,11 @@
 //! How far a command goes.
-ghost use Rattle.std.specs.Prelude.{◌≡◌, IfSome, IfNone, IfOk, false};
+ghost use Rattle.std.specs.Prelude.{◌≡◌, IfSome, IfNone, IfOk, IfErr, false};
 ghost use Rattle.steps_walk.specs.Walk.{IsWalking, Moves, KeepsMet};
 ghost use Rattle.steps_walk.specs.Standing.{IsMetHere};
 ghost use Rattle.steps_walk.specs.Values.{IsValueHere};
 ghost use Rattle.steps_program.specs.Counted.{GoesOn, GoesBack, ComesBack, came_by as came_by_told, came_back as came_back_to};
-ghost use Rattle.steps_program.specs.Going.{IsThere, TellsOnLine, TellsChange, Arrives, TakesOne, TakesLast, GoesTo, GoesBackTo};
+ghost use Rattle.steps_program.specs.declared.going.Goal.TheVariants.{Holds};
+ghost use Rattle.steps_program.specs.Going.{IsSeenFalse, IsSeenTrue, IsThere, TellsOnLine, TellsChange, Arrives, TakesOne, TakesLast, GoesTo, GoesBackTo};
 ghost use Rattle.steps_program.specs.Kept.{value_in};
 ghost use Rattle.steps_program.specs.Places.{line_at as line_at_span, source_of as source_of_node};
 
@@ -14,7 +15,7 @@ use crate::source::{Source, source_of};
 use cells_program::Fault;
 use std::alloc::{AllocError, Global};
 use std::sync::ledger::Ledger;
-use steps_walk::{Exp, Level, Progress, Spot, Walk, is_holding, value_of};
+use steps_walk::{Exp, Level, Progress, Spot, Walk, is_holding, is_true, seen_number, value_of};
 
 /// Where a command has led.
 #[derive(Clone, Copy)]
@@ -39,7 +40,7 @@ pub(crate) enum Goal<'a> {
     /// Until fewer calls are open.
     Fewer(usize),
     /// To this line of the file.
-    Line(usize),
+    Line(u64),
     /// Until an expression over the names in sight holds.
     Holds(&'a Exp),
     /// Until the value of a name, where so many calls are open, is another one than this, or fewer are open.
@@ -82,7 +83,7 @@ fn is_changed<L: Ledger>(walk: &Walk<L>, name: &str, depth: usize, old: &Kept) -
 }
 
 /// Whether a statement or one of its tests comes next, on this line of the file.
-fn is_on_line<L: Ledger>(walk: &Walk<L>, sources: &[Source], line: usize) -> bool
+fn is_on_line<L: Ledger>(walk: &Walk<L>, sources: &[Source], line: u64) -> bool
     requires walking { IsWalking walk.now }
     requires met { IsMetHere walk.now }
     ensures { TellsOnLine sources.now line walk.now result }
@@ -94,7 +95,7 @@ fn is_on_line<L: Ledger>(walk: &Walk<L>, sources: &[Source], line: usize) -> boo
     if !spot.is_stop(level.inverse) {
         return false;
     }
-    here == Some(line)
+    here == Some(line as usize)
 }
 
 /// The line of the file on which a spot stands.
@@ -175,9 +176,111 @@ pub(crate) fn go_on<L: Ledger>(
     ensures moves { Moves walk.old walk.new }
     ensures goes { GoesTo sources.now goal.now walk.old walk.new result }
 {
+    match goal {
+        Goal::Holds(exp) => seek(alloc, walk, sources, *exp),
+        Goal::Next(_) | Goal::Fewer(_) | Goal::Line(_) | Goal::Changes(_, _, _) => {
+            look_on(alloc, walk, sources, goal)
+        }
+    }
+}
+
+/// Takes steps on, and looks behind each whether the walk stands where a command goes.
+fn look_on<L: Ledger>(
+    alloc: Global,
+    walk: &mut Walk<L>,
+    sources: &[Source],
+    goal: &Goal<'_>,
+) -> Came
+    requires { IsWalking walk.old }
+    ensures walks { IsWalking walk.new }
+    ensures moves { Moves walk.old walk.new }
+    ensures goes { GoesTo sources.now goal.now walk.old walk.new result }
+{
     loop {
         if let Some(came) = step_on(alloc, walk, sources, goal) {
             return came;
+        }
+    }
+}
+
+/// Looks whether an expression holds where the walk stands: the innermost level, if it doesn't, else where the command has come. The body there is met.
+fn look<L: Ledger>(alloc: Global, walk: &mut Walk<L>, exp: &Exp) -> Result<Level, Came>
+    requires { IsWalking walk.old }
+    ensures kept { KeepsMet walk.old walk.new }
+    ensures ok { IfOk result (IsSeenFalse exp.now walk.new) }
+    ensures err { IfErr result (IsSeenTrue exp.now walk.new) }
+{
+    if walk.meet_here(alloc).is_err() {
+        return Err(Came::Memory);
+    }
+    let (level, number) = seen_number(walk, exp);
+    if is_true(number) {
+        return Err(Came::There);
+    }
+    Ok(level)
+}
+
+/// Takes a step on, and looks whether an expression holds then.
+fn step_first<L: Ledger>(
+    alloc: Global,
+    walk: &mut Walk<L>,
+    sources: &[Source],
+    exp: &Exp,
+) -> Result<Level, Came>
+    requires { IsWalking walk.old }
+    ensures walks { IsWalking walk.new }
+    ensures moves { Moves walk.old walk.new }
+    ensures ok { IfOk result (λ level. TakesOne walk.old walk.new × IsSeenFalse exp.now walk.new level) }
+    ensures err { IfErr result (TakesLast sources.now (Holds exp.entry) walk.old walk.new) }
+{
+    match walk.on(1) {
+        Progress::Ended(_) => Err(Came::End),
+        Progress::Stopped(_, fault) => Err(Came::Fault(fault)),
+        Progress::Went => look(alloc, walk, exp),
+    }
+}
+
+/// Takes a step on from a level at which an expression was seen not to hold, and looks whether it holds then, unless it is known to be as it was.
+fn step_further<L: Ledger>(
+    alloc: Global,
+    walk: &mut Walk<L>,
+    sources: &[Source],
+    exp: &Exp,
+    level: &Level,
+) -> Result<Level, Came>
+    requires walking { IsWalking walk.old }
+    requires seen { IsSeenFalse exp.now walk.old level.now }
+    ensures walks { IsWalking walk.new }
+    ensures moves { Moves walk.old walk.new }
+    ensures ok { IfOk result (λ level. TakesOne walk.old walk.new × IsSeenFalse exp.now walk.new level) }
+    ensures err { IfErr result (TakesLast sources.now (Holds exp.entry) walk.old walk.new) }
+{
+    let (told, alike) = walk.on_from(level);
+    match told {
+        Progress::Ended(_) => Err(Came::End),
+        Progress::Stopped(_, fault) => Err(Came::Fault(fault)),
+        Progress::Went => match alike {
+            Some(level) => Ok(level),
+            None => look(alloc, walk, exp),
+        },
+    }
+}
+
+/// Takes steps on until an expression over the names in sight holds, one at least.
+fn seek<L: Ledger>(alloc: Global, walk: &mut Walk<L>, sources: &[Source], exp: &Exp) -> Came
+    requires { IsWalking walk.old }
+    ensures walks { IsWalking walk.new }
+    ensures moves { Moves walk.old walk.new }
+    ensures goes { GoesTo sources.now (Holds exp.entry) walk.old walk.new result }
+{
+    let mut level = match step_first(alloc, walk, sources, exp) {
+        Ok(level) => level,
+        Err(came) => return came,
+    };
+    loop {
+        match step_further(alloc, walk, sources, exp, &level) {
+            Ok(next) => level = next,
+            Err(came) => return came,
         }
     }
 }

@@ -45,7 +45,7 @@ impl Kept {
     }
 
     /// Whether there is none.
-    fn is_absent(&self) -> bool
+    pub(crate) fn is_absent(&self) -> bool
         ensures { IsTrue result ↔ (value_in self.now ≡ Bad Broken) }
     {
         match self {

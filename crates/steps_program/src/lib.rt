@@ -9,19 +9,23 @@
 //! is looked for, by its number or the last, as a new kernel enters it behind them (`Before`, `Walked`: the contract of `run`).
 //!
 //! The modules, in the order in which a reader needs them: `source` (the cells of a file), `command` (what a line asks for), `place` (lines and columns),
-//! `kept` (a value that is kept), `going` (how far a command goes), `talk` (commands that are obeyed), `output` (what is written), `reply` (the answers),
-//! `program` (all of it over a file's text).
+//! `kept` (a value that is kept), `going` (how far a command goes), `talk` (commands that are obeyed), `text` (whether the places are those of the texts),
+//! `output` (what is written), `reply` (the answers), `program` (all of it over a file's text), `law` (that lines are those of the file, and which cell is the
+//! last).
 #![tactic(auto)]
 
 mod command;
 mod going;
 mod kept;
+mod law;
 mod output;
 mod place;
 mod program;
 mod reply;
 mod source;
 mod talk;
+mod text;
 
 pub use crate::command::Command;
+pub use crate::law::{last_cell_is_last_law, texts_stand_in_file_law};
 pub use crate::program::{RunFault, run};

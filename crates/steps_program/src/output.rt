@@ -464,6 +464,7 @@ pub(crate) fn send_names<L: Ledger, W: Write>(
 ) -> Result<(), WriteFailed>
     ensures { OnOk result ((out : List ℕ) × TellsNames walk.now out × Appends (W.contents writer.old) (W.contents writer.new) out) }
 {
+    walk.meant_law();
     let Some(sight) = walk.sight_here() else {
         return Err(WriteFailed);
     };
@@ -595,25 +596,37 @@ pub(crate) fn send_read<L: Ledger, W: Write>(
 /// How many lines are listed before and behind the one of the next step.
 const AROUND: usize = 5;
 
-/// Whether a line is listed where the next step stands on this one.
-fn is_listed(number: usize, here: usize) -> bool
+/// The line round which others are listed.
+#[derive(Clone, Copy)]
+pub(crate) struct CentreLine {
+    pub(crate) line: usize,
+    /// Whether the next step stands on it.
+    pub(crate) is_next: bool,
+}
+
+/// Whether a line is listed round this one.
+fn is_listed(number: usize, here: CentreLine) -> bool
     ensures { result ≡ is_listed_of number here }
 {
-    here.saturating_sub(AROUND) <= number && number <= here.saturating_add(AROUND)
+    here.line.saturating_sub(AROUND) <= number && number <= here.line.saturating_add(AROUND)
 }
 
 /// What stands in front of the number of a line.
-fn mark(number: usize, here: usize) -> &'static str
+fn mark(number: usize, here: CentreLine) -> &'static str
     ensures { result.now ≡ mark_of number here }
 {
-    if number == here { "> " } else { "  " }
+    if here.is_next && number == here.line {
+        "> "
+    } else {
+        "  "
+    }
 }
 
 /// Writes a line with its number, and a mark where the next step stands on it.
 fn send_listed<W: Write>(
     writer: &mut W,
     number: usize,
-    here: usize,
+    here: CentreLine,
     line: &str,
 ) -> Result<(), WriteFailed>
     ensures { OnOk result (Appends (W.contents writer.old) (W.contents writer.new) (listed_line number here line.now)) }
@@ -626,7 +639,7 @@ fn send_listed<W: Write>(
 fn send_if_listed<W: Write>(
     writer: &mut W,
     number: usize,
-    here: usize,
+    here: CentreLine,
     line: &str,
 ) -> Result<(), WriteFailed>
     ensures { OnOk result (Appends (W.contents writer.old) (W.contents writer.new) (line_listed number here line.now)) }
@@ -642,7 +655,7 @@ fn send_lines<W: Write>(
     writer: &mut W,
     text: &str,
     first_line: usize,
-    here: usize,
+    here: CentreLine,
 ) -> Result<(), WriteFailed>
     ensures { OnOk result (Appends (W.contents writer.old) (W.contents writer.new) (lines_listed here first_line (lines_of text.now))) }
 {
@@ -657,16 +670,22 @@ fn send_lines<W: Write>(
 }
 
 /// The line round which others are listed: that of the next step, or the first one where it has no place.
-fn middle(source: &Source, spot: Spot) -> usize
+fn middle(source: &Source, spot: Spot) -> CentreLine
     ensures { result ≡ middle_of source.now spot.span }
 {
     match place_of(source, spot) {
-        Some(place) => place.line,
-        None => source.first_line,
+        Some(place) => CentreLine {
+            line: place.line,
+            is_next: true,
+        },
+        None => CentreLine {
+            line: source.first_line,
+            is_next: false,
+        },
     }
 }
 
-/// Writes the lines round the one of the next step, with a mark at that one.
+/// Writes the lines round the one of the next step, with a mark at that one; where it has no place, the first ones, without a mark.
 pub(crate) fn send_list<L: Ledger, W: Write>(
     writer: &mut W,
     walk: &Walk<L>,

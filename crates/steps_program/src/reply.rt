@@ -4,7 +4,7 @@ ghost use Rattle.std.specs.Io.KnownBytes.{Appends};
 ghost use Rattle.exact_write.specs.Sent.{SentSome};
 ghost use Rattle.steps_walk.specs.Runner.{count_of};
 ghost use Rattle.steps_walk.specs.Walk.{runner_of};
-ghost use Rattle.steps_program.specs.Told.{Answers, Tells, TellsCame, TellsMore, TellsReads, TellsSought, came_text, no_memory, refused_line, sought_text};
+ghost use Rattle.steps_program.specs.Told.{Answers, Tells, TellsCame, TellsLeft, TellsMore, TellsReads, TellsSought, came_text, no_memory, refused_line, sought_text};
 
 use crate::going::Came;
 use crate::output::{
@@ -141,6 +141,19 @@ fn send_sought<L: Ledger, W: Write>(
     send_came(alloc, writer, walk, sources, came)
 }
 
+/// Writes that the call is left, and where the walk has come.
+fn send_left<L: Ledger, W: Write>(
+    alloc: Global,
+    writer: &mut W,
+    walk: &Walk<L>,
+    sources: &[Source],
+) -> Result<(), WriteFailed>
+    ensures { OnOk result ((out : List ℕ) × TellsLeft sources.now walk.now out × Appends (W.contents writer.old) (W.contents writer.new) out) }
+{
+    send(writer, b"call left\n")?;
+    send_came(alloc, writer, walk, sources, Came::There)
+}
+
 /// Writes what there is to tell.
 fn send_reply<L: Ledger, W: Write>(
     alloc: Global,
@@ -157,6 +170,8 @@ fn send_reply<L: Ledger, W: Write>(
         Reply::Refused(fault) => send_refused(writer, fault),
         Reply::Unknown => send(writer, b"refused 80 BadCommand\n"),
         Reply::NoMemory => send_no_memory(writer),
+        Reply::NotInSight => send(writer, b"refused not in sight\n"),
+        Reply::CallLeft => send_left(alloc, writer, walk, sources),
         Reply::Names => send_names(alloc, writer, walk),
         Reply::Place => send_where(writer, walk, sources),
         Reply::Calls => send_calls(writer, walk, sources),

@@ -1,13 +1,13 @@
 //! The cells of a file: those before the one that is walked through are run, and the lines between them obeyed.
 
-ghost use Rattle.std.specs.Prelude.{◌≡◌, ℕ, List, [], None, Some, IfOk, OnOk, false, true, map, string_bytes};
+ghost use Rattle.std.specs.Prelude.{◌≡◌, ℕ, List, [], None, Some, IfOk, IfSome, IfNone, OnOk, false, true, map, string_bytes};
 ghost use Rattle.std.specs.Io.KnownBytes.{Appends};
 ghost use Rattle.std.specs.Option.{MatchOption};
 ghost use Rattle.kernel_core.specs.Request.{RunCell, request_of};
 ghost use Rattle.kernel_core.specs.Runs.{Machine as TheMachine};
 ghost use Rattle.cells_program.specs.Lines.{is_blank as is_blank_text};
 ghost use Rattle.cells_program.specs.State.{Idle};
-ghost use Rattle.steps_program.specs.Before.{CommandLeads, Finds, IsServed, LineLeads, Moves, RunsAs, RunsIf, Stage, begun_behind, cell_of, cell_words};
+ghost use Rattle.steps_program.specs.Before.{CommandLeads, Finds, IsServed, Lacks, LineLeads, Moves, RunsAs, RunsIf, Stage, begun_behind, cell_of, cell_words};
 ghost use Rattle.steps_program.specs.Before.{cells_in, counted_with, ends_before as ends_before_of, first_stage, is_cell as is_cell_of, kept_as, node_of};
 ghost use Rattle.steps_program.specs.Before.{counted_on as counted_on_of, ran_in, runs_before, stage_of, taken, text_of, with_line};
 ghost use Rattle.steps_program.specs.Places.{source_of as source_of_node};
@@ -29,11 +29,9 @@ pub(crate) struct Source {
     pub(crate) node: Option<usize>,
 }
 
-/// Why the cells of a file don't lead to the one that is looked for.
+/// Why a file isn't read as far as the cell that is looked for.
 #[derive(Clone, Copy)]
 pub(crate) enum Stray {
-    /// There is none of the number.
-    NoCell,
     Memory,
     Write,
 }
@@ -237,38 +235,41 @@ pub(crate) fn count_cells(file: &str) -> usize
 }
 
 /// Runs the cells of a file that stand before the one of a number, obeys the lines between them, and gives the source of that cell, and those of the others.
+/// None if the file has no such cell: then all of its cells have run but the last text.
 pub(crate) fn run_before<L: Ledger, W: Write>(
     alloc: Global,
     kernel: &mut Kernel<L>,
     file: &str,
     number: usize,
     writer: &mut W,
-) -> Result<(Source, Vec<Source>), Stray>
+) -> Result<Option<(Source, Vec<Source>)>, Stray>
     requires idle { kernel.old.machine.state.job ≡ Idle }
     requires alone { kernel.old.machine.queue ≡ [] }
     ensures idle { OnOk result (kernel.new.machine.state.job ≡ Idle) }
     ensures alone { OnOk result (kernel.new.machine.queue ≡ []) }
-    ensures found { IfOk result (λ found. (s : Stage) × (out : List ℕ) × Finds number file.now kernel.old.machine s out
+    ensures found { IfOk result (λ some. IfSome some (λ found. (s : Stage) × (out : List ℕ) × Finds number file.now kernel.old.machine s out
         × (s.machine ≡ kernel.new.machine) × (map text_of found.1.items ≡ s.ran) × (text_of found.0 ≡ cell_of s)
-        × Appends (W.contents writer.old) (W.contents writer.new) out) }
+        × Appends (W.contents writer.old) (W.contents writer.new) out)) }
+    ensures none { IfOk result (λ some. IfNone some ((s : Stage) × (out : List ℕ) × Lacks number file.now kernel.old.machine s out
+        × Appends (W.contents writer.old) (W.contents writer.new) out)) }
 {
     let mut reading = Reading::new(alloc);
     let mut rest = file;
     while let Some((line, more)) = split_line(rest) {
         if reading.ends_before(line, number) {
-            return Ok(reading.found());
+            return Ok(Some(reading.found()));
         }
         read_line(alloc, kernel, &mut reading, line, writer)?;
         rest = more;
     }
     if reading.ends_before(rest, number) {
-        return Ok(reading.found());
+        return Ok(Some(reading.found()));
     }
     read_line(alloc, kernel, &mut reading, rest, writer)?;
     if !reading.is_cell(number) {
-        return Err(Stray::NoCell);
+        return Ok(None);
     }
-    Ok(reading.found())
+    Ok(Some(reading.found()))
 }
 
 /// Gathers a line, or does what it commands.

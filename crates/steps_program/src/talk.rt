@@ -1,12 +1,15 @@
 //! Commands that are obeyed, and what there is to tell then.
-ghost use Rattle.std.specs.Prelude.{true};
+ghost use Rattle.std.specs.Prelude.{◌≡◌, true};
+ghost use Rattle.steps_walk.specs.Values.{IsValueHere};
 ghost use Rattle.steps_walk.specs.Walk.{IsWalking, KeepsMet, calls_in};
 ghost use Rattle.steps_program.specs.declared.going.Goal.TheVariants.{Fewer};
 ghost use Rattle.steps_program.specs.Counted.{GoesOn, ComesBack};
-ghost use Rattle.steps_program.specs.Obeyed.{Obeys, IsLed, IsLedUntil, IsLedByChange};
+ghost use Rattle.steps_program.specs.Kept.{value_in};
+ghost use Rattle.steps_program.specs.Obeyed.{Obeys, IsLed, IsLedUntil, IsLedByChange, watched as watched_of};
 
 use crate::command::Command;
 use crate::going::{Came, Goal, go_back, go_on, keep_value, steps_back, steps_on};
+use crate::kept::Kept;
 use crate::source::Source;
 use janus_syntax::SyntaxFault;
 use std::alloc::Global;
@@ -26,6 +29,10 @@ pub(crate) enum Reply {
     Unknown,
     /// That there is no memory to obey it.
     NoMemory,
+    /// That the name is not in sight whose value was to be watched.
+    NotInSight,
+    /// Where the walk has come that watched a value: the call is left in which it began.
+    CallLeft,
     /// The names in sight with their values.
     Names,
     /// The next step, with its place.
@@ -78,11 +85,46 @@ fn watch<L: Ledger>(
     ensures led { IsLedByChange sources.now is_onward name.entry walk.old walk.new result }
 {
     match keep_value(alloc, walk, name) {
-        Ok(old) => {
-            let goal = Goal::Changes(name, walk.open_calls(), old);
-            Reply::Sought(go(alloc, walk, sources, goal, is_onward))
-        }
+        Ok(old) => watch_from(alloc, walk, sources, name, old, is_onward),
         Err(_) => Reply::NoMemory,
+    }
+}
+
+/// Goes on or back until the value of a name is another one than this, which it has where the walk stands.
+fn watch_from<L: Ledger>(
+    alloc: Global,
+    walk: &mut Walk<L>,
+    sources: &[Source],
+    name: &str,
+    old: Kept,
+    is_onward: bool,
+) -> Reply
+    requires walking { IsWalking walk.old }
+    requires value { IsValueHere walk.old name.now (value_in old) }
+    ensures walks { IsWalking walk.new }
+    ensures led { IsLedByChange sources.now is_onward name.entry walk.old walk.new result }
+{
+    if old.is_absent() {
+        return Reply::NotInSight;
+    }
+    let depth = walk.open_calls();
+    let came = go(
+        alloc,
+        walk,
+        sources,
+        Goal::Changes(name, depth, old),
+        is_onward,
+    );
+    watched(came, walk.open_calls() < depth)
+}
+
+/// What there is to tell where a walk has come that watched a value, by whether the call is left in which it began.
+fn watched(came: Came, is_left: bool) -> Reply
+    ensures { result ≡ watched_of came is_left }
+{
+    match came {
+        Came::There if is_left => Reply::CallLeft,
+        _ => Reply::Sought(came),
     }
 }
 

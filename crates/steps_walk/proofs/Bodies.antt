@@ -22,7 +22,7 @@ use Rattle.kernel_history.specs.declared.tree.EndedCell.{EndedCell}
 use Rattle.kernel_history.specs.declared.tree.HistoryTree.{HistoryTree}
 use Rattle.kernel_history.proofs.Nodes.{cell_there, count_of_nodes}
 use Rattle.kernel_history.proofs.Rows.{over, climbed}
-use Rattle.steps_walk.specs.Bodies.{plain, IsNewest, IsTextOf, procedures_over}
+use Rattle.steps_walk.specs.Bodies.{plain, IsNewest, IsPassed, IsTextOf, procedures_over}
 
 -- procedures of a text as those of the meaning
 abbrev pub plains : List Procedure → List Proc
@@ -120,17 +120,18 @@ module _ (program : Program) (tree : HistoryTree) (name : Name) where
         ∙ climbed (past_of tree) n up own (world_at (past_of tree) n).procedures [] (define own []) legal some (omega (arith, known, size))
         (ap (λ (d : Cell). d.procedures) (cell_there tree n cell at)) parent refl refl)
 
-    pub found_there : (p : Procedure) → IsNewest cell.program.cell.procedures.items name p → IsTextOf program tree name (Some n) p
-    found_there p new = record {
+    pub found_there : IsPassed program tree name n → (p : Procedure) → IsNewest cell.program.cell.procedures.items name p → IsTextOf program tree name (Some n) p
+    found_there passed p new = record {
       found = h ∙ ap (find name) in_world ∙ new.found (world_at (past_of tree) up).procedures;
       defined = (cell, at, new.one);
+      newest = passed;
     }
 
     pub none_there : ((rest : List Proc) → find name (define own rest) ≡ find name rest) → SameAbove up
     none_there none = h ∙ ap (find name) in_world ∙ none (world_at (past_of tree) up).procedures
 
   pub found_here : (p : Procedure) → IsNewest program.cell.procedures.items name p → IsTextOf program tree name None p
-  found_here p new = record { found = new.found (world_at (past_of tree) tree.position).procedures; defined = new.one }
+  found_here p new = record { found = new.found (world_at (past_of tree) tree.position).procedures; defined = new.one; newest = tt }
 
   pub none_here : ((rest : List Proc) → find name (define (plains program.cell.procedures.items) rest) ≡ find name rest) → SameAbove tree.position
   none_here none = none (world_at (past_of tree) tree.position).procedures

@@ -13,3 +13,7 @@ pub mod InSight
 pub mod Values
 pub mod Naming
 pub mod MetBodies
+pub mod Unchanged
+pub mod Seen
+pub mod Meant
+pub mod Stops

@@ -157,6 +157,16 @@ module _ {L : Type 0} (w : Walk L) where
           let same : of.call ≡ called.0 = ap (λ (o : Option Call). unwrap_or o of.call) (sym there ∙ called.1) in
           subst (IsMetAt w) (of.procedure ∙ ap (λ (c : Call). c.procedure) same ∙ sym called.2) met
 
+  -- so the innermost call runs a body that was met
+  pub called_here : (r : OpenCall) → 0 < calls_in w → IsCallOf (runner_of w).cursor (calls_in w - 1) r → IsMetHere w → IsMetAt w r.procedure
+  called_here r some of met = by (calls_in w) refl met
+    where
+      by : (n : ℕ) → calls_in w ≡ n → IsLevelMet w n → IsMetAt w r.procedure
+      by zero e h = absurd (omega (arith, some, e))
+      by (suc n) e h =
+          let z : calls_in w - 1 ≡ n = omega (arith, e) in
+          h r.procedure (of.call, subst (λ i. slice_get (reverse (calls_of (runner_of w).cursor)) i ≡ Some of.call) z of.there, of.procedure)
+
   pub all_met : (n : ℕ) → calls_in w ≤ n → AreMetUpTo w n → AreMet w
   all_met n all h zero few number called = absurd (no called)
     where
@@ -176,6 +186,11 @@ module _ {L : Type 0} (old new : Walk L) where
       named = met.1.named;
     },
   )
+
+  -- where none is added, none is met that was not
+  pub still_unmet : bodies_of new ≡ bodies_of old → (number : ℕ) → (IsMetAt old number → ⊥) → IsMetAt new number → ⊥
+  still_unmet e number none met =
+      none (met.0, record { body = met.1.body; there = ap (λ bodies. slice_get bodies met.0) (sym e) ∙ met.1.there; named = met.1.named })
 
   pub met_last : (body : Body) → bodies_of new ≡ bodies_of old ++ body ∷ [] → IsMetAt new body.number
   met_last body e = (

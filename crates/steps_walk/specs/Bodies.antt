@@ -9,7 +9,7 @@ use Rattle.janus_syntax.specs.Tree.{Block, block_view, procedure_view, procedure
 use Rattle.janus_syntax.specs.View.{plain_procedure}
 use Rattle.janus_syntax.specs.declared.tree.Procedure.{Procedure}
 use Rattle.janus_places.specs.Table.{IsTableOf}
-use Rattle.kernel_machine.specs.State.{here}
+use Rattle.kernel_machine.specs.State.{here, node_at}
 use Rattle.kernel_runner.specs.Program.{procedures_of}
 use Rattle.kernel_runner.specs.declared.program.Program.{Program}
 use Rattle.kernel_history.specs.Fields.{past_of}
@@ -44,10 +44,26 @@ abbrev pub IsDefinedIn : Program → HistoryTree → Option ℕ → Procedure �
 IsDefinedIn program tree None p = Contains program.cell.procedures.items p
 IsDefinedIn program tree (Some n) p = (cell : EndedCell) × IsCellAt tree n cell × Contains cell.program.cell.procedures.items p
 
--- a call of this name runs it, and there it is defined
+-- a call of this name passes these over
+abbrev pub ArePassed : List Procedure → Name → Type 0
+ArePassed procedures name = (rest : List Proc) → find name (define (map plain_procedure (procedures_view procedures)) rest) ≡ find name rest
+
+-- it passes over the open cell, and over the cell of each node from the position up to this one, which is left out
+pub data IsPassed (program : Program) (tree : HistoryTree) (name : Name) : ℕ → Type 0 where
+  Position : ArePassed program.cell.procedures.items name → IsPassed program tree name tree.position
+  Above : (n : ℕ) (cell : EndedCell) → IsPassed program tree name n → IsCellAt tree n cell → ArePassed cell.program.cell.procedures.items name →
+      IsPassed program tree name (node_at (past_of tree) n).parent
+
+-- no newer cell defines the name than that of this node
+abbrev pub IsNewestIn : Program → HistoryTree → Name → Option ℕ → Type 0
+IsNewestIn program tree name None = Unit {0}
+IsNewestIn program tree name (Some n) = IsPassed program tree name n
+
+-- a call of this name runs it, and there it is defined, which is the newest cell that defines the name
 pub record IsTextOf (program : Program) (tree : HistoryTree) (name : Name) (node : Option ℕ) (p : Procedure) : Type 0 where
   pub found : find name (procedures_over program tree) ≡ Fine (plain p)
   pub defined : IsDefinedIn program tree node p
+  pub newest : IsNewestIn program tree name node
 
 -- and the name has this number
 pub record IsInEffect (entries : List Name) (program : Program) (tree : HistoryTree) (number : ℕ) (node : Option ℕ) (p : Procedure) : Type 0 where

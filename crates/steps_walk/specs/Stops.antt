@@ -1,5 +1,10 @@
 -- At which places of code a statement begins or one of its tests is made.
-use Rattle.std.specs.Prelude.{◌≡◌, Bool, true, false, not, ◌&&◌}
+use Rattle.std.specs.Prelude.{◌≡◌, Bool, true, false, not, ◌&&◌, List, [], ◌∷◌}
+use Rattle.janus_meaning.specs.Syntax.{Name}
+use Rattle.janus_meaning.specs.Moves.{Hole, InFirst, InSecond, InLocal, InCall}
+use Rattle.janus_meaning.specs.Stepping.{Framed, Place, BeforeBlock, AfterBlock, BeforeOne, AfterOne, mirror}
+use Rattle.janus_places.specs.Spots as spots
+use Rattle.janus_places.specs.Standing.{IsAt}
 use Rattle.janus_places.specs.declared.part.Form.{Form}
 use Rattle.janus_places.specs.declared.part.Form.TheVariants.{Skip, Assign, AssignElement, Push, Pop, Swap, If, Loop, LocalInt, LocalStack, Call, Uncall}
 use Rattle.janus_places.specs.declared.part.Part.{Part}
@@ -39,3 +44,26 @@ pub record TellsStop {L : Type 0} (w : Walk L) (stops : Bool) : Type 0 where
   pub told : Level × Spot
   pub tells : TellsPlace w told
   pub is : stops ≡ is_stop told.0.inverse told.1.part
+
+-- ---- what that is in the meaning
+
+-- whether a test is made, or a local ends, behind a block in this hole
+abbrev pub is_ended : Hole → Bool
+is_ended (InFirst w a t b) = true
+is_ended (InSecond w a s b) = true
+is_ended (InLocal x k) = true
+is_ended (InCall w f xs c) = false
+
+-- whether a place of the meaning is before a statement, behind a block at whose end a test is made or a local ends, or at the beginning or the end of all
+abbrev pub is_stop_place : Place → Bool
+is_stop_place (BeforeOne c before after fs) = true
+is_stop_place (AfterOne c before after fs) = false
+is_stop_place (BeforeBlock b []) = true
+is_stop_place (BeforeBlock b (f ∷ fs)) = false
+is_stop_place (AfterBlock b []) = true
+is_stop_place (AfterBlock b (Framed h before after ∷ fs)) = is_ended h
+
+-- What stands at a place of code as it is written is a stop just where the place is one, and where the inverse runs, just where its mirror is one.
+abbrev pub StopsAreMeant : Type 0
+StopsAreMeant = (es g : List Name) (spot : spots.Spot) (p : Place) → IsAt es g spot p →
+    (is_stop false (spots.part_of spot) ≡ is_stop_place p) × (is_stop true (spots.part_of spot) ≡ is_stop_place (mirror p))

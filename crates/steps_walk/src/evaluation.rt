@@ -7,10 +7,12 @@ ghost use Rattle.janus_meaning.specs.Value.{value as value_of_exp, first, is_non
 ghost use Rattle.janus_meaning.specs.Word.{wrap, bit, nonzero, operate as operate_of};
 ghost use Rattle.janus_syntax.specs.View.{exp_of, operator_of};
 ghost use Rattle.steps_walk.specs.Sights.{AreInSight};
+ghost use Rattle.steps_walk.specs.Quiet.{IsNumberAt};
 ghost use Rattle.steps_walk.specs.Walk.{slots_in, IsWalking};
 ghost use Rattle.steps_walk.specs.Standing.{IsMetHere};
 ghost use Rattle.steps_walk.specs.Values.{sighted, told, found_value, found_array, found_stack, holds_as, TellsHolding};
 
+use crate::level::Level;
 use crate::sight::Sight;
 use crate::walk::Walk;
 use janus_row::{ValueFault, bit_of, holds, negative, operate};
@@ -32,6 +34,7 @@ pub enum NoValue {
 
 /// The value of a name, if it is in sight.
 #[tactic(auto, using(crate::proofs::Values::unknown, crate::proofs::Values::lent_value, crate::proofs::Values::no_value))]
+#[inline(always)]
 pub fn value_of<'a, L: Ledger>(
     walk: &'a Walk<L>,
     sight: &Sight<'_>,
@@ -49,6 +52,7 @@ pub fn value_of<'a, L: Ledger>(
 }
 
 /// The number of a name that stands for one.
+#[inline(always)]
 fn variable<L: Ledger>(walk: &Walk<L>, sight: &Sight<'_>, name: &str) -> Result<i32, NoValue>
     ensures { (g : List Name) → AreInSight sight.now g → told result ≡ and_then (look name.now (sighted (slots_in walk.now) g)) number_in }
 {
@@ -60,6 +64,7 @@ fn variable<L: Ledger>(walk: &Walk<L>, sight: &Sight<'_>, name: &str) -> Result<
 }
 
 /// The elements of a name that stands for an array.
+#[inline(always)]
 fn array<'a, L: Ledger>(
     walk: &'a Walk<L>,
     sight: &Sight<'_>,
@@ -75,6 +80,7 @@ fn array<'a, L: Ledger>(
 }
 
 /// The values of a name that stands for a stack.
+#[inline(always)]
 fn stack<'a, L: Ledger>(
     walk: &'a Walk<L>,
     sight: &Sight<'_>,
@@ -90,6 +96,7 @@ fn stack<'a, L: Ledger>(
 }
 
 /// The element at an index.
+#[inline(always)]
 fn item(items: &[i32], index: i32) -> Result<i32, NoValue>
     ensures { told result ≡ element items.now index }
 {
@@ -103,6 +110,7 @@ fn item(items: &[i32], index: i32) -> Result<i32, NoValue>
 }
 
 /// The element of an array at an index.
+#[inline(always)]
 fn element(items: Result<&[i32], NoValue>, index: Result<i32, NoValue>) -> Result<i32, NoValue>
     ensures { told result ≡ and_then (found_array items.entry) (λ l. and_then (told index) (λ k. element l k)) }
 {
@@ -112,6 +120,7 @@ fn element(items: Result<&[i32], NoValue>, index: Result<i32, NoValue>) -> Resul
 }
 
 /// Whether a stack has no value.
+#[inline(always)]
 fn emptiness(values: Result<StackView<'_>, NoValue>) -> Result<i32, NoValue>
     ensures { told result ≡ and_then (found_stack values.entry) (λ l. Fine (wrap (bit (is_none l)))) }
 {
@@ -120,6 +129,7 @@ fn emptiness(values: Result<StackView<'_>, NoValue>) -> Result<i32, NoValue>
 }
 
 /// The newest value of a stack.
+#[inline(always)]
 fn newest(values: Result<StackView<'_>, NoValue>) -> Result<i32, NoValue>
     ensures { told result ≡ and_then (found_stack values.entry) first }
 {
@@ -131,6 +141,7 @@ fn newest(values: Result<StackView<'_>, NoValue>) -> Result<i32, NoValue>
 }
 
 /// A number with the other sign.
+#[inline(always)]
 fn negated(operand: Result<i32, NoValue>) -> Result<i32, NoValue>
     ensures { told result ≡ and_then (told operand) (λ v. Fine (wrap (neg_ℤ v))) }
 {
@@ -138,6 +149,7 @@ fn negated(operand: Result<i32, NoValue>) -> Result<i32, NoValue>
 }
 
 /// What an operator makes of two numbers.
+#[inline(always)]
 fn combined(
     operator: Operator,
     left: Result<i32, NoValue>,
@@ -154,6 +166,7 @@ fn combined(
 }
 
 /// Whether both of two numbers hold as tests; the other is left out where the first doesn't.
+#[inline(always)]
 fn both(left: Result<i32, NoValue>, right: Result<i32, NoValue>) -> Result<i32, NoValue>
     ensures { told result ≡ and_then (told left) (λ a. both_of (nonzero a) (told right)) }
 {
@@ -165,6 +178,7 @@ fn both(left: Result<i32, NoValue>, right: Result<i32, NoValue>) -> Result<i32, 
 }
 
 /// Whether one of two numbers holds as a test; the other is left out where the first does.
+#[inline(always)]
 fn either(left: Result<i32, NoValue>, right: Result<i32, NoValue>) -> Result<i32, NoValue>
     ensures { told result ≡ and_then (told left) (λ a. either_of (nonzero a) (told right)) }
 {
@@ -200,13 +214,29 @@ pub fn number_of<L: Ledger>(walk: &Walk<L>, sight: &Sight<'_>, exp: &Exp) -> Res
 }
 
 /// Whether there is a number, and it isn't 0.
-fn is_true(number: Result<i32, NoValue>) -> bool
+#[inline(always)]
+pub fn is_true(number: Result<i32, NoValue>) -> bool
     ensures { result ≡ holds_as (told number) }
 {
     match number {
         Ok(number) => holds(number),
         Err(_) => false,
     }
+}
+
+/// The innermost level, and the number of an expression over the names in sight there, or why it has none.
+pub fn seen_number<L: Ledger>(walk: &Walk<L>, exp: &Exp) -> (Level, Result<i32, NoValue>)
+    requires walking { IsWalking walk.now }
+    requires met { IsMetHere walk.now }
+    ensures { IsNumberAt exp.now walk.now result.0 (told result.1) }
+{
+    let Some(level) = walk.level_here() else {
+        unreachable!()
+    };
+    let Some(sight) = walk.sight(&level) else {
+        unreachable!()
+    };
+    (level, number_of(walk, &sight, exp))
 }
 
 /// Whether an expression over the names in sight at the innermost level holds: it has a number, and that isn't 0.

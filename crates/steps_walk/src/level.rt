@@ -72,6 +72,16 @@ impl<L: Ledger> Walk<L> {
         })
     }
 
+    /// The innermost level. None if the body there wasn't met.
+    pub fn level_here(&self) -> Option<Level>
+        ensures here { IfSome result (IsHere self.now) }
+        ensures code { IfSome result (λ level. IsCodeAt self.now (calls_in self.now) level.body) }
+        ensures node { IfSome result (λ level. level.node ≡ node_at self.now level.body) }
+        ensures met { IsMetHere self.now → IsSome result }
+    {
+        self.level(self.open_calls())
+    }
+
     /// Where the walk stands, and what stands there in the text. None if the body there wasn't met.
     pub fn stand(&self) -> Option<(Level, Spot)>
         ensures tells { IfSome result (TellsPlace self.now) }
@@ -134,7 +144,7 @@ impl<L: Ledger> Walk<L> {
     }
 
     /// The node of the cell whose text has a code.
-    fn node_of(&self, body: Option<usize>) -> Option<usize>
+    pub(crate) fn node_of(&self, body: Option<usize>) -> Option<usize>
         ensures { result ≡ node_at self.now body }
     {
         match self.met.get(body?) {
@@ -157,6 +167,7 @@ impl<L: Ledger> Walk<L> {
     }
 
     /// The table of the code in which a level stands.
+    #[inline(always)]
     pub(crate) fn table(&self, level: &Level) -> Option<&Table>
         ensures some { IfSome result (λ table. IsTableAt self.now level.now.body table.now) }
         ensures met { (t : TheTable) → IsTableAt self.now level.now.body t → IsSome result }
@@ -183,6 +194,7 @@ impl<L: Ledger> Walk<L> {
     }
 
     /// What stands there in the text.
+    #[inline(always)]
     pub fn spot(&self, level: &Level) -> Option<Spot>
         ensures some { IfSome result (λ spot. (t : TheTable) × IsTableAt self.now level.now.body t × TellsSpot t level.now.at spot) }
         ensures met { (t : TheTable) → IsTableAt self.now level.now.body t → level.now.at < places_in t → IsSome result }

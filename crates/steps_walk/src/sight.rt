@@ -191,6 +191,7 @@ impl<L: Ledger> Walk<L> {
     }
 
     /// The value in a slot of the innermost frame, if it has so many.
+    #[inline(always)]
     pub fn value(&self, slot: usize) -> Option<ValueView<'_>>
         ensures some { IfSome result (λ value. slice_get (listed (slots_in self.now)) slot ≡ Some (slot_name slot, shown value)) }
         ensures none { IfNone result (size_of (slots_in self.now) ≤ slot) }

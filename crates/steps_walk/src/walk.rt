@@ -2,7 +2,7 @@
 ghost use Rattle.std.specs.Prelude.{◌≡◌, ◌+◌, false, IfOk};
 ghost use Rattle.janus_meaning.specs.Writes.{IsWritten};
 ghost use Rattle.kernel_machine.specs.StepsOfSlices.{steps_on, steps_back};
-ghost use Rattle.kernel_runner.specs.Runner.{Runs, count_of, writes_of, steps_of};
+ghost use Rattle.kernel_runner.specs.Runner.{Runs, CameBy, count_of, writes_of, steps_of};
 
 use crate::body::{Body, text_of};
 use crate::turning::step_back;
@@ -23,9 +23,9 @@ pub struct Walk<L: Ledger> {
 }
 
 impl<L: Ledger> Walk<L> {
-    ghost use Rattle.std.specs.Prelude.{IfSome, IsSome, OnOk, ℕ};
+    ghost use Rattle.std.specs.Prelude.{IfSome, IsSome, OnOk, OnErr, ℕ};
     ghost use Rattle.steps_walk.specs.Walking.{StepsBack};
-    ghost use Rattle.steps_walk.specs.Walk.{runner_of, program_of, tree_of, IsEntered, IsWalking, Moves, KeepsMet};
+    ghost use Rattle.steps_walk.specs.Walk.{runner_of, program_of, tree_of, bodies_of, IsEntered, IsWalking, Moves, KeepsMet};
     ghost use Rattle.steps_walk.specs.Bodies.{IsMet};
     ghost use Rattle.steps_walk.specs.Standing.{IsBodyAt, IsMetAt, IsMetHere, AreMet, HasBody};
 
@@ -35,6 +35,7 @@ impl<L: Ledger> Walk<L> {
         ensures walks { IfOk result IsWalking }
         ensures runner { IfOk result (λ walk. runner_of walk ≡ entered.runner) }
         ensures program { IfOk result (λ walk. program_of walk ≡ entered.program) }
+        ensures tree { IfOk result (λ walk. tree_of walk ≡ entered.tree) }
     {
         entered.runner.entries.one_number_law();
         let block = Table::of(alloc, &entered.program.cell.statements)?;
@@ -63,6 +64,8 @@ impl<L: Ledger> Walk<L> {
         ensures moves { Moves self.old self.new }
         ensures written { IsWritten (steps_on (count_of (runner_of self.old)) m result) (writes_of (runner_of self.old)) (writes_of (runner_of self.new)) }
         ensures counted { steps_of (runner_of self.new) ≡ steps_of (runner_of self.old) + steps_on (count_of (runner_of self.old)) m result }
+        ensures came { CameBy (program_of self.old) m (steps_on (count_of (runner_of self.old)) m result) (runner_of self.old) (runner_of self.new) }
+        ensures bodies { bodies_of self.new ≡ bodies_of self.old }
     {
         self.open.runner.run(&self.open.program, m)
     }
@@ -112,6 +115,8 @@ impl<L: Ledger> Walk<L> {
         requires { IsWalking self.old }
         ensures kept { KeepsMet self.old self.new }
         ensures met { OnOk result (IsMetHere self.new) }
+        // Nothing is wanted where that body was met, or where no call is open.
+        ensures err { OnErr result (IsMetHere self.new → ⊥) }
     {
         let open = self.open.runner.cursor.open_calls();
         if open == 0 {
@@ -127,6 +132,7 @@ impl<L: Ledger> Walk<L> {
         requires { IsWalking self.old }
         ensures kept { KeepsMet self.old self.new }
         ensures met { OnOk result (HasBody self.old number → IsMetAt self.new number) }
+        ensures err { OnErr result (IsMetAt self.new number → ⊥) }
         // Those that were met before are met still.
         ensures more { (other : ℕ) → IsMetAt self.old other → IsMetAt self.new other }
     {

@@ -8,7 +8,7 @@ pub returns-in-Went-clause-some : goal.returns-in-Went-clause-some
 returns-in-Went-clause-some g c =
     let old = c.args.walk.now in
     let new = c.arrived.new.walk in
-    let one = one_on old c.on.new.self new c.arrived.ensures.kept c.in-Went.ensures.moves c.in-Went.ensures.runs in
+    let one = one_on old c.on.new.self new c.arrived.ensures.kept c.in-Went.ensures.moves c.in-Went.ensures.runs c.in-Went.ensures.counted in
     let sources = c.args.sources.now in
     let g = c.args.goal.now in
     if_some c.arrived.result (Arrives sources g new) (TakesLast sources g old new) (λ to. last_on sources g old new to one)
@@ -18,7 +18,7 @@ pub returns-in-Went-clause-none : goal.returns-in-Went-clause-none
 returns-in-Went-clause-none g c =
     let old = c.args.walk.now in
     let new = c.arrived.new.walk in
-    let one = one_on old c.on.new.self new c.arrived.ensures.kept c.in-Went.ensures.moves c.in-Went.ensures.runs in
+    let one = one_on old c.on.new.self new c.arrived.ensures.kept c.in-Went.ensures.moves c.in-Went.ensures.runs c.in-Went.ensures.counted in
     let there = IsThere c.args.sources.now c.args.goal.now new false in
     if_none c.arrived.result there (TakesOne old new × there) (λ there. (one, there))
     c.arrived.ensures.none

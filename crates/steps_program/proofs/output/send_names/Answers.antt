@@ -20,4 +20,5 @@ returns-in-Ok g c =
       of = c.in-Some.ensures.is;
       is = λ names there.
           ap (λ (ns : List Name). value_lines (listed (sighted slots ns))) (ap texts c.deref.ensures.value ∙ c.in-Ok.ensures names there);
+      meant = c.meant_law.ensures;
     }) c.send_sight.ensures

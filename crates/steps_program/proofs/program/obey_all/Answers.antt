@@ -1,7 +1,8 @@
 use Rattle.std.proofs.Common.{◌+◌, [], ◌∷◌, ◌++◌, string_bytes, ap, ◌∙◌, sym, subst, arith}
 use Rattle.exact_write.proofs.SendLemmas.{appends_none}
 use Rattle.steps_walk.proofs.Moving.{stays, further}
-use Rattle.steps_program.specs.Commands.{asked_of}
+use Rattle.std.specs.Prelude.{◌≢◌}
+use Rattle.steps_program.specs.Commands.{Quit, asked_of}
 use Rattle.steps_program.specs.Transcript.{Silent, ReadsAll, ReadsLine, ReadsSome}
 use Rattle.steps_program.proofs.Talking.{one_more, one_cut, all_said, all_out, ReadsSoFar, none_read, read_on, all_read, quit_read, many_read, some_read}
 use Rattle.steps_program.proofs.Telling.{failed}
@@ -59,10 +60,11 @@ returns-in_err-obey_one-clause-err g c =
     let line = string_bytes c.read_line.new.line in
     let one = subst (λ b. ReadsLine b left new line) c.if-not-some.false c.in_ok-some.ensures in
     let asks = c.read-command.ensures ∙ ap asked_of c.as_str.ensures.value in
+    let on : asked_of line ≢ Quit = λ quit. (let asked = c.is_quit.ensures.1 (asks ∙ quit) in let other = c.if-is_quit.false in cc) in
     failed c.from_residual-in_err-obey_one.result
     (one_cut c.args.sources.now c.args.walk.now c.loop.walk c.obey_one.new.walk line c.read-command.result asks
     (ReadsSoFar input left c.loop.counter) (ReadsSome input)
-    (λ lines h. some_read input new (c.loop.counter + 1) (lines ++ line ∷ []) (read_on lines line c.loop.counter input left new one h))
+    (λ lines h. some_read input new (c.loop.counter + 1) (lines ++ line ∷ []) (read_on lines line c.loop.counter input left new on one h))
     (g.W.Write.contents c.args.writer.now) (g.W.Write.contents c.loop.writer) (g.W.Write.contents c.obey_one.new.writer)
     c.loop.invariant.talks c.in_err-obey_one.ensures.err)
 
@@ -74,12 +76,13 @@ loop-preserved g c =
     let line = string_bytes c.read_line.new.line in
     let one = subst (λ b. ReadsLine b left new line) c.if-not-some.false c.in_ok-some.ensures in
     let asks = c.read-command.ensures ∙ ap asked_of c.as_str.ensures.value in
+    let on : asked_of line ≢ Quit = λ quit. (let asked = c.is_quit.ensures.1 (asks ∙ quit) in let other = c.if-is_quit.false in cc) in
     record {
       walks = c.obey_one.ensures.walks;
       moves = further c.args.walk.now c.loop.walk c.obey_one.new.walk c.loop.invariant.moves c.obey_one.ensures.moves;
       talks = one_more c.args.sources.now c.args.walk.now c.loop.walk c.obey_one.new.walk line c.read-command.result asks
           (ReadsSoFar input left c.loop.counter) (ReadsSoFar input new (c.loop.counter + 1))
-          (λ lines h. read_on lines line c.loop.counter input left new one h)
+          (λ lines h. read_on lines line c.loop.counter input left new on one h)
           (g.W.Write.contents c.args.writer.now) (g.W.Write.contents c.loop.writer) (g.W.Write.contents c.obey_one.new.writer)
           c.loop.invariant.talks c.in_ok-obey_one.ensures.ok;
     }

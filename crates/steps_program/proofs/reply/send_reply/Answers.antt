@@ -1,6 +1,6 @@
 use Rattle.std.proofs.Common.{codes, refl, ap}
 use Rattle.steps_program.specs.declared.talk.Reply.TheVariants as reply
-use Rattle.steps_program.specs.Told.{refused_line, bad_command, no_memory, counted_line}
+use Rattle.steps_program.specs.Told.{refused_line, bad_command, no_memory, not_in_sight, counted_line}
 use Rattle.steps_program.proofs.Saying.{said, said_so, said_nothing}
 use Rattle.steps_program.proofs.reply.send_reply.Goals as goal
 
@@ -24,6 +24,19 @@ returns-in-NoMemory g c =
     let b = g.W.Write.contents c.send_no_memory.new.writer in
     said c.args.sources.now c.args.walk.now c.args.reply reply.NoMemory c.in-NoMemory.is a b c.send_no_memory.result
     no_memory refl c.send_no_memory.ensures.ok
+
+pub returns-in-NotInSight : goal.returns-in-NotInSight
+returns-in-NotInSight g c =
+    let a = g.W.Write.contents c.args.writer.now in
+    let b = g.W.Write.contents c.send-in-NotInSight.new.writer in
+    said c.args.sources.now c.args.walk.now c.args.reply reply.NotInSight c.in-NotInSight.is a b c.send-in-NotInSight.result
+    not_in_sight refl c.send-in-NotInSight.ensures.ok
+
+pub returns-in-CallLeft : goal.returns-in-CallLeft
+returns-in-CallLeft g c =
+    let a = g.W.Write.contents c.args.writer.now in
+    let b = g.W.Write.contents c.send_left.new.writer in
+    said_so c.args.sources.now c.args.walk.now c.args.reply reply.CallLeft c.in-CallLeft.is a b c.send_left.result c.send_left.ensures
 
 pub returns-in-Count : goal.returns-in-Count
 returns-in-Count g c =

@@ -1,7 +1,7 @@
 use Rattle.std.proofs.Common.{[], refl, rules, sym, subst}
 use Rattle.steps_program.specs.Before.{Stage, stage_of}
 use Rattle.steps_program.specs.Places.{lines_of}
-use Rattle.steps_program.proofs.Leading.{ReadSoFar, none_read, one_more, found_before, found_last}
+use Rattle.steps_program.proofs.Leading.{ReadSoFar, none_read, one_more, found_before, found_last, lacking}
 use Rattle.steps_program.proofs.Lines.{first_of, shorter, only_one}
 use Rattle.steps_program.proofs.source.run_before.Goals as goal
 
@@ -88,5 +88,23 @@ returns-clause-found g c =
       refl,
       c.found-2.ensures.ran last,
       c.found-2.ensures.source last,
+      all.sent,
+    )
+
+pub returns-then-not-is_cell-clause-none : goal.returns-then-not-is_cell-clause-none
+returns-then-not-is_cell-clause-none g c =
+    let rest = c.loop-line.rest.now in
+    let m = c.loop-line.kernel.machine in
+    let last = c.read_line-2.new.kernel.machine in
+    let s = stage_of last c.read_line-2.new.reading in
+    let a = g.W.Write.contents c.args.writer.now in
+    let b = g.W.Write.contents c.loop-line.writer in
+    let d = g.W.Write.contents c.read_line-2.new.writer in
+    let led = c.in_ok-read_line-2.ensures.leads in
+    let all = one_more c.args.number c.args.file.now c.args.kernel.now.machine a b (stage_of m c.loop-line.reading) (lines_of rest)
+    c.loop-line.invariant.1.2 d s rest [] (only_one rest c.in_default.ensures.cut) (sym (c.if-ends_before-2.ensures m)) led.0 led.1 led.2 in (
+      s,
+      all.out,
+      lacking c.args.number c.args.file.now c.args.kernel.now.machine a d s [] all refl (c.if-not-is_cell.ensures last),
       all.sent,
     )

@@ -4,8 +4,7 @@ use Rattle.kernel_core.specs.Request.{Request, RunCell}
 use Rattle.cells_program.specs.Lines.{ended_line}
 use Rattle.cells_program.specs.Served.{Finished, NotPosted, Serves}
 use Rattle.cells_program.specs.Transcript.{came_line}
-use Rattle.steps_program.specs.Before.{cell_line, cell_words}
-use Rattle.steps_program.specs.declared.source.TheConstants.{STEPS}
+use Rattle.steps_program.specs.Before.{cell_line, cell_steps, cell_words}
 use Rattle.steps_program.proofs.source.run_cell.Goals as goal
 
 pub returns-in_ok-keep-in-Ok-clause-runs : goal.returns-in_ok-keep-in-Ok-clause-runs
@@ -18,7 +17,7 @@ returns-in_ok-keep-in-Ok-clause-runs g c =
       record {
         came = came;
         machine = new;
-        serves = subst (λ (r : Request). Serves STEPS old r came new) same c.in-Ok.ensures.ok;
+        serves = subst (λ (r : Request). Serves cell_steps old r came new) same c.in-Ok.ensures.ok;
         left = c.in_ok-keep-in-Ok.ensures new;
         is = refl;
       },
@@ -36,7 +35,7 @@ returns-in_ok-send_post_fault-in-Err-clause-runs g c =
       record {
         came = came;
         machine = new;
-        serves = subst (λ (r : Request). Serves STEPS old r came new) same c.in-Err.ensures.err;
+        serves = subst (λ (r : Request). Serves cell_steps old r came new) same c.in-Err.ensures.err;
         left = refl;
         is = refl;
       },

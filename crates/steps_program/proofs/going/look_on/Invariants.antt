@@ -2,7 +2,7 @@ use Rattle.std.proofs.Common.{◌-◌, ◌^◌}
 use Rattle.steps_walk.specs.Walk.{runner_of, IsWalking, Moves}
 use Rattle.steps_walk.specs.Runner.{count_of}
 use Rattle.steps_program.specs.Going.{Passes}
-use Rattle.steps_program.proofs.going.go_on.Given as goal
+use Rattle.steps_program.proofs.going.look_on.Given as goal
 
 -- it still walks, has moved in its run, and the command's goal was met nowhere on the way
 abbrev pub invariant-loop-came : goal.invariant-loop-came

@@ -1,6 +1,6 @@
 use Rattle.steps_walk.proofs.Moving.{stays, further}
 use Rattle.steps_program.specs.Going.{Begun, Further}
-use Rattle.steps_program.proofs.going.go_on.Goals as goal
+use Rattle.steps_program.proofs.going.look_on.Goals as goal
 
 pub loop-came-init : goal.loop-came-init
 loop-came-init g c = record { walks = c.requires; moves = stays c.args.walk.now; passes = Begun }
