@@ -3,10 +3,11 @@ ghost use Rattle.std.specs.Prelude.{◌≡◌, ◌++◌, ◌∷◌, [], All, map
 ghost use mathlib.Core.List.{IsPrefix};
 ghost use Rattle.kernel_audit.specs.Minutes as minutes;
 ghost use Rattle.kernel_audit.specs.Notes.{wished_in, has_shutdown, comms_in};
-ghost use Rattle.kernel_audit.specs.declared.note.Note.TheVariants.{Asked, Changed};
+ghost use Rattle.kernel_audit.specs.declared.note.Note.TheVariants.{Posted, Shut, Asked, Changed, Told};
+ghost use Rattle.hall_state.specs.TurnNotes.{IsTurnNote};
 ghost use Rattle.kernel_audit.specs.Written.{entry_of};
 
-use kernel_audit::{Beside, Comms, Entry, HistoryName, Keeper, Kernel, Note, Pass, Wish};
+use kernel_audit::{Beside, Comms, Done, Entry, HistoryName, Keeper, Kernel, Note, Pass, Wish};
 use std::sync::ledger::{Book, Ledger};
 
 /// Adds the entry to the history that the kernel wrote last.
@@ -24,18 +25,17 @@ pub(crate) fn note_wishes<L: HistoryName>(
     wishes: Vec<Wish>,
 ) -> Vec<Wish>
     ensures wishes { result ≡ wishes }
+    ensures last { notes.new ≡ notes.old ++ Posted wishes ∷ [] }
     ensures noted { wished_in notes.new ≡ wished_in notes.old ++ wishes.items ∷ [] }
     ensures shut { has_shutdown notes.new ≡ has_shutdown notes.old }
     ensures comms { comms_in notes.new ≡ comms_in notes.old }
 {
     let note = Note::Posted(wishes);
     notes.extend(&note);
-    match note {
-        Note::Posted(wishes) => wishes,
-        Note::Shut => unreachable!(),
-        Note::Asked => unreachable!(),
-        Note::Changed(_comms) => unreachable!(),
-    }
+    let Note::Posted(wishes) = note else {
+        unreachable!()
+    };
+    wishes
 }
 
 /// Notes which comms are open behind a change, and gives them back.
@@ -48,16 +48,15 @@ pub(crate) fn note_comms<L: HistoryName>(notes: &mut Keeper<Note, Beside<L>>, co
 {
     let note = Note::Changed(comms);
     notes.extend(&note);
-    match note {
-        Note::Changed(comms) => comms,
-        Note::Posted(_wishes) => unreachable!(),
-        Note::Shut => unreachable!(),
-        Note::Asked => unreachable!(),
-    }
+    let Note::Changed(comms) = note else {
+        unreachable!()
+    };
+    comms
 }
 
 /// Notes a shutdown.
 pub(crate) fn note_shutdown<L: HistoryName>(notes: &mut Keeper<Note, Beside<L>>)
+    ensures last { notes.new ≡ notes.old ++ Shut ∷ [] }
     ensures noted { wished_in notes.new ≡ wished_in notes.old }
     ensures shut { has_shutdown notes.new ≡ true }
     ensures comms { comms_in notes.new ≡ comms_in notes.old }
@@ -73,6 +72,33 @@ pub(crate) fn note_question<L: HistoryName>(notes: &mut Keeper<Note, Beside<L>>)
     ensures comms { comms_in notes.new ≡ comms_in notes.old }
 {
     notes.extend(&Note::Asked);
+}
+
+/// Notes what a turn was.
+pub(crate) fn note_turn<L: HistoryName>(notes: &mut Keeper<Note, Beside<L>>, turn: &Note)
+    requires { IsTurnNote turn.now }
+    ensures noted { notes.new ≡ notes.old ++ turn.now ∷ [] }
+    ensures wishes { wished_in notes.new ≡ wished_in notes.old }
+    ensures shut { has_shutdown notes.new ≡ has_shutdown notes.old }
+    ensures comms { comms_in notes.new ≡ comms_in notes.old }
+{
+    notes.extend(turn);
+}
+
+/// Notes what is told of the end of a job, and gives it back.
+pub(crate) fn note_told<L: HistoryName>(notes: &mut Keeper<Note, Beside<L>>, done: Done) -> Done
+    ensures same { result ≡ done }
+    ensures noted { notes.new ≡ notes.old ++ Told done ∷ [] }
+    ensures wishes { wished_in notes.new ≡ wished_in notes.old }
+    ensures shut { has_shutdown notes.new ≡ has_shutdown notes.old }
+    ensures comms { comms_in notes.new ≡ comms_in notes.old }
+{
+    let note = Note::Told(done);
+    notes.extend(&note);
+    let Note::Told(done) = note else {
+        unreachable!()
+    };
+    done
 }
 
 /// Shows all of the history and of the notes to passes, which end with them.
