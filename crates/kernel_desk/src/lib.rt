@@ -17,6 +17,7 @@
 #![tactic(auto)]
 
 mod hall_desk;
+mod laws;
 mod quiet;
 
 pub use hall_desk::HallDesk;
@@ -26,4 +27,5 @@ pub use kernel_hall::{
     work,
 };
 pub use kernel_session::{Desk, Socket, serve};
+pub use laws::shutdown_is_final_law;
 pub use quiet::QuietDesk;

@@ -4,7 +4,7 @@ use Rattle.kernel_audit.specs.Notes.{wished_in}
 use Rattle.hall_state.specs.PendingResults.{AreBeside, WasTold}
 use Rattle.hall_state.specs.declared.pending_result.PendingResult.{PendingResult}
 use Rattle.hall_state.proofs.BesidePosts.{beside_on, first_made, once_told, first_told, nowhere, nowhere_settled}
-use Rattle.hall_state.proofs.state.State.done.Goals as goal
+use Rattle.hall_state.proofs.state.State.take.Goals as goal
 
 pub invariant_of-self : goal.invariant_of-self
 invariant_of-self g c =
@@ -18,6 +18,7 @@ invariant_of-self g c =
       told = old.told;
       closes = old.closes;
       open_comms = old.open_comms;
+      course = old.course;
       beside = subst (λ (l : List PendingResult). ∥ AreBeside old.settled m.minutes wished l ∥₁)
           (sym (with_items_is old.pending_results c.fetch_first.new.pending_results (search (rules, places))))
           (beside_on old.settled m.minutes wished c.deref_mut.result.now c.fetch_first.new.pending_results c.args.number c.fetch_first.result b
@@ -37,6 +38,7 @@ invariant_of-self-else-is_first g c =
       told = old.told;
       closes = old.closes;
       open_comms = old.open_comms;
+      course = old.course;
       beside = subst (λ (l : List PendingResult). ∥ AreBeside old.settled m.minutes wished l ∥₁)
           (sym (with_items_is old.pending_results c.fetch.new.pending_results (search (rules, places))))
           (beside_on old.settled m.minutes wished c.deref_mut-else-is_first.result.now c.fetch.new.pending_results c.args.number c.fetch.result b
