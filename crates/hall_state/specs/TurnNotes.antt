@@ -1,5 +1,4 @@
 -- What is noted of a turn.
-use Rattle.std.specs.Prelude.{ℕ}
 use Rattle.kernel_audit.specs.declared.note.Note.{Note}
 use Rattle.kernel_audit.specs.declared.note.Note.TheVariants.{Began, Cut}
 

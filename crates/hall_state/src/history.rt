@@ -32,10 +32,15 @@ pub(crate) fn note_wishes<L: HistoryName>(
 {
     let note = Note::Posted(wishes);
     notes.extend(&note);
-    let Note::Posted(wishes) = note else {
-        unreachable!()
-    };
-    wishes
+    match note {
+        Note::Posted(wishes) => wishes,
+        Note::Shut => unreachable!(),
+        Note::Asked => unreachable!(),
+        Note::Changed(_comms) => unreachable!(),
+        Note::Began(_begun) => unreachable!(),
+        Note::Cut(_most, _is_asked, _sliced) => unreachable!(),
+        Note::Told(_done) => unreachable!(),
+    }
 }
 
 /// Notes which comms are open behind a change, and gives them back.
@@ -48,10 +53,15 @@ pub(crate) fn note_comms<L: HistoryName>(notes: &mut Keeper<Note, Beside<L>>, co
 {
     let note = Note::Changed(comms);
     notes.extend(&note);
-    let Note::Changed(comms) = note else {
-        unreachable!()
-    };
-    comms
+    match note {
+        Note::Changed(comms) => comms,
+        Note::Posted(_wishes) => unreachable!(),
+        Note::Shut => unreachable!(),
+        Note::Asked => unreachable!(),
+        Note::Began(_begun) => unreachable!(),
+        Note::Cut(_most, _is_asked, _sliced) => unreachable!(),
+        Note::Told(_done) => unreachable!(),
+    }
 }
 
 /// Notes a shutdown.
@@ -75,14 +85,14 @@ pub(crate) fn note_question<L: HistoryName>(notes: &mut Keeper<Note, Beside<L>>)
 }
 
 /// Notes what a turn was.
-pub(crate) fn note_turn<L: HistoryName>(notes: &mut Keeper<Note, Beside<L>>, turn: &Note)
-    requires { IsTurnNote turn.now }
-    ensures noted { notes.new ≡ notes.old ++ turn.now ∷ [] }
+pub(crate) fn note_turn<L: HistoryName>(notes: &mut Keeper<Note, Beside<L>>, turn: Note)
+    requires { IsTurnNote turn }
+    ensures noted { notes.new ≡ notes.old ++ turn ∷ [] }
     ensures wishes { wished_in notes.new ≡ wished_in notes.old }
     ensures shut { has_shutdown notes.new ≡ has_shutdown notes.old }
     ensures comms { comms_in notes.new ≡ comms_in notes.old }
 {
-    notes.extend(turn);
+    notes.extend(&turn);
 }
 
 /// Notes what is told of the end of a job, and gives it back.
@@ -95,10 +105,15 @@ pub(crate) fn note_told<L: HistoryName>(notes: &mut Keeper<Note, Beside<L>>, don
 {
     let note = Note::Told(done);
     notes.extend(&note);
-    let Note::Told(done) = note else {
-        unreachable!()
-    };
-    done
+    match note {
+        Note::Told(done) => done,
+        Note::Posted(_wishes) => unreachable!(),
+        Note::Shut => unreachable!(),
+        Note::Asked => unreachable!(),
+        Note::Changed(_comms) => unreachable!(),
+        Note::Began(_begun) => unreachable!(),
+        Note::Cut(_most, _is_asked, _sliced) => unreachable!(),
+    }
 }
 
 /// Shows all of the history and of the notes to passes, which end with them.

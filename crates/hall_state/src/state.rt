@@ -300,7 +300,7 @@ impl<W: Ledger, L: HistoryName> State<W, L> {
             ..
         } = self;
         let (turn, note) = noted_turn_on(kernel, bell, runner, m);
-        note_turn(notes, &note);
+        note_turn(notes, note);
         if turn.is_end() {
             follow(history, kernel);
             show_legal(&self.kernel);
@@ -406,8 +406,10 @@ impl<W: Ledger, L: HistoryName> State<W, L> {
         ensures kernel { self.new.kernel ≡ self.old.kernel }
         ensures comms { self.new.comms ≡ self.old.comms }
     {
-        let done = self.take(number, is_first)?;
-        Some(self.tell(pass, done))
+        match self.take(number, is_first) {
+            Some(done) => Some(self.tell(pass, done)),
+            None => None,
+        }
     }
 
     /// Tells a pass of an end that was taken, which is noted.

@@ -1,4 +1,4 @@
-use Rattle.std.proofs.Common.{length, ◌++◌, ◌∷◌, [], ap, subst, sym, ◌∙◌}
+use Rattle.std.proofs.Common.{◌++◌, ◌∷◌, [], ap, sym, ◌∙◌}
 use Rattle.kernel_audit.specs.Request.{request_of}
 use Rattle.kernel_audit.specs.Runs.{Machine}
 use Rattle.kernel_audit.specs.Notes.{wished_in}

@@ -1,4 +1,4 @@
-use Rattle.std.proofs.Common.{◌≡◌, ◌≤◌, ℕ, List, refl, ap, ◌∙◌, sym, subst, arith, length, ◌++◌, ◌∷◌, []}
+use Rattle.std.proofs.Common.{◌≡◌, ◌≤◌, List, refl, ap, ◌∙◌, sym, subst, arith, length, ◌++◌, ◌∷◌, []}
 use mathlib.Core.Logic.{∥∥₁_map}
 use Rattle.kernel_audit.specs.Request.{request_of}
 use Rattle.kernel_audit.specs.Minutes.{Entry, Posted, posted_in, ended_in}

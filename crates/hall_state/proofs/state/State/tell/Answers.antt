@@ -1,7 +1,7 @@
 use Rattle.std.proofs.Common.{List, [], ◌∷◌, ◌++◌, ap, sym, ◌∙◌}
 use Rattle.kernel_audit.specs.declared.note.Note.{Note}
 use Rattle.kernel_audit.specs.declared.note.Note.TheVariants.{Told}
-use Rattle.kernel_audit.specs.Passes.{PassOf, acted, next_act}
+use Rattle.kernel_audit.specs.Passes.{PassOf, next_act}
 use Rattle.kernel_audit.proofs.Fronts.{seen_on, seen_acted}
 use Rattle.hall_state.proofs.state.State.tell.Goals as goal
 
