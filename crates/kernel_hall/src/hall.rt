@@ -265,8 +265,8 @@ impl<W: Ledger, L: HistoryName> Hall<W, L> {
 
     /// `post` and `wait` in one, for who keeps no ticket: posts a job, waits until it has ended, and answers what came of it. Post and end stand in the
     /// minutes that the pass has seen now; the shown text and the values of these wishes are those of the kernel as the job ended. All that is told is the last
-    /// of the notes that the pass has seen now, so nothing of what was kept for this job is left out; and it is the one act of the pass. A refused post drops the
-    /// job and the wishes; the refusal is that of the kernel whose minutes the pass has seen now, which closes where the pass has seen a shutdown.
+    /// of the notes that the pass has seen now, so nothing of what was kept for this job is left out; and it is the one act of the pass. A refused post drops
+    /// the job and the wishes; the refusal is that of the kernel whose minutes the pass has seen now, which closes where the pass has seen a shutdown.
     pub fn run<R: Wait>(
         &self,
         rt: &R,
@@ -289,7 +289,8 @@ impl<W: Ledger, L: HistoryName> Hall<W, L> {
     }
 
     /// Waits until the job of this number has ended, whose end the pass has seen then. Where it asks as the first, what was made as the job ended goes
-    /// along, of the wishes that are noted of its post; nobody else waits for a job that is run so, or it would wait on. Else that goes along, or nothing of it.
+    /// along, of the wishes that are noted of its post; nobody else waits for a job that is run so, or it would wait on. Else that goes along, or nothing of
+    /// it.
     fn end_of<R: Wait>(&self, rt: &R, pass: &mut Pass<L>, number: u64, is_first: bool) -> Done
         ensures number { result.number ≡ number }
         ensures end { HasEnd pass.new.front result }
@@ -320,9 +321,9 @@ impl<W: Ledger, L: HistoryName> Hall<W, L> {
 
     /// Answers a question: `ask_on` under the lock, of the kernel whose minutes the pass has seen now, and of the comms that were open then: what it had seen
     /// is a beginning of them, and all its posts are among them. That kernel stands where the notes have led it that the pass has seen now, each turn of the
-    /// runner among them and the question last: so an answer is of that moment, in the midst of a job too, and not of an earlier one. The question is no act: it
-    /// shuts nothing, changes no comm, and takes nothing of what is to be told of an end. Whether code can be executed as it stands is told with the lock free.
-    /// The only refusal is `Memory`.
+    /// runner among them and the question last: so an answer is of that moment, in the midst of a job too, and not of an earlier one. The question is no act:
+    /// it shuts nothing, changes no comm, and takes nothing of what is to be told of an end. Whether code can be executed as it stands is told with the lock
+    /// free. The only refusal is `Memory`.
     pub fn ask<R: Wait>(
         &self,
         rt: &R,
@@ -350,8 +351,8 @@ impl<W: Ledger, L: HistoryName> Hall<W, L> {
         }
     }
 
-    /// Opens or closes a comm, and tells whether it did: `comm_on` under the lock, over the comms that were open then. The change is the last of the notes that the
-    /// pass has seen now, and the one act of the pass. The only refusal is `Memory`, of an opening.
+    /// Opens or closes a comm, and tells whether it did: `comm_on` under the lock, over the comms that were open then. The change is the last of the notes that
+    /// the pass has seen now, and the one act of the pass. The only refusal is `Memory`, of an opening.
     pub fn comm<R: Wait>(
         &self,
         rt: &R,
@@ -401,8 +402,8 @@ impl<W: Ledger, L: HistoryName> Hall<W, L> {
     }
 
     /// Ends the hall, once its threads are joined, and compares its minutes with what the frontends came away with: `State::close` of the
-    /// kernel. All that it is handed is spent either way. What each of the passes has seen is a beginning of these minutes, and of one list of notes. It takes no
-    /// memory.
+    /// kernel. All that it is handed is spent either way. What each of the passes has seen is a beginning of these minutes, and of one list of notes. It takes
+    /// no memory.
     pub fn close(
         self,
         passes: Vec<Pass<L>>,

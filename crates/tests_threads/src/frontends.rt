@@ -4,13 +4,13 @@
 //! `pass` gives the lane and the posts of a new pass, or why there is none; `passes` how many more there are, each on the next lane with no posts,
 //! and why there is no further one. `order` shows the minutes to the first pass and to the last one together, and gives what each of the two is answered then:
 //! how many minutes the hall has seen, and the shown world. `post` (a pass, and a job) gives the lane of the ticket, which of the posts of the pass it is, and
-//! its number; or why the post is refused, with the lane and the posts of the pass. A job is `undo` with a number, or a `cell` with its code. `names` (a pass, and a
-//! number) posts a cell that declares so many names, `v1`, `v2`, .. `wish` (names, each with an expression, parted by `;`, and behind a `|` what stands
-//! behind `post`) posts with user expressions. `wait` (a ticket) gives the number, the outcome, the
-//! counter, the node, the shown text and the values of its job; the pass of its lane waits. `state` (a pass) gives how many minutes the hall has
-//! seen and the shown world, `comms` (a pass) the same with the open comms; `open` and `close` (a pass, and an id) whether a comm was opened or
-//! closed. `shut` shuts the hall. `lose` loses the last pass, which it gives. `first` (a ticket) puts a ticket to the front of the others. `claim`
-//! (three numbers, and a code) claims a ticket of a cell. `alter` gives the outcome of the last end, and puts another one in its place.
+//! its number; or why the post is refused, with the lane and the posts of the pass. A job is `undo` with a number, or a `cell` with its code. `names` (a pass,
+//! and a number) posts a cell that declares so many names, `v1`, `v2`, .. `wish` (names, each with an expression, parted by `;`, and behind a `|` what stands
+//! behind `post`) posts with user expressions. `wait` (a ticket) gives the number, the outcome, the counter, the node, the shown text and the values of its
+//! job; the pass of its lane waits. `state` (a pass) gives how many minutes the hall has seen and the shown world, `comms` (a pass) the same with the open
+//! comms; `open` and `close` (a pass, and an id) whether a comm was opened or closed. `shut` shuts the hall. `lose` loses the last pass, which it gives.
+//! `first` (a ticket) puts a ticket to the front of the others. `claim` (three numbers, and a code) claims a ticket of a cell. `alter` gives the outcome of the
+//! last end, and puts another one in its place.
 use crate::lines::note;
 use kernel_hall::{
     Answer, Ask, CellText, CommChange, Content, Done, Hall, HallFault, HistoryName, Job, Outcome,
