@@ -29,7 +29,7 @@ returns-in-IsComplete-clause-answer g c =
 
 pub returns-in_default-clause-answer : goal.returns-in_default-clause-answer
 returns-in_default-clause-answer g c =
-    let k = c.deref.result.now.kernel.machine in
+    let k = c.deref-in_default.result.now.kernel.machine in
     let pass = c.take_question.new.pass in
     let same : c.take_question.new.self.kernel.machine ≡ k = search rules in
     answered c.ask.result k _ (comms_in pass.notes) pass c.args.ask c.ask.ensures.answer
