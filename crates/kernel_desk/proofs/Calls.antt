@@ -1,5 +1,5 @@
 -- What the hall says of a call, as the desk's relation has it.
-use Rattle.std.proofs.Common.{◌≡◌, ◌∙◌, ◌⊎◌, ℕ, ◌≤◌, Bool, true, true≢false, List, Result, Ok, Err, IfOk, IfErr, OnErr, refl, sym, ap, subst, ⊎_elim}
+use Rattle.std.proofs.Common.{◌≡◌, ◌∙◌, ◌⊎◌, ◌≤◌, Bool, true, true≢false, List, Result, Ok, Err, IfOk, IfErr, OnErr, refl, sym, ap, subst, ⊎_elim}
 use Rattle.kernel_hall.specs.Runs.{Machine, IsRefusal}
 use Rattle.kernel_hall.specs.Course.{IsKernelSeen}
 use Rattle.kernel_hall.specs.Minutes.{Entry, posted_in}

@@ -1,5 +1,5 @@
 -- Who has seen a shutdown has seen it at each later call.
-use Rattle.std.proofs.Common.{◌≡◌, true, List, [], ◌∷◌, Ok, Err, inr, sym, ap, subst}
+use Rattle.std.proofs.Common.{◌≡◌, true, List, [], ◌∷◌, Ok, Err, inr, sym, subst}
 use Rattle.kernel_hall.specs.Passes.{PassOf, HasSeen}
 use Rattle.kernel_hall.specs.Notes.{has_shutdown}
 use Rattle.kernel_hall.proofs.Noted.{shut_stays}
