@@ -1,7 +1,6 @@
 -- Notes lead to one machine, whose minutes tell what was posted.
-use Rattle.std.proofs.Common.{◌≡◌, ◌∙◌, ℕ, List, [], ◌∷◌, ◌++◌, Option, refl, sym, ap, subst, append_assoc, append-nil}
+use Rattle.std.proofs.Common.{◌≡◌, ◌∙◌, ℕ, List, [], ◌∷◌, ◌++◌, sym, ap, subst, append_assoc, append-nil}
 use mathlib.Core.List.{IsPrefix}
-use Rattle.kernel_machine.specs.State.{State}
 use Rattle.kernel_machine.specs.LegalState.{IsLegalState}
 use Rattle.kernel_machine.specs.Request.{Request}
 use Rattle.kernel_machine.specs.Minutes as minutes
