@@ -47,7 +47,8 @@ stands_behind old mid new m next job given number wished numbered is counted see
 
 -- a pass that first saw all minutes
 pub stands : (start old mid new : PassOf) (m next : Machine) (job : Request) (given : List WishOf) (number : ℕ) (wished : List (List WishOf))
-    → HasSeen start old → number ≡ suc (posted_in m.minutes) → next ≡ posted m old.lane job → mid ≡ pass_of old.lane (old.posts + 1) old.acts old.front old.notes
+    → HasSeen start old → number ≡ suc (posted_in m.minutes) → next ≡ posted m old.lane job
+    → mid ≡ pass_of old.lane (old.posts + 1) old.acts old.front old.notes
     → HasSeen mid new → new.front ≡ next.minutes → IsLegalMachine next → length wished ≡ posted_in m.minutes → wished_in new.notes ≡ wished ++ given ∷ []
     → has_shutdown new.notes ≡ false → old.front ≡ m.minutes → HasPosted start job given number new
 stands start old mid new m next job given number wished first numbered is counted seen front legal many all serving had =

@@ -44,9 +44,9 @@ use std::mem;
 use std::sync::ledger::{Book, Ledger};
 
 /// The lock's value. Its type keeps that the book is the number of posts in the minutes, that the minutes are the history, that a shutdown is noted where the
-/// kernel closes, that the open comms are those that are noted, that the kernel stands where the notes have led it, each turn of the runner among them, and that
-/// one pending result stands beside each post, of the wishes that are noted of it: those of the jobs that have ended are settled, but for the last one's while
-/// what is made for it is under way, and the others wait.
+/// kernel closes, that the open comms are those that are noted, that the kernel stands where the notes have led it, each turn of the runner among them, and
+/// that one pending result stands beside each post, of the wishes that are noted of it: those of the jobs that have ended are settled, but for the last one's
+/// while what is made for it is under way, and the others wait.
 ///
 /// What a frontend does here counts as an act of its pass, if it is no post: a shutdown, a change of the comms, or that it is told of an end.
 #[derive(Drop)]
@@ -381,8 +381,8 @@ impl<W: Ledger, L: HistoryName> State<W, L> {
     }
 
     /// What came of the job of this number; `None` where it has not ended, where what is made for it is under way, or where the first alone is to be told
-    /// and was told already. What was made as it ended is told once: of the wishes that are noted of its post. Who comes later is told nothing of it. That it is
-    /// told is an act of the pass, and all that is told is the last of the notes that it has seen then; where nothing is told the pass is as it was.
+    /// and was told already. What was made as it ended is told once: of the wishes that are noted of its post. Who comes later is told nothing of it. That it
+    /// is told is an act of the pass, and all that is told is the last of the notes that it has seen then; where nothing is told the pass is as it was.
     pub fn done(&mut self, pass: &mut Pass<L>, number: u64, is_first: bool) -> Option<Done>
         ensures number { IfSome result (λ d. d.number ≡ number) }
         ensures end { IfSome result (HasEnd self.old.kernel.machine.minutes) }
@@ -533,8 +533,8 @@ impl<W: Ledger, L: HistoryName> State<W, L> {
         ask_on(self.alloc, &self.kernel, &self.comms, ask)
     }
 
-    /// Opens or closes a comm for a pass, whose act it is, and tells whether it did: `comm_on` over the comms. Those that are open then are the last of the notes
-    /// that the pass has seen then.
+    /// Opens or closes a comm for a pass, whose act it is, and tells whether it did: `comm_on` over the comms. Those that are open then are the last of the
+    /// notes that the pass has seen then.
     pub fn comm(&mut self, pass: &mut Pass<L>, change: CommChange<'_>) -> Result<bool, HallFault>
         ensures change { IsNotedChange pass.old.notes change.entry result pass.new.notes }
         ensures seen { HasSeen pass.old pass.new }

@@ -7,7 +7,8 @@ use Rattle.hall_state.proofs.turn.noted_turn_on.Goals as goal
 pub returns-in-Inside-clause-posts : goal.returns-in-Inside-clause-posts
 returns-in-Inside-clause-posts g c =
     ap length
-    (slice_keeps_posts c.args.kernel.now.machine c.args.m c.asked-asked.result c.slice-sliced.result c.slice-sliced.new.self.machine c.slice-sliced.ensures.slice)
+    (slice_keeps_posts c.args.kernel.now.machine c.args.m c.asked-asked.result c.slice-sliced.result c.slice-sliced.new.self.machine
+    c.slice-sliced.ensures.slice)
 
 pub returns-in-Queued-clause-posts : goal.returns-in-Queued-clause-posts
 returns-in-Queued-clause-posts g c =
@@ -15,7 +16,8 @@ returns-in-Queued-clause-posts g c =
 
 pub returns-in-Idle-clause-posts : goal.returns-in-Idle-clause-posts
 returns-in-Idle-clause-posts g c =
-    ap length (begin_keeps_posts c.args.kernel.now.machine c.begin-begun-in-Idle.result c.begin-begun-in-Idle.new.self.machine c.begin-begun-in-Idle.ensures.begin)
+    ap length
+    (begin_keeps_posts c.args.kernel.now.machine c.begin-begun-in-Idle.result c.begin-begun-in-Idle.new.self.machine c.begin-begun-in-Idle.ensures.begin)
 
 pub returns-in-Inside-clause-ends : goal.returns-in-Inside-clause-ends
 returns-in-Inside-clause-ends g c =

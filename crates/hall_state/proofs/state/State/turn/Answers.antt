@@ -10,7 +10,8 @@ use Rattle.hall_state.specs.PendingResults.{AreBeside, AreKept}
 use Rattle.hall_state.specs.declared.pending_result.PendingResult.{PendingResult}
 use Rattle.hall_state.specs.declared.open_result.OpenResult.{OpenResult}
 use Rattle.hall_state.proofs.Turns.{just_ended, wrote_none}
-use Rattle.hall_state.proofs.BesidePosts.{one_is_open, all_settled, last_index, beside_opened, results_opened, order_from, kept_then, opens_kept, untold_through}
+use Rattle.hall_state.proofs.BesidePosts.{one_is_open, all_settled, last_index, beside_opened, results_opened, order_from}
+use Rattle.hall_state.proofs.BesidePosts.{kept_then, opens_kept, untold_through}
 use Rattle.hall_state.proofs.state.State.turn.Goals as goal
 
 pub open_last-opened-requires : goal.open_last-opened-requires
