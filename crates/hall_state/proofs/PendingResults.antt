@@ -31,7 +31,6 @@ use Rattle.hall_state.proofs.BesidePosts.{last_index, last_outcome}
 
 -- what a telling leaves of one, beside what it tells
 pub record IsLeft (kept left : PendingResult) : Type 0 where
-  pub posted : left.posted ≡ kept.posted
   pub ended : left.ended ≡ kept.ended
   pub wishes : left.wishes ≡ kept.wishes
 
@@ -67,7 +66,6 @@ told minutes es i n x left (Some d) low same rest t = record {
   none_shown = t.none_shown;
   no_values = t.no_values;
   told = t.told;
-  posted = rest.posted;
   ended = rest.ended;
   wishes = rest.wishes;
   others = ap (λ (j : ℕ). slice_set es j left) same;
@@ -172,14 +170,13 @@ opens m es end x left r is low index number place taken shown going = record {
 
 -- what was made for it is kept
 pub settles : (es : List PendingResult) (x left : PendingResult) (r : OpenResult) (values : Vec NamedValue) → r.index < length es →
-    left.posted ≡ (get_or es r.index x).posted → left.ended ≡ Some r.place → left.is_told ≡ false → left.shown ≡ r.shown → left.values ≡ values →
+    left.ended ≡ Some r.place → left.is_told ≡ false → left.shown ≡ r.shown → left.values ≡ values →
     ((o : Outcome) (s : Past) (given : List WishOf) → IsUnderWay o s given r.making → AreValuesAfter o s given values.items) →
     SettlesLast es (slice_set es r.index left) r
-settles es x left r values low posted ended untold shown same made = record {
+settles es x left r values low ended untold shown same made = record {
   kept = get_or es r.index x;
   left = left;
   there = slice_get-get_or es r.index x low;
-  posted = posted;
   ended = ended;
   untold = untold;
   shown = shown;

@@ -23,7 +23,7 @@ one_more m lane job =
 
 -- a pass that had seen all minutes and has posted, and then sees the minutes behind its post, and the notes behind its wishes
 stands_behind : (old mid new : PassOf) (m next : Machine) (job : Request) (given : List WishOf) (number : ℕ) (wished : List (List WishOf))
-    → number ≡ suc (posted_in m.minutes) → next ≡ posted m old.lane job → mid ≡ pass_of old.lane (old.posts + 1) old.front old.notes → HasSeen mid new
+    → number ≡ suc (posted_in m.minutes) → next ≡ posted m old.lane job → mid ≡ pass_of old.lane (old.posts + 1) old.acts old.front old.notes → HasSeen mid new
     → new.front ≡ next.minutes → IsLegalMachine next → length wished ≡ posted_in m.minutes → wished_in new.notes ≡ wished ++ given ∷ []
     → has_shutdown new.notes ≡ false → old.front ≡ m.minutes → HasPosted old job given number new
 stands_behind old mid new m next job given number wished numbered is counted seen front legal many all serving had =
@@ -47,7 +47,8 @@ stands_behind old mid new m next job given number wished numbered is counted see
 
 -- a pass that first saw all minutes
 pub stands : (start old mid new : PassOf) (m next : Machine) (job : Request) (given : List WishOf) (number : ℕ) (wished : List (List WishOf))
-    → HasSeen start old → number ≡ suc (posted_in m.minutes) → next ≡ posted m old.lane job → mid ≡ pass_of old.lane (old.posts + 1) old.front old.notes
+    → HasSeen start old → number ≡ suc (posted_in m.minutes) → next ≡ posted m old.lane job
+    → mid ≡ pass_of old.lane (old.posts + 1) old.acts old.front old.notes
     → HasSeen mid new → new.front ≡ next.minutes → IsLegalMachine next → length wished ≡ posted_in m.minutes → wished_in new.notes ≡ wished ++ given ∷ []
     → has_shutdown new.notes ≡ false → old.front ≡ m.minutes → HasPosted start job given number new
 stands start old mid new m next job given number wished first numbered is counted seen front legal many all serving had =

@@ -1,4 +1,5 @@
 pub mod Turns
+pub mod TurnNotes
 pub mod JustEnded
 pub mod OpenResults
 pub mod PendingResults
@@ -9,6 +10,7 @@ pub use Rattle.kernel_audit.specs.HistoryNames
 pub use Rattle.kernel_audit.specs.Ends
 pub use Rattle.kernel_audit.specs.Passes
 pub use Rattle.kernel_audit.specs.Notes
+pub use Rattle.kernel_audit.specs.Course
 pub use Rattle.kernel_audit.specs.declared.note
 pub use Rattle.kernel_audit.specs.CommChanges
 pub use Rattle.kernel_audit.specs.Audit

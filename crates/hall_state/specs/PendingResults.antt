@@ -42,21 +42,15 @@ pub record WereMade (minutes : List Entry) (n : ℕ) (o : Outcome) (given : List
 
 -- ---- beside one post
 
--- its job has not ended: the wishes are kept, and there is room for their values
+-- it is of a post with these wishes, whose job has not ended: they are kept, and there is room for their values
 pub record IsWaiting (given : List WishOf) (e : PendingResult) : Type 0 where
   pub ended : e.ended ≡ None
   pub wishes : e.wishes.items ≡ given
   pub empty : e.values.items ≡ []
   pub room : vec_len e.wishes ≤ vec_capacity e.values
 
--- it is of a post at this place of the minutes, with these wishes, whose job has not ended
-pub record IsNewPending (place : ℕ) (given : List WishOf) (e : PendingResult) : Type 0 where
-  pub posted : e.posted ≡ place
-  pub waiting : IsWaiting given e
-
 -- its wishes and the room for their values are taken out of it, for what is made of them
 pub record IsTakenOut (old new : PendingResult) : Type 0 where
-  pub posted : new.posted ≡ old.posted
   pub ended : new.ended ≡ old.ended
 
 -- its job has this number and has ended: its end stands in the minutes, and what was made is kept until it is told, and not longer
@@ -102,7 +96,6 @@ pub record IsTold (minutes : List Entry) (old : List PendingResult) (n : ℕ) (d
   pub none_shown : left.shown ≡ None
   pub no_values : left.values.items ≡ []
   pub told : left.is_told ≡ true
-  pub posted : left.posted ≡ kept.posted
   pub ended : left.ended ≡ kept.ended
   pub wishes : left.wishes ≡ kept.wishes
   pub others : new ≡ slice_set old (n - 1) left
@@ -159,7 +152,6 @@ pub record SettlesLast (old new : List PendingResult) (r : OpenResult) : Type 0 
   pub kept : PendingResult
   pub left : PendingResult
   pub there : slice_get old r.index ≡ Some kept
-  pub posted : left.posted ≡ kept.posted
   pub ended : left.ended ≡ Some r.place
   pub untold : left.is_told ≡ false
   pub shown : left.shown ≡ r.shown

@@ -3,10 +3,11 @@ ghost use Rattle.std.specs.Prelude.{◌≡◌, ◌++◌, ◌∷◌, [], All, map
 ghost use mathlib.Core.List.{IsPrefix};
 ghost use Rattle.kernel_audit.specs.Minutes as minutes;
 ghost use Rattle.kernel_audit.specs.Notes.{wished_in, has_shutdown, comms_in};
-ghost use Rattle.kernel_audit.specs.declared.note.Note.TheVariants.{Asked, Changed};
+ghost use Rattle.kernel_audit.specs.declared.note.Note.TheVariants.{Posted, Shut, Asked, Changed, Told};
+ghost use Rattle.hall_state.specs.TurnNotes.{IsTurnNote};
 ghost use Rattle.kernel_audit.specs.Written.{entry_of};
 
-use kernel_audit::{Beside, Comms, Entry, HistoryName, Keeper, Kernel, Note, Pass, Wish};
+use kernel_audit::{Beside, Comms, Done, Entry, HistoryName, Keeper, Kernel, Note, Pass, Wish};
 use std::sync::ledger::{Book, Ledger};
 
 /// Adds the entry to the history that the kernel wrote last.
@@ -24,6 +25,7 @@ pub(crate) fn note_wishes<L: HistoryName>(
     wishes: Vec<Wish>,
 ) -> Vec<Wish>
     ensures wishes { result ≡ wishes }
+    ensures last { notes.new ≡ notes.old ++ Posted wishes ∷ [] }
     ensures noted { wished_in notes.new ≡ wished_in notes.old ++ wishes.items ∷ [] }
     ensures shut { has_shutdown notes.new ≡ has_shutdown notes.old }
     ensures comms { comms_in notes.new ≡ comms_in notes.old }
@@ -35,6 +37,9 @@ pub(crate) fn note_wishes<L: HistoryName>(
         Note::Shut => unreachable!(),
         Note::Asked => unreachable!(),
         Note::Changed(_comms) => unreachable!(),
+        Note::Began(_begun) => unreachable!(),
+        Note::Cut(_most, _is_asked, _sliced) => unreachable!(),
+        Note::Told(_done) => unreachable!(),
     }
 }
 
@@ -53,11 +58,15 @@ pub(crate) fn note_comms<L: HistoryName>(notes: &mut Keeper<Note, Beside<L>>, co
         Note::Posted(_wishes) => unreachable!(),
         Note::Shut => unreachable!(),
         Note::Asked => unreachable!(),
+        Note::Began(_begun) => unreachable!(),
+        Note::Cut(_most, _is_asked, _sliced) => unreachable!(),
+        Note::Told(_done) => unreachable!(),
     }
 }
 
 /// Notes a shutdown.
 pub(crate) fn note_shutdown<L: HistoryName>(notes: &mut Keeper<Note, Beside<L>>)
+    ensures last { notes.new ≡ notes.old ++ Shut ∷ [] }
     ensures noted { wished_in notes.new ≡ wished_in notes.old }
     ensures shut { has_shutdown notes.new ≡ true }
     ensures comms { comms_in notes.new ≡ comms_in notes.old }
@@ -73,6 +82,38 @@ pub(crate) fn note_question<L: HistoryName>(notes: &mut Keeper<Note, Beside<L>>)
     ensures comms { comms_in notes.new ≡ comms_in notes.old }
 {
     notes.extend(&Note::Asked);
+}
+
+/// Notes what a turn was.
+pub(crate) fn note_turn<L: HistoryName>(notes: &mut Keeper<Note, Beside<L>>, turn: Note)
+    requires { IsTurnNote turn }
+    ensures noted { notes.new ≡ notes.old ++ turn ∷ [] }
+    ensures wishes { wished_in notes.new ≡ wished_in notes.old }
+    ensures shut { has_shutdown notes.new ≡ has_shutdown notes.old }
+    ensures comms { comms_in notes.new ≡ comms_in notes.old }
+{
+    notes.extend(&turn);
+}
+
+/// Notes what is told of the end of a job, and gives it back.
+pub(crate) fn note_told<L: HistoryName>(notes: &mut Keeper<Note, Beside<L>>, done: Done) -> Done
+    ensures same { result ≡ done }
+    ensures noted { notes.new ≡ notes.old ++ Told done ∷ [] }
+    ensures wishes { wished_in notes.new ≡ wished_in notes.old }
+    ensures shut { has_shutdown notes.new ≡ has_shutdown notes.old }
+    ensures comms { comms_in notes.new ≡ comms_in notes.old }
+{
+    let note = Note::Told(done);
+    notes.extend(&note);
+    match note {
+        Note::Told(done) => done,
+        Note::Posted(_wishes) => unreachable!(),
+        Note::Shut => unreachable!(),
+        Note::Asked => unreachable!(),
+        Note::Changed(_comms) => unreachable!(),
+        Note::Began(_begun) => unreachable!(),
+        Note::Cut(_most, _is_asked, _sliced) => unreachable!(),
+    }
 }
 
 /// Shows all of the history and of the notes to passes, which end with them.

@@ -5,8 +5,9 @@
 //! are those of the kernel that is here. Each post is counted by its pass and in a ledger, whose book is the number of posts in the minutes;
 //! what is made as a job ends is that of the kernel as it is then, for the wishes that were posted with it, in pieces between which the lock may be
 //! free, and is told once; and at the end the minutes are compared with what the frontends came away with. The minutes are one history, and so are the
-//! notes beside them, of the wishes, of a shutdown, of the questions and of the open comms: what a pass sees begins with all that it had seen, and what two
-//! passes have seen stands in one order (`State::in_one_order`).
+//! notes beside them, of the wishes, of shutdowns, of the questions, of the open comms, of each turn of the runner and of what was told of ends: what a pass
+//! sees begins with all that it had seen, and what two passes have seen stands in one order (`State::in_one_order`). The kernel stands where these notes have
+//! led it. Shutdowns, changes of the comms and ends that are told are counted in the pass by which they are done.
 //!
 //! `state` has all of it. `turn` is what the runner does with the kernel and the bell, `pending_result` what stands beside a post, `open_result` what is
 //! being made for a job that has ended, `passes` who may post, `history` how the history follows the minutes, `minutes` what is left at the end.

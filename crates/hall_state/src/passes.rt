@@ -38,13 +38,13 @@ impl<L: HistoryName> Passes<L> {
         Passes { given: 0, rest }
     }
 
-    /// One more pass, with no posts, on the next lane, which has seen all of the history and of the notes; `None` where all are given.
+    /// One more pass, with no posts and no acts, on the next lane, which has seen all of the history and of the notes; `None` where all are given.
     pub fn next(
         &mut self,
         history: &mut Keeper<Entry, L>,
         notes: &mut Keeper<Note, Beside<L>>,
     ) -> Option<Pass<L>>
-        ensures pass { IfSome result (λ p. p ≡ pass_of (self.old + 1) 0 (map entry_of history.old) notes.old) }
+        ensures pass { IfSome result (λ p. p ≡ pass_of (self.old + 1) 0 0 (map entry_of history.old) notes.old) }
         ensures lane { IfSome result (λ p. (1 ≤ p.lane) × (p.lane ≤ PASSES)) }
         ensures some { IfSome result (λ p. self.new ≡ self.old + 1) }
         ensures none { IfNone result ((self.old ≡ PASSES) × (self.new ≡ self.old)) }

@@ -5,7 +5,7 @@ ghost use Rattle.kernel_audit.specs.Written.{entry_of};
 ghost use Rattle.kernel_audit.specs.EndedAt.{StandsAtEnd};
 ghost use Rattle.kernel_audit.specs.Ends.{HasEnd};
 ghost use Rattle.kernel_audit.specs.Making.{IsUnderWay, left_of};
-ghost use Rattle.hall_state.specs.PendingResults.{IsNewPending, IsTold, IsTakenOut, OpensLast, SettlesLast, IsBehind, IsUntold, IsToldOrEndless, HasNoEnd};
+ghost use Rattle.hall_state.specs.PendingResults.{IsWaiting, IsTold, IsTakenOut, OpensLast, SettlesLast, IsBehind, IsUntold, IsToldOrEndless, HasNoEnd};
 ghost use Rattle.hall_state.specs.LastEnds.{IsLastEnd, EndsNoNumber, StandsAt, IsEndAt, last_of};
 ghost use Rattle.hall_state.specs.declared.pending_result.PendingResult.{PendingResult};
 
@@ -17,11 +17,10 @@ use std::alloc::Global;
 use std::mem;
 use std::sync::ledger::Ledger;
 
-/// What stands beside a post, with no fact kept of it: where the minutes have the post and its end, its wishes until it ends, and what
+/// What stands beside a post, with no fact kept of it: where the minutes have the end of its job, its wishes until it ends, and what
 /// was made as it ended until the first wait.
 #[derive(Drop)]
 pub struct PendingResult {
-    posted: usize,
     ended: Option<usize>,
     is_told: bool,
     wishes: Vec<Wish>,
@@ -31,14 +30,13 @@ pub struct PendingResult {
 }
 
 impl PendingResult {
-    /// For a post at this place of the minutes, with room for the values of its wishes.
-    pub(crate) fn new(posted: usize, wishes: Vec<Wish>, room: Vec<NamedValue>) -> PendingResult
+    /// For a post, with room for the values of its wishes.
+    pub(crate) fn new(wishes: Vec<Wish>, room: Vec<NamedValue>) -> PendingResult
         requires empty { room.items ≡ [] }
         requires room { vec_len wishes ≤ vec_capacity room }
-        ensures { IsNewPending posted wishes.items result }
+        ensures { IsWaiting wishes.items result }
     {
         PendingResult {
-            posted,
             ended: None,
             is_told: false,
             wishes,
@@ -61,7 +59,6 @@ impl PendingResult {
 
     /// Keeps what was made for it, and takes down at which place of the minutes the job has ended.
     fn settle(&mut self, place: usize, shown: Option<String>, values: Vec<NamedValue>)
-        ensures posted { self.new.posted ≡ self.old.posted }
         ensures ended { self.new.ended ≡ Some place }
         ensures untold { self.new.is_told ≡ false }
         ensures shown { self.new.shown ≡ shown }
@@ -83,7 +80,6 @@ impl PendingResult {
         ensures none_shown { IfSome result (λ d. self.new.shown ≡ None) }
         ensures no_values { IfSome result (λ d. self.new.values.items ≡ []) }
         ensures told { IfSome result (λ d. self.new.is_told ≡ true) }
-        ensures posted { self.new.posted ≡ self.old.posted }
         ensures ended { self.new.ended ≡ self.old.ended }
         ensures wishes { self.new.wishes ≡ self.old.wishes }
         ensures none { IfNone result (self.new ≡ self.old) }

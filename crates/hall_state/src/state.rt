@@ -10,25 +10,29 @@ ghost use Rattle.kernel_audit.specs.outcome.Phase.TheVariants.{Idle};
 ghost use Rattle.kernel_audit.specs.Answer.{IsAnswer};
 ghost use Rattle.kernel_audit.specs.CommChanges.{IsChange};
 ghost use Rattle.kernel_audit.specs.Written.{entry_of};
-ghost use Rattle.kernel_audit.specs.Notes.{wished_in, has_shutdown, comms_in, IsNotedQuestion};
-ghost use Rattle.kernel_audit.specs.declared.note.Note.TheVariants.{Asked, Changed};
-ghost use Rattle.kernel_audit.specs.Passes.{pass_of, HasSeen, AreInOneOrder, HaveOneNumbering, HasPosted};
+ghost use Rattle.kernel_audit.specs.Notes.{wished_in, has_shutdown, comms_in, IsNotedQuestion, IsNotedChange, IsNotedEnd};
+ghost use Rattle.kernel_audit.specs.Course.{GoesBy, HasCome, IsKernelSeen};
+ghost use Rattle.kernel_audit.specs.declared.note.Note.{Note};
+ghost use Rattle.kernel_audit.specs.declared.note.Note.TheVariants.{Posted, Asked, Changed, Told};
+ghost use Rattle.kernel_audit.specs.Passes.{pass_of, next_act, HasSeen, AreInOneOrder, HaveOneNumbering, HasPosted};
 ghost use Rattle.hall_state.specs.Turns.{IsTurn};
 ghost use Rattle.hall_state.specs.OpenResults.{AreSettled, left_in};
-ghost use Rattle.hall_state.specs.PendingResults.{IsNewPending, IsTold, IsToldOnce, WasTold, AreKept, AreUntold, AreBeside, WereMade};
+ghost use Rattle.hall_state.specs.PendingResults.{IsWaiting, IsTold, IsToldOnce, WasTold, AreKept, AreUntold, AreBeside, WereMade};
 ghost use Rattle.hall_state.specs.LastEnds.{EndsNowhere};
 ghost use Rattle.hall_state.specs.declared.limit.TheConstants.{PASSES, WISHES_OF_A_PIECE};
 ghost use Rattle.hall_state.specs.declared.pending_result.PendingResult.{PendingResult};
 ghost use Rattle.kernel_audit.specs.Ends.{HasEnd};
 ghost use Rattle.kernel_audit.specs.Audit.{Audited, IsAuditFault};
 
-use crate::history::{follow, note_comms, note_question, note_shutdown, note_wishes, show_all};
+use crate::history::{
+    follow, note_comms, note_question, note_shutdown, note_told, note_turn, note_wishes, show_all,
+};
 use crate::limit::WISHES_OF_A_PIECE;
 use crate::minutes::Minutes;
 use crate::open_result::OpenResult;
 use crate::passes::Passes;
 use crate::pending_result::{PendingResult, fetch, fetch_first, open_last, settle_last};
-use crate::turn::{Turn, turn_on};
+use crate::turn::{Turn, noted_turn_on};
 use kernel_audit::{
     Answer, Ask, AuditFault, Beside, CommChange, Comms, Done, Entry, Front, HallFault, HistoryName,
     Job, Keeper, Kernel, NamedValue, NewHistory, Note, Pass, Phase, PostFault, SpentWishes, Ticket,
@@ -40,8 +44,11 @@ use std::mem;
 use std::sync::ledger::{Book, Ledger};
 
 /// The lock's value. Its type keeps that the book is the number of posts in the minutes, that the minutes are the history, that a shutdown is noted where the
-/// kernel closes, that the open comms are those that are noted, and that one pending result stands beside each post, of the wishes that are noted of it: those
-/// of the jobs that have ended are settled, but for the last one's while what is made for it is under way, and the others wait.
+/// kernel closes, that the open comms are those that are noted, that the kernel stands where the notes have led it, each turn of the runner among them, and
+/// that one pending result stands beside each post, of the wishes that are noted of it: those of the jobs that have ended are settled, but for the last one's
+/// while what is made for it is under way, and the others wait.
+///
+/// What a frontend does here counts as an act of its pass, if it is no post: a shutdown, a change of the comms, or that it is told of an end.
 #[derive(Drop)]
 pub struct State<W: Ledger, L: HistoryName> {
     kernel: Kernel<W>,
@@ -59,6 +66,7 @@ pub struct State<W: Ledger, L: HistoryName> {
     pub ghost told: { map entry_of history ≡ kernel.machine.minutes },
     pub ghost closes: { has_shutdown notes ≡ kernel.machine.closing },
     pub ghost open_comms: { comms_in notes ≡ comms },
+    pub ghost course: { ∥ HasCome notes kernel.machine ∥₁ },
     pub ghost beside: { ∥ AreBeside settled kernel.machine.minutes (wished_in notes) pending_results.items ∥₁ },
     pub ghost results: { ∥ AreSettled settled kernel.machine (wished_in notes) under_way ∥₁ },
 }
@@ -81,6 +89,7 @@ impl<W: Ledger, L: HistoryName> State<W, L> {
         ensures kernel { result.kernel ≡ kernel }
         ensures comms { result.comms ≡ [] }
     {
+        show_legal(&kernel);
         State {
             kernel,
             comms: Comms::new(alloc),
@@ -113,11 +122,12 @@ impl<W: Ledger, L: HistoryName> State<W, L> {
         ensures left { OnErr result (wishes.new ≡ wishes.old) }
         ensures kernel { OnErr result (self.new.kernel.machine ≡ self.old.kernel.machine) }
         ensures pass { OnErr result (HasSeen pass.old pass.new) }
+        ensures acts { pass.new.acts ≡ pass.old.acts }
         ensures front { pass.new.front ≡ self.new.kernel.machine.minutes }
         ensures closing { has_shutdown pass.new.notes ≡ self.old.kernel.machine.closing }
         ensures comms { self.new.comms ≡ self.old.comms }
         ensures pending_result { IfOk result
-            (λ n. (e : PendingResult) × IsNewPending (length self.old.kernel.machine.minutes) wishes.old.items e
+            (λ n. (e : PendingResult) × IsWaiting wishes.old.items e
             × (self.new.pending_results.items ≡ self.old.pending_results.items ++ e ∷ [])) }
         ensures pending_results { OnErr result (self.new.pending_results.items ≡ self.old.pending_results.items) }
         ensures legal { IsLegalMachine self.old.kernel.machine }
@@ -137,6 +147,7 @@ impl<W: Ledger, L: HistoryName> State<W, L> {
     pub fn refuse(&mut self, pass: &mut Pass<L>) -> PostFault
         ensures refusal { IsRefusal self.old.kernel.machine result }
         ensures pass { HasSeen pass.old pass.new }
+        ensures acts { pass.new.acts ≡ pass.old.acts }
         ensures front { pass.new.front ≡ self.old.kernel.machine.minutes }
         ensures closing { has_shutdown pass.new.notes ≡ self.old.kernel.machine.closing }
         ensures kernel { self.new.kernel ≡ self.old.kernel }
@@ -149,6 +160,7 @@ impl<W: Ledger, L: HistoryName> State<W, L> {
     /// Shows the minutes to a pass, and the notes beside them. What it had seen is a beginning of them, and all its posts are among them.
     pub fn see(&mut self, pass: &mut Pass<L>)
         ensures seen { HasSeen pass.old pass.new }
+        ensures acts { pass.new.acts ≡ pass.old.acts }
         ensures front { pass.new.front ≡ self.old.kernel.machine.minutes }
         ensures notes { pass.new.notes ≡ self.old.notes }
         ensures same_notes { self.new.notes ≡ self.old.notes }
@@ -170,10 +182,13 @@ impl<W: Ledger, L: HistoryName> State<W, L> {
         pass.see(book, history, notes);
     }
 
-    /// Shows the minutes to a pass that asks a question, and the notes, of which the question is the last: so it is answered of what stands here now.
+    /// Shows the minutes to a pass that asks a question, and the notes, of which the question is the last: so it is answered of what stands here now. The
+    /// question is no act.
     pub fn take_question(&mut self, pass: &mut Pass<L>)
         ensures noted { IsNotedQuestion pass.old.notes pass.new.notes }
         ensures seen { HasSeen pass.old pass.new }
+        ensures acts { pass.new.acts ≡ pass.old.acts }
+        ensures kernel_seen { IsKernelSeen pass.new self.new.kernel.machine }
         ensures front { pass.new.front ≡ self.old.kernel.machine.minutes }
         ensures own { pass.new.posts ≤ posted_in self.old.kernel.machine.minutes }
         ensures open_comms { comms_in pass.new.notes ≡ self.new.comms }
@@ -205,6 +220,7 @@ impl<W: Ledger, L: HistoryName> State<W, L> {
         ensures numbers { HaveOneNumbering a.old b.old }
         ensures first { HasSeen a.old a.new }
         ensures second { HasSeen b.old b.new }
+        ensures acts { (a.new.acts ≡ a.old.acts) × (b.new.acts ≡ b.old.acts) }
         ensures kernel { self.new.kernel ≡ self.old.kernel }
         ensures comms { self.new.comms ≡ self.old.comms }
         ensures notes { self.new.notes ≡ self.old.notes }
@@ -227,7 +243,7 @@ impl<W: Ledger, L: HistoryName> State<W, L> {
         ensures serves { OnOk result (self.old.kernel.machine.closing ≡ false) }
         ensures number { IfOk result (λ n. n ≡ suc (posted_in self.old.kernel.machine.minutes)) }
         ensures posted { IfOk result (λ n. self.new.kernel.machine ≡ posted self.old.kernel.machine pass.old.lane (request_of job)) }
-        ensures counted { IfOk result (λ n. pass.new ≡ pass_of pass.old.lane (pass.old.posts + 1) pass.old.front pass.old.notes) }
+        ensures counted { IfOk result (λ n. pass.new ≡ pass_of pass.old.lane (pass.old.posts + 1) pass.old.acts pass.old.front pass.old.notes) }
         ensures wished { IfOk result (λ n. wished_in self.new.notes ≡ wished_in self.old.notes ++ wishes.old.items ∷ []) }
         ensures refusal { IfErr result (IsRefusal self.old.kernel.machine) }
         ensures left { OnErr result (wishes.new ≡ wishes.old) }
@@ -235,7 +251,7 @@ impl<W: Ledger, L: HistoryName> State<W, L> {
         ensures pass { OnErr result (pass.new ≡ pass.old) }
         ensures comms { self.new.comms ≡ self.old.comms }
         ensures pending_result { IfOk result
-            (λ n. (e : PendingResult) × IsNewPending (length self.old.kernel.machine.minutes) wishes.old.items e
+            (λ n. (e : PendingResult) × IsWaiting wishes.old.items e
             × (self.new.pending_results.items ≡ self.old.pending_results.items ++ e ∷ [])) }
         ensures pending_results { OnErr result (self.new.pending_results.items ≡ self.old.pending_results.items) }
     {
@@ -252,18 +268,17 @@ impl<W: Ledger, L: HistoryName> State<W, L> {
         if pending_results.reserve(1).is_err() {
             return Err(refusal_of(kernel));
         }
-        let place = kernel.minutes().len();
         let number = kernel.post(pass.lane(), job)?;
         follow(history, kernel);
         let wishes = note_wishes(notes, taken(*alloc, wishes));
         let room = taken(*alloc, room);
-        pending_results.push_reserved(PendingResult::new(place, wishes, room));
+        pending_results.push_reserved(PendingResult::new(wishes, room));
         pass.count(book);
         Ok(number)
     }
 
-    /// One turn of the runner, by the bell that the type names. In a turn that ends a job its shown text and the first of its values are made. What was under way of an earlier job is
-    /// finished first.
+    /// One turn of the runner, by the bell that the type names, which is noted. In a turn that ends a job its shown text and the first of its values are made.
+    /// What was under way of an earlier job is finished first.
     pub fn turn(&mut self, bell: &Bell, runner: &mut RunnerSeat, m: u64) -> Turn
         requires own { runner.old.bell ≡ bell.now }
         requires bell { bell.now ≡ L.bell }
@@ -271,7 +286,8 @@ impl<W: Ledger, L: HistoryName> State<W, L> {
         ensures turn { IsTurn self.old.kernel.machine runner.old m result self.new.kernel.machine runner.new }
         ensures legal { IsLegalMachine self.old.kernel.machine }
         ensures comms { self.new.comms ≡ self.old.comms }
-        ensures notes { self.new.notes ≡ self.old.notes }
+        ensures noted { (note : Note) × (self.new.notes ≡ self.old.notes ++ note ∷ [])
+            × GoesBy note self.old.kernel.machine self.new.kernel.machine }
         ensures kept { AreKept self.old.settled self.old.pending_results.items self.new.pending_results.items }
         ensures untold { AreUntold self.old.settled self.new.settled self.new.pending_results.items }
     {
@@ -280,9 +296,11 @@ impl<W: Ledger, L: HistoryName> State<W, L> {
         let State {
             kernel,
             history,
+            notes,
             ..
         } = self;
-        let turn = turn_on(kernel, bell, runner, m);
+        let (turn, note) = noted_turn_on(kernel, bell, runner, m);
+        note_turn(notes, note);
         if turn.is_end() {
             follow(history, kernel);
             show_legal(&self.kernel);
@@ -363,8 +381,72 @@ impl<W: Ledger, L: HistoryName> State<W, L> {
     }
 
     /// What came of the job of this number; `None` where it has not ended, where what is made for it is under way, or where the first alone is to be told
-    /// and was told already. What was made as it ended is told once: of the wishes that are noted of its post. Who comes later is told nothing of it.
-    pub fn done(&mut self, number: u64, is_first: bool) -> Option<Done>
+    /// and was told already. What was made as it ended is told once: of the wishes that are noted of its post. Who comes later is told nothing of it. That it
+    /// is told is an act of the pass, and all that is told is the last of the notes that it has seen then; where nothing is told the pass is as it was.
+    pub fn done(&mut self, pass: &mut Pass<L>, number: u64, is_first: bool) -> Option<Done>
+        ensures number { IfSome result (λ d. d.number ≡ number) }
+        ensures end { IfSome result (HasEnd self.old.kernel.machine.minutes) }
+        ensures told { IfSome result (λ d. IsTold self.old.kernel.machine.minutes self.old.pending_results.items number d self.new.pending_results.items) }
+        ensures none { IfNone result (self.new.pending_results.items ≡ self.old.pending_results.items) }
+        ensures unended { IfNone result (is_first ≡ false → self.old.under_way ≡ None → EndsNowhere self.old.kernel.machine.minutes number) }
+        // Of what is settled the end is told, whatever is under way.
+        ensures settled { IfNone result (is_first ≡ false → number ≤ self.old.settled → EndsNowhere self.old.kernel.machine.minutes number) }
+        // To the first all is told that is settled and was not told.
+        ensures first { IfNone result (is_first ≡ true → WasTold self.old.settled self.old.pending_results.items number) }
+        ensures made { IfSome result (λ d. is_first ≡ true → ∥ WereMade self.old.kernel.machine.minutes d.number d.outcome
+            (get_or (wished_in self.old.notes) (number - 1) []) (option_map string_bytes d.shown) d.values.items ∥₁) }
+        ensures once { IfSome result (λ d. ∥ IsToldOnce self.old.kernel.machine.minutes (get_or (wished_in self.old.notes) (number - 1) []) d ∥₁) }
+        ensures noted { IfSome result (λ d. IsNotedEnd pass.old.notes d pass.new.notes) }
+        ensures wishes { IfSome result (λ d. wished_in pass.new.notes ≡ wished_in self.old.notes) }
+        ensures front { IfSome result (λ d. pass.new.front ≡ self.old.kernel.machine.minutes) }
+        ensures seen { IfSome result (λ d. HasSeen pass.old pass.new) }
+        ensures acts { IfSome result (λ d. pass.new.acts ≡ next_act pass.old.acts) }
+        ensures waits { IfNone result (pass.new ≡ pass.old) }
+        ensures legal { IsLegalMachine self.old.kernel.machine }
+        ensures kernel { self.new.kernel ≡ self.old.kernel }
+        ensures comms { self.new.comms ≡ self.old.comms }
+    {
+        match self.take(number, is_first) {
+            Some(done) => Some(self.tell(pass, done)),
+            None => None,
+        }
+    }
+
+    /// Tells a pass of an end that was taken, which is noted.
+    fn tell(&mut self, pass: &mut Pass<L>, done: Done) -> Done
+        ensures same { result ≡ done }
+        ensures noted { IsNotedEnd pass.old.notes done pass.new.notes }
+        ensures wishes { wished_in pass.new.notes ≡ wished_in self.old.notes }
+        ensures front { pass.new.front ≡ self.old.kernel.machine.minutes }
+        ensures seen { HasSeen pass.old pass.new }
+        ensures acts { pass.new.acts ≡ next_act pass.old.acts }
+        ensures legal { IsLegalMachine self.old.kernel.machine }
+        ensures kernel { self.new.kernel ≡ self.old.kernel }
+        ensures comms { self.new.comms ≡ self.old.comms }
+        ensures pending_results { self.new.pending_results ≡ self.old.pending_results }
+    {
+        self.see(pass);
+        let done = self.note_end(done);
+        pass.act();
+        self.see(pass);
+        done
+    }
+
+    /// Notes what is told of an end.
+    fn note_end(&mut self, done: Done) -> Done
+        ensures same { result ≡ done }
+        ensures noted { self.new.notes ≡ self.old.notes ++ Told done ∷ [] }
+        ensures wishes { wished_in self.new.notes ≡ wished_in self.old.notes }
+        ensures kernel { self.new.kernel ≡ self.old.kernel }
+        ensures comms { self.new.comms ≡ self.old.comms }
+        ensures pending_results { self.new.pending_results ≡ self.old.pending_results }
+    {
+        let State { notes, .. } = self;
+        note_told(notes, done)
+    }
+
+    /// `done`, of which the pass is still to be told.
+    fn take(&mut self, number: u64, is_first: bool) -> Option<Done>
         ensures number { IfSome result (λ d. d.number ≡ number) }
         ensures end { IfSome result (HasEnd self.old.kernel.machine.minutes) }
         ensures told { IfSome result (λ d. IsTold self.old.kernel.machine.minutes self.old.pending_results.items number d self.new.pending_results.items) }
@@ -397,9 +479,9 @@ impl<W: Ledger, L: HistoryName> State<W, L> {
         self.settled
     }
 
-    /// The next of the passes that are still to be given, with no posts, which has seen the minutes; `None` where all are given.
+    /// The next of the passes that are still to be given, with no posts and no acts, which has seen the minutes; `None` where all are given.
     pub fn pass(&mut self, passes: &mut Passes<L>) -> Option<Pass<L>>
-        ensures pass { IfSome result (λ p. p ≡ pass_of (passes.old + 1) 0 self.old.kernel.machine.minutes self.old.notes) }
+        ensures pass { IfSome result (λ p. p ≡ pass_of (passes.old + 1) 0 0 self.old.kernel.machine.minutes self.old.notes) }
         ensures lane { IfSome result (λ p. (1 ≤ p.lane) × (p.lane ≤ PASSES)) }
         ensures given { IfSome result (λ p. passes.new ≡ passes.old + 1) }
         ensures none { IfNone result ((passes.old ≡ PASSES) × (passes.new ≡ passes.old)) }
@@ -451,8 +533,26 @@ impl<W: Ledger, L: HistoryName> State<W, L> {
         ask_on(self.alloc, &self.kernel, &self.comms, ask)
     }
 
-    /// Opens or closes a comm, and tells whether it did: `comm_on` over the comms. Those that are open then are noted.
-    pub fn comm(&mut self, change: CommChange<'_>) -> Result<bool, HallFault>
+    /// Opens or closes a comm for a pass, whose act it is, and tells whether it did: `comm_on` over the comms. Those that are open then are the last of the
+    /// notes that the pass has seen then.
+    pub fn comm(&mut self, pass: &mut Pass<L>, change: CommChange<'_>) -> Result<bool, HallFault>
+        ensures change { IsNotedChange pass.old.notes change.entry result pass.new.notes }
+        ensures seen { HasSeen pass.old pass.new }
+        ensures acts { pass.new.acts ≡ next_act pass.old.acts }
+        ensures front { pass.new.front ≡ self.old.kernel.machine.minutes }
+        ensures legal { IsLegalMachine self.old.kernel.machine }
+        ensures kernel { self.new.kernel ≡ self.old.kernel }
+        ensures pending_results { self.new.pending_results ≡ self.old.pending_results }
+    {
+        self.see(pass);
+        let told = self.change(change);
+        pass.act();
+        self.see(pass);
+        told
+    }
+
+    /// Opens or closes a comm, and notes those that are open then.
+    fn change(&mut self, change: CommChange<'_>) -> Result<bool, HallFault>
         ensures change { IsChange self.old.comms change.entry result self.new.comms }
         ensures before { comms_in self.old.notes ≡ self.old.comms }
         ensures noted { self.new.notes ≡ self.old.notes ++ Changed self.new.comms ∷ [] }
@@ -471,8 +571,35 @@ impl<W: Ledger, L: HistoryName> State<W, L> {
         told
     }
 
+    /// Refuses later posts, for who has the passes that are still to be given. What is handed out has seen it in the notes.
+    pub fn shut(&mut self, _passes: &Passes<L>) -> Front<Note, Beside<L>>
+        ensures seen { has_shutdown result ≡ true }
+        ensures shut { self.new.kernel.machine ≡ shut self.old.kernel.machine }
+        ensures noted { has_shutdown self.new.notes ≡ true }
+        ensures comms { self.new.comms ≡ self.old.comms }
+        ensures pending_results { self.new.pending_results ≡ self.old.pending_results }
+    {
+        self.close_now()
+    }
+
+    /// Refuses later posts, which is an act of the pass. It has seen it then in the notes.
+    pub fn shut_by(&mut self, pass: &mut Pass<L>)
+        ensures seen { HasSeen pass.old pass.new }
+        ensures acts { pass.new.acts ≡ next_act pass.old.acts }
+        ensures noted { has_shutdown pass.new.notes ≡ true }
+        ensures front { pass.new.front ≡ self.new.kernel.machine.minutes }
+        ensures legal { IsLegalMachine self.new.kernel.machine }
+        ensures shut { self.new.kernel.machine ≡ shut self.old.kernel.machine }
+        ensures comms { self.new.comms ≡ self.old.comms }
+        ensures pending_results { self.new.pending_results ≡ self.old.pending_results }
+    {
+        let _seen = self.close_now();
+        pass.act();
+        self.see(pass);
+    }
+
     /// Refuses later posts, which is noted. What is handed out has seen it.
-    pub fn shut(&mut self) -> Front<Note, Beside<L>>
+    fn close_now(&mut self) -> Front<Note, Beside<L>>
         ensures seen { has_shutdown result ≡ true }
         ensures shut { self.new.kernel.machine ≡ shut self.old.kernel.machine }
         ensures noted { has_shutdown self.new.notes ≡ true }

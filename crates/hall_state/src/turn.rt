@@ -1,11 +1,13 @@
 //! One turn of the runner over the lent kernel.
 ghost use Rattle.std.specs.Prelude.{◌≡◌, ◌-◌, ◌^◌, ◌<◌};
 ghost use Rattle.kernel_audit.specs.Minutes.{posted_in};
+ghost use Rattle.kernel_audit.specs.Course.{GoesBy};
 ghost use Rattle.hall_state.specs.PendingResults.{ends_job};
 ghost use Rattle.hall_state.specs.JustEnded.{EndsOrWrites};
 ghost use Rattle.hall_state.specs.Turns.{IsTurn};
+ghost use Rattle.hall_state.specs.TurnNotes.{IsTurnNote};
 
-use kernel_audit::{Begun, Kernel, Phase, Sliced};
+use kernel_audit::{Begun, Kernel, Note, Phase, Sliced};
 use kernel_bell::{Bell, RunnerSeat};
 use std::sync::ledger::Ledger;
 
@@ -47,15 +49,40 @@ pub fn turn_on<W: Ledger>(
     ensures posts { posted_in kernel.new.machine.minutes ≡ posted_in kernel.old.machine.minutes }
     ensures closing { kernel.new.machine.closing ≡ kernel.old.machine.closing }
 {
+    let (turn, _note) = noted_turn_on(kernel, bell, runner, m);
+    turn
+}
+
+/// `turn_on`, and what is noted of the turn.
+pub(crate) fn noted_turn_on<W: Ledger>(
+    kernel: &mut Kernel<W>,
+    bell: &Bell,
+    runner: &mut RunnerSeat,
+    m: u64,
+) -> (Turn, Note)
+    requires own { runner.old.bell ≡ bell.now }
+    requires room { runner.old.knows.serial < 2 ^ 64 - 1 }
+    ensures turn { IsTurn kernel.old.machine runner.old m result.0 kernel.new.machine runner.new }
+    ensures ends { EndsOrWrites (ends_job result.0) kernel.old.machine.minutes kernel.new.machine }
+    ensures posts { posted_in kernel.new.machine.minutes ≡ posted_in kernel.old.machine.minutes }
+    ensures closing { kernel.new.machine.closing ≡ kernel.old.machine.closing }
+    ensures kind { IsTurnNote result.1 }
+    ensures goes { GoesBy result.1 kernel.old.machine kernel.new.machine }
+{
     match kernel.phase() {
         Phase::Inside => {
             let asked = bell.asked(runner);
-            Turn::Cut(kernel.slice(m, asked))
+            let sliced = kernel.slice(m, asked);
+            (Turn::Cut(sliced), Note::Cut(m, asked, sliced))
         }
         Phase::Queued => {
             bell.begin(runner);
-            Turn::Began(kernel.begin())
+            let begun = kernel.begin();
+            (Turn::Began(begun), Note::Began(begun))
         }
-        Phase::Idle | Phase::Border => Turn::Began(kernel.begin()),
+        Phase::Idle | Phase::Border => {
+            let begun = kernel.begin();
+            (Turn::Began(begun), Note::Began(begun))
+        }
     }
 }

@@ -7,7 +7,7 @@ use Rattle.kernel_ask.specs.Minutes.{Entry, Post, Posted, posts_of, posted_in, I
 use Rattle.kernel_ask.proofs.Posts.{posts-append}
 use Rattle.kernel_ask.specs.Wishes.{WishOf}
 use Rattle.kernel_audit.specs.declared.note.Note.{Note}
-use Rattle.kernel_audit.specs.Passes.{PassOf, AreLegal, HasSeen, AreInOneOrder, HaveOneNumbering, HasPosted}
+use Rattle.kernel_audit.specs.Passes.{PassOf, acted, AreLegal, HasSeen, AreInOneOrder, HaveOneNumbering, HasPosted}
 use Rattle.kernel_audit.proofs.Noted.{wished_stays, open_before}
 
 pub prefix_map : {A B : Type 0} (f : A → B) (xs ys : List A) → IsPrefix xs ys → IsPrefix (map f xs) (map f ys)
@@ -24,6 +24,12 @@ seen_on old mid new p q = record {
   onward = prefix_trans old.front mid.front new.front p.onward q.onward;
   noted = prefix_trans old.notes mid.notes new.notes p.noted q.noted;
 }
+
+-- so has who acts and then sees on
+pub seen_acted : (old mid new : PassOf) → mid ≡ acted old → HasSeen mid new → HasSeen old new
+seen_acted old mid new is s =
+    let h : HasSeen (acted old) new = subst (λ (p : PassOf). HasSeen p new) is s in
+    record { lane = h.lane; posts = h.posts; onward = h.onward; noted = h.noted }
 
 abbrev head_or : {A : Type 0} → A → List A → A
 head_or other [] = other

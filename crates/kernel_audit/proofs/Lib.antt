@@ -5,6 +5,7 @@ pub mod InOrder
 pub mod Orders
 pub mod Tickets
 pub mod Noted
+pub mod Course
 pub mod Fronts
 pub mod Crosses
 -- Of shared_history, given again.

@@ -3,7 +3,7 @@ use Rattle.std.proofs.Common.{◌≡◌, ◌∙◌, ℕ, ◌-◌, zero, suc, Boo
 use mathlib.Core.List.{IsPrefix}
 use Rattle.kernel_ask.specs.Wishes.{WishOf}
 use Rattle.kernel_audit.specs.declared.note.Note.{Note}
-use Rattle.kernel_audit.specs.declared.note.Note.TheVariants.{Posted, Shut, Asked, Changed}
+use Rattle.kernel_audit.specs.declared.note.Note.TheVariants.{Posted, Shut, Asked, Changed, Began, Cut, Told}
 use Rattle.kernel_audit.specs.Notes.{wished_in, has_shutdown}
 use Rattle.kernel_audit.specs.Passes.{IsWished}
 
@@ -18,6 +18,9 @@ wished-append (Posted wishes ∷ xs) ys = ap (λ (l : List (List WishOf)). wishe
 wished-append (Shut ∷ xs) ys = wished-append xs ys
 wished-append (Asked ∷ xs) ys = wished-append xs ys
 wished-append (Changed comms ∷ xs) ys = wished-append xs ys
+wished-append (Began told ∷ xs) ys = wished-append xs ys
+wished-append (Cut most is_asked told ∷ xs) ys = wished-append xs ys
+wished-append (Told done ∷ xs) ys = wished-append xs ys
 
 -- a post keeps its wishes
 pub wished_stays : (xs ys : List Note) (number : ℕ) (given : List WishOf) → IsPrefix xs ys → IsWished xs number given → IsWished ys number given
@@ -31,6 +34,9 @@ shut-append (Posted wishes ∷ xs) ys h = shut-append xs ys h
 shut-append (Shut ∷ xs) ys h = refl
 shut-append (Asked ∷ xs) ys h = shut-append xs ys h
 shut-append (Changed comms ∷ xs) ys h = shut-append xs ys h
+shut-append (Began told ∷ xs) ys h = shut-append xs ys h
+shut-append (Cut most is_asked told ∷ xs) ys h = shut-append xs ys h
+shut-append (Told done ∷ xs) ys h = shut-append xs ys h
 
 -- who has seen a shutdown has seen it ever after
 pub shut_stays : (xs ys : List Note) → IsPrefix xs ys → has_shutdown xs ≡ true → has_shutdown ys ≡ true

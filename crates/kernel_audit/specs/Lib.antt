@@ -1,5 +1,6 @@
 pub mod Notes
 pub mod Passes
+pub mod Course
 pub mod Ends
 pub mod Audit
 pub mod AuditFault

@@ -1,5 +1,5 @@
 -- What contracts see of a pass, what it sees and posts, and the tickets of its posts.
-use Rattle.std.specs.Prelude.{◌≡◌, ◌⊎◌, ◌<◌, ℕ, ◌+◌, ◌-◌, false, List, Some, slice_get}
+use Rattle.std.specs.Prelude.{◌≡◌, ◌⊎◌, ◌<◌, ℕ, ◌+◌, ◌-◌, ◌^◌, ◌%◌, false, List, Some, slice_get}
 use mathlib.Core.List.{IsPrefix}
 use Rattle.kernel_ask.specs.Minutes.{Entry, Post, IsNumberOf, posted_in}
 use Rattle.kernel_ask.specs.Request.{Request}
@@ -11,15 +11,25 @@ use Rattle.kernel_audit.specs.declared.pass.Ticket.{Ticket}
 use Rattle.kernel_audit.specs.declared.note.Note.{Note}
 use Rattle.kernel_audit.specs.Notes.{wished_in, has_shutdown}
 
--- a frontend's lane, how many posts it made, and the beginnings of the minutes and of the notes beside them that it has seen
+-- a frontend's lane, how many posts it made and how many acts, which are shutdowns, changes of the comms and ends that it was told, and the beginnings of the
+-- minutes and of the notes beside them that it has seen
 pub record PassOf : Type 0 where
   pub lane : ℕ
   pub posts : ℕ
+  pub acts : ℕ
   pub front : List Entry
   pub notes : List Note
 
-abbrev pub pass_of : ℕ → ℕ → List Entry → List Note → PassOf
-pass_of lane posts front notes = record { lane = lane; posts = posts; front = front; notes = notes }
+abbrev pub pass_of : ℕ → ℕ → ℕ → List Entry → List Note → PassOf
+pass_of lane posts acts front notes = record { lane = lane; posts = posts; acts = acts; front = front; notes = notes }
+
+-- the count of acts behind one more: it is kept in 64 bits
+abbrev pub next_act : ℕ → ℕ
+next_act acts = (acts + 1) % 2 ^ 64
+
+-- the pass with one act more
+abbrev pub acted : PassOf → PassOf
+acted p = record p { acts = next_act p.acts }
 
 -- these are the minutes of a legal kernel
 abbrev pub AreLegal : List Entry → Type 0

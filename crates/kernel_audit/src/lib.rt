@@ -1,10 +1,11 @@
 //! The audit at the end of a hall: whether the minutes hold what the frontends came away with.
 //!
-//! A frontend has a pass, which counts its posts, a ticket for each post that was taken, and what it was told of the ends of jobs. To the
+//! A frontend has a pass, which counts its posts and its acts, a ticket for each post that was taken, and what it was told of the ends of jobs. To the
 //! layer above the audit promises that it passes exactly what the minutes hold, and that what it finds missing or untrue is so. A pass
 //! holds one part of a ledger, whose book the owner of the minutes keeps, so that no pass counts a post that the book hasn't; and it holds what it
 //! has seen of the minutes, which are one history, so that what one sees now begins with all that it had seen; so it is with what is noted beside
-//! them, the wishes of the posts, a shutdown, and which comms are open.
+//! them: the wishes of the posts, shutdowns, questions, which comms are open, each turn of the runner, and what was told of ends. Where these notes lead a
+//! kernel, it stands (`specs/Course`).
 //!
 //! It gives the names of `kernel_ask`, of the kernel below it and of the history again that the hall cites.
 //!

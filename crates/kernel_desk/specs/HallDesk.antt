@@ -2,7 +2,7 @@
 -- has seen then: they are a beginning of the one history of all desks.
 use Rattle.std.specs.Prelude.{◌≡◌, ℕ, ◌+◌, ◌≤◌, ◌<◌, Bool, true, List, [], ◌++◌, ◌⊎◌, Result, Ok, Err, length, option_map, string_bytes}
 use Rattle.kernel_hall.specs.Runs.{Machine}
-use Rattle.kernel_hall.specs.LegalMinutes.{IsLegalMachine}
+use Rattle.kernel_hall.specs.Course.{IsKernelSeen}
 use Rattle.kernel_hall.specs.post.PostFault.{PostFault}
 use Rattle.kernel_hall.specs.post.PostFault.TheVariants.{Closing}
 use Rattle.kernel_hall.specs.Wishes.{WishOf}
@@ -17,8 +17,8 @@ use Rattle.kernel_hall.specs.done.Done.{Done}
 use Rattle.kernel_hall.specs.Ends.{HasEnd}
 use Rattle.kernel_hall.specs.Minutes.{Entry, posted_in}
 use Rattle.kernel_hall.specs.Request.{Request}
-use Rattle.kernel_hall.specs.Passes.{PassOf, HasSeen, HasPosted}
-use Rattle.kernel_hall.specs.Notes.{comms_in, IsNotedQuestion, IsNotedChange}
+use Rattle.kernel_hall.specs.Passes.{PassOf, next_act, HasSeen, HasPosted}
+use Rattle.kernel_hall.specs.Notes.{has_shutdown, comms_in, IsNotedQuestion, IsNotedChange, IsNotedEnd}
 use Rattle.kernel_hall.specs.comm_change.CommChange.{CommChange}
 use Rattle.kernel_bell.specs.Seats.{RingerOf, ringer_seat, IsNeverLater}
 use Rattle.kernel_bell.specs.Views.{after_look, after_raise}
@@ -57,24 +57,34 @@ OnlyPass old new = new ≡ record old { pass = new.pass }
 abbrev pub TellsMade : List Entry → List WishOf → Done → Type 0
 TellsMade minutes given done = ∥ WereMade minutes done.number done.outcome given (option_map string_bytes done.shown) done.values.items ∥₁
 
+-- the pass has counted one act more: a shutdown, a change of the comms, or that it was told of an end
+abbrev pub HasActed : DeskState → DeskState → Type 0
+HasActed old new = new.pass.acts ≡ next_act old.pass.acts
+
+-- it has counted none: so this call shut nothing, changed no comm, and took nothing of what is to be told of an end
+abbrev pub HasNotActed : DeskState → DeskState → Type 0
+HasNotActed old new = new.pass.acts ≡ old.pass.acts
+
 -- The post of the job, with its wishes, stands in the minutes that the pass has seen now, and so does the end that is told, under the number of that post,
--- with what was made then. A refused one changes nothing, and is refused by the kernel whose minutes the pass has seen now.
+-- with what was made then. All that is told was noted last, and it is the only act. A refused one changes nothing, and is refused by the kernel whose minutes
+-- the pass has seen now.
 abbrev pub IsPosted : DeskState → Request → Wishes → Result Done PostFault → DeskState → Type 0
 IsPosted old job wishes (Ok done) new =
     (given : List WishOf) × (wishes_of given ≡ wishes) × HasPosted old.pass job given done.number new.pass × HasEnd new.pass.front done
-    × TellsMade new.pass.front given done
-IsPosted old job wishes (Err fault) new = HasSeen old.pass new.pass × IsRefused new.pass fault
+    × TellsMade new.pass.front given done × IsNotedEnd old.pass.notes done new.pass.notes × HasActed old new
+IsPosted old job wishes (Err fault) new = HasSeen old.pass new.pass × IsRefused new.pass fault × HasNotActed old new
 
--- behind its own shutdown each job is refused as closing
+-- behind its own shutdown, and behind any that its pass has seen, each job is refused as closing
 abbrev pub RefusesBehindShutdown : DeskState → Result Done PostFault → Type 0
-RefusesBehindShutdown old told = old.was_shut ≡ true → told ≡ Err Closing
+RefusesBehindShutdown old told = (old.was_shut ≡ true) ⊎ (has_shutdown old.pass.notes ≡ true) → told ≡ Err Closing
 
--- a question is answered of the kernel whose minutes the pass has seen now, with all its own posts, and of the comms that are open by the notes that it
--- has seen now; a refusal is want of memory. The question itself is the last of these notes: so what was seen and answered before is no answer.
+-- A question is answered of the kernel that the pass has seen now, with all its own posts, and of the comms that are open by the notes that it has seen now; a
+-- refusal is want of memory. The kernel stands where these notes have led it, and the question is the last of them: so no answer is of what was before, in the
+-- midst of a job neither.
 abbrev pub IsAnswered : Question → Result Answer HallFault → DeskState → Type 0
 IsAnswered q (Ok answer) new =
-    (asked : Ask) × (question_of asked ≡ q) × (k : Machine) × IsLegalMachine k × (k.minutes ≡ new.pass.front)
-    × (new.pass.posts ≤ posted_in k.minutes) × IsAnswer k (comms_in new.pass.notes) asked answer
+    (asked : Ask) × (question_of asked ≡ q) × (k : Machine) × IsKernelSeen new.pass k × (new.pass.posts ≤ posted_in k.minutes)
+    × IsAnswer k (comms_in new.pass.notes) asked answer
 IsAnswered q (Err fault) new = fault ≡ Memory
 
 -- a change of the comms is noted last of what the pass has seen now, and was made to those that were open then
@@ -92,10 +102,11 @@ pub record IsRung (old new : RingerOf) : Type 0 where
 abbrev pub hall_desk_leads : DeskState → Call → DeskState → Type 0
 hall_desk_leads old (Posted job wishes told) new = IsPosted old job wishes told new × RefusesBehindShutdown old told × OnlyPass old new
 hall_desk_leads old (Asked q told) new =
-    IsAnswered q told new × IsNotedQuestion old.pass.notes new.pass.notes × HasSeen old.pass new.pass × OnlyPass old new
-hall_desk_leads old (Changed change told) new = IsChanged old change told new × HasSeen old.pass new.pass × OnlyPass old new
+    IsAnswered q told new × IsNotedQuestion old.pass.notes new.pass.notes × HasSeen old.pass new.pass × HasNotActed old new × OnlyPass old new
+hall_desk_leads old (Changed change told) new = IsChanged old change told new × HasSeen old.pass new.pass × HasActed old new × OnlyPass old new
 hall_desk_leads old Rang new = (seat : RingerOf) × IsRung old.seat seat × (new ≡ record old { seat = seat })
-hall_desk_leads old Shut new = HasSeen old.pass new.pass × (new ≡ record old { pass = new.pass; was_shut = true })
+hall_desk_leads old Shut new =
+    HasSeen old.pass new.pass × (has_shutdown new.pass.notes ≡ true) × HasActed old new × (new ≡ record old { pass = new.pass; was_shut = true })
 hall_desk_leads old (Published b) new = new ≡ old
 hall_desk_leads old (Kept bs) new = (place : ℕ) × AreRead old.place bs place × (new ≡ record old { place = place })
 hall_desk_leads old (Dated before after) new = (IsDate after ⊎ (after ≡ before)) × (new ≡ old)

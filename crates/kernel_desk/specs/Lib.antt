@@ -1,4 +1,5 @@
 pub mod HallDesk
+pub mod Shutdowns
 pub mod Quiet
 -- Of kernel_hall, given again.
 pub use Rattle.kernel_hall.specs.HistoryNames

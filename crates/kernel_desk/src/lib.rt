@@ -4,9 +4,11 @@
 //! layer above it promises, of each call, what can be said exactly of what it holds (the pass and how many posts it made, the seat, the place on the
 //! board, whether a shutdown came), and of the kernel under the hall's lock that its minutes are those that the pass has seen then, which begin with
 //! all that it had seen: the job that was posted and its end stand there under one number, what is told of it is what was made as it ended, of the
-//! wishes that came with it, and an answer is that kernel's and of the comms that its notes have, of which the question is the last, so none is of what was
-//! seen before; a change of the comms is the last of these notes; behind its own shutdown each job is refused as closing. [`QuietDesk`] is the desk of
-//! connections at which nothing is asked.
+//! wishes that came with it, and all of it is noted last. An answer is that kernel's, which stands where the notes that the pass has seen have led it, in the
+//! midst of a job too, and of the comms that these notes have; the question is the last of them, so no answer is of what was before. A change of the comms is
+//! the last of these notes. A shutdown, a change and an end that is told are the one act of their call; a question is none, so it shuts, changes and takes
+//! nothing. Behind a shutdown that it has seen, its own or another's, each job of a desk is refused as closing, whatever is called between
+//! ([`shutdown_is_final_law`]). [`QuietDesk`] is the desk of connections at which nothing is asked.
 //!
 //! No contract says that a waiting thread wakes.
 //!
@@ -17,6 +19,7 @@
 #![tactic(auto)]
 
 mod hall_desk;
+mod laws;
 mod quiet;
 
 pub use hall_desk::HallDesk;
@@ -26,4 +29,5 @@ pub use kernel_hall::{
     work,
 };
 pub use kernel_session::{Desk, Socket, serve};
+pub use laws::shutdown_is_final_law;
 pub use quiet::QuietDesk;

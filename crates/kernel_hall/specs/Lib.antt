@@ -8,6 +8,7 @@ pub use Rattle.hall_state.specs.declared.limit
 pub use Rattle.hall_state.specs.Ends
 pub use Rattle.hall_state.specs.Passes
 pub use Rattle.hall_state.specs.Notes
+pub use Rattle.hall_state.specs.Course
 -- Of kernel_ask, given again.
 pub use Rattle.hall_state.specs.Answer
 pub use Rattle.hall_state.specs.answer

@@ -6,9 +6,10 @@ ghost use Rattle.hall_state.specs.LegalMinutes.{IsLegalMachine};
 ghost use Rattle.hall_state.specs.Answer.{IsAnswer};
 ghost use Rattle.hall_state.specs.Minutes.{posted_in};
 ghost use Rattle.hall_state.specs.Request.{request_of};
-ghost use Rattle.hall_state.specs.Notes.{wished_in, has_shutdown, comms_in, IsNotedQuestion, IsNotedChange};
+ghost use Rattle.hall_state.specs.Notes.{wished_in, has_shutdown, comms_in, IsNotedQuestion, IsNotedChange, IsNotedEnd};
+ghost use Rattle.hall_state.specs.Course.{IsKernelSeen};
 ghost use Rattle.hall_state.specs.note.Note.{Note};
-ghost use Rattle.hall_state.specs.Passes.{ticket_of, AreLegal, HasSeen, AreInOneOrder, HaveOneNumbering, HasPosted};
+ghost use Rattle.hall_state.specs.Passes.{ticket_of, next_act, AreLegal, HasSeen, AreInOneOrder, HaveOneNumbering, HasPosted};
 ghost use Rattle.hall_state.specs.PendingResults.{WereMade, IsToldOnce};
 ghost use Rattle.hall_state.specs.Turns.{IsTurn};
 ghost use Rattle.hall_state.specs.declared.limit.TheConstants.{PASSES, PARTS_OF_POSTS};
@@ -103,7 +104,7 @@ impl<W: Ledger, L: HistoryName> Hall<W, L> {
     /// The next of the passes that were made with the hall, on the next lane, with no posts, which has seen the minutes. It takes no memory, and is refused as
     /// `NoPass` once all [`PASSES`](crate::PASSES) are given.
     pub fn pass<R: Wait>(&self, rt: &R, passes: &mut Passes<L>) -> Result<Pass<L>, HallFault>
-        ensures new { IfOk result (λ p. p.posts ≡ 0) }
+        ensures new { IfOk result (λ p. (p.posts ≡ 0) × (p.acts ≡ 0)) }
         ensures legal { IfOk result (λ p. AreLegal p.front) }
         ensures lane { IfOk result (λ p. (1 ≤ p.lane) × (p.lane ≤ PASSES)) }
         ensures next { IfOk result (λ p. (p.lane ≡ passes.old + 1) × (passes.new ≡ passes.old + 1)) }
@@ -130,6 +131,8 @@ impl<W: Ledger, L: HistoryName> Hall<W, L> {
         ensures posted { IfOk result (λ r. HasPosted pass (request_of job) wishes.items r.0.number r.1) }
         ensures refused { IfErr result (λ r. HasSeen pass r.1) }
         ensures refusal { IfErr result (λ r. IsRefused r.1 r.0) }
+        ensures acts { IfOk result (λ r. r.1.acts ≡ pass.acts) }
+        ensures no_acts { IfErr result (λ r. r.1.acts ≡ pass.acts) }
     {
         let Ok(copy) = job.try_clone() else {
             let fault = self.entrance.enter(rt, &self.state).refuse(&mut pass);
@@ -161,6 +164,7 @@ impl<W: Ledger, L: HistoryName> Hall<W, L> {
         ensures posted { IfOk result (λ n. HasPosted pass.old (request_of job) wishes.items n pass.new) }
         ensures refused { OnErr result (HasSeen pass.old pass.new) }
         ensures refusal { IfErr result (IsRefused pass.new) }
+        ensures acts { pass.new.acts ≡ pass.old.acts }
     {
         let Ok(mut room) = room_for(self.alloc, wishes.len()) else {
             return Err(self.entrance.enter(rt, &self.state).refuse(pass));
@@ -244,21 +248,24 @@ impl<W: Ledger, L: HistoryName> Hall<W, L> {
         false
     }
 
-    /// Waits until the ticket's job has ended, and answers what came of it. The end stands in the minutes that the pass has seen now. The shown text and the
-    /// values go to the first wait for it: they are those of the wishes that are noted under the ticket's number, as the job ended. A later one is told none.
-    /// Most jobs end before a thread is asleep, so it watches for a while first.
+    /// Waits until the ticket's job has ended, and answers what came of it, which is an act of the pass. The end stands in the minutes that the pass has seen
+    /// now, and all that is told is the last of the notes. The shown text and the values go to the first wait for it: they are those of the wishes that are
+    /// noted under the ticket's number, as the job ended. A later one is told none. Most jobs end before a thread is asleep, so it watches for a while first.
     pub fn wait<R: Wait>(&self, rt: &R, pass: &mut Pass<L>, ticket: &Ticket) -> Done
         ensures number { result.number ≡ ticket.now.number }
         ensures end { HasEnd pass.new.front result }
         ensures once { ∥ IsToldOnce pass.new.front (get_or (wished_in pass.new.notes) (ticket.now.number - 1) []) result ∥₁ }
         ensures seen { HasSeen pass.old pass.new }
+        ensures noted { IsNotedEnd pass.old.notes result pass.new.notes }
+        ensures acts { pass.new.acts ≡ next_act pass.old.acts }
         ensures legal { AreLegal pass.new.front }
     {
         self.end_of(rt, pass, ticket.number, false)
     }
 
     /// `post` and `wait` in one, for who keeps no ticket: posts a job, waits until it has ended, and answers what came of it. Post and end stand in the
-    /// minutes that the pass has seen now; the shown text and the values of these wishes are those of the kernel as the job ended. A refused post drops
+    /// minutes that the pass has seen now; the shown text and the values of these wishes are those of the kernel as the job ended. All that is told is the last
+    /// of the notes that the pass has seen now, so nothing of what was kept for this job is left out; and it is the one act of the pass. A refused post drops
     /// the job and the wishes; the refusal is that of the kernel whose minutes the pass has seen now, which closes where the pass has seen a shutdown.
     pub fn run<R: Wait>(
         &self,
@@ -271,7 +278,10 @@ impl<W: Ledger, L: HistoryName> Hall<W, L> {
         ensures end { IfOk result (λ done. HasEnd pass.new.front done) }
         ensures made { IfOk result
             (λ done. ∥ WereMade pass.new.front done.number done.outcome wishes.items (option_map string_bytes done.shown) done.values.items ∥₁) }
+        ensures noted { IfOk result (λ done. IsNotedEnd pass.old.notes done pass.new.notes) }
+        ensures acts { IfOk result (λ done. pass.new.acts ≡ next_act pass.old.acts) }
         ensures refused { OnErr result (HasSeen pass.old pass.new) }
+        ensures no_acts { OnErr result (pass.new.acts ≡ pass.old.acts) }
         ensures refusal { IfErr result (IsRefused pass.new) }
     {
         let number = self.send(rt, pass, job, wishes)?;
@@ -279,7 +289,8 @@ impl<W: Ledger, L: HistoryName> Hall<W, L> {
     }
 
     /// Waits until the job of this number has ended, whose end the pass has seen then. Where it asks as the first, what was made as the job ended goes
-    /// along, of the wishes that are noted of its post; nobody else waits for a job that is run so, or it would wait on. Else that goes along, or nothing of it.
+    /// along, of the wishes that are noted of its post; nobody else waits for a job that is run so, or it would wait on. Else that goes along, or nothing of
+    /// it.
     fn end_of<R: Wait>(&self, rt: &R, pass: &mut Pass<L>, number: u64, is_first: bool) -> Done
         ensures number { result.number ≡ number }
         ensures end { HasEnd pass.new.front result }
@@ -288,19 +299,19 @@ impl<W: Ledger, L: HistoryName> Hall<W, L> {
         ensures made { is_first ≡ true → ∥ WereMade pass.new.front result.number result.outcome
             (get_or (wished_in pass.new.notes) (number - 1) []) (option_map string_bytes result.shown) result.values.items ∥₁ }
         ensures once { ∥ IsToldOnce pass.new.front (get_or (wished_in pass.new.notes) (number - 1) []) result ∥₁ }
+        ensures noted { IsNotedEnd pass.old.notes result pass.new.notes }
+        ensures acts { pass.new.acts ≡ next_act pass.old.acts }
     {
         let seen = self.ended.wakings(number);
         let mut state = self.entrance.enter(rt, &self.state);
-        if let Some(done) = state.done(number, is_first) {
-            state.see(pass);
+        if let Some(done) = state.done(pass, number, is_first) {
             return done;
         }
         drop(state);
         self.ended.watch(number, seen);
         let mut state = self.entrance.enter(rt, &self.state);
         for _ in rt.forever() {
-            if let Some(done) = state.done(number, is_first) {
-                state.see(pass);
+            if let Some(done) = state.done(pass, number, is_first) {
                 return done;
             }
             state = self.ended.wait(rt, number, state);
@@ -309,17 +320,19 @@ impl<W: Ledger, L: HistoryName> Hall<W, L> {
     }
 
     /// Answers a question: `ask_on` under the lock, of the kernel whose minutes the pass has seen now, and of the comms that were open then: what it had seen
-    /// is a beginning of them, and all its posts are among them. The question is the last of the notes that it has seen now, so no answer is of what it had
-    /// seen before. Whether code can be executed as it stands is told with the lock free. The only refusal is `Memory`.
+    /// is a beginning of them, and all its posts are among them. That kernel stands where the notes have led it that the pass has seen now, each turn of the
+    /// runner among them and the question last: so an answer is of that moment, in the midst of a job too, and not of an earlier one. The question is no act:
+    /// it shuts nothing, changes no comm, and takes nothing of what is to be told of an end. Whether code can be executed as it stands is told with the lock
+    /// free. The only refusal is `Memory`.
     pub fn ask<R: Wait>(
         &self,
         rt: &R,
         pass: &mut Pass<L>,
         ask: Ask<'_>,
     ) -> Result<Answer, HallFault>
-        ensures answer { IfOk result
-            (λ answer. (k : Machine) × IsLegalMachine k × (k.minutes ≡ pass.new.front) × IsAnswer k (comms_in pass.new.notes) ask.entry answer) }
+        ensures answer { IfOk result (λ answer. (k : Machine) × IsKernelSeen pass.new k × IsAnswer k (comms_in pass.new.notes) ask.entry answer) }
         ensures seen { HasSeen pass.old pass.new }
+        ensures acts { pass.new.acts ≡ pass.old.acts }
         ensures noted { IsNotedQuestion pass.old.notes pass.new.notes }
         ensures own { pass.new.posts ≤ posted_in pass.new.front }
         ensures refusal { IfErr result (λ f. f ≡ HallFault.Memory) }
@@ -338,8 +351,8 @@ impl<W: Ledger, L: HistoryName> Hall<W, L> {
         }
     }
 
-    /// Opens or closes a comm, and tells whether it did: `comm_on` under the lock, over the comms that were open then. The change is the last one that the pass
-    /// has seen now. The only refusal is `Memory`, of an opening.
+    /// Opens or closes a comm, and tells whether it did: `comm_on` under the lock, over the comms that were open then. The change is the last of the notes that
+    /// the pass has seen now, and the one act of the pass. The only refusal is `Memory`, of an opening.
     pub fn comm<R: Wait>(
         &self,
         rt: &R,
@@ -348,14 +361,11 @@ impl<W: Ledger, L: HistoryName> Hall<W, L> {
     ) -> Result<bool, HallFault>
         ensures change { IsNotedChange pass.old.notes change.entry result pass.new.notes }
         ensures seen { HasSeen pass.old pass.new }
+        ensures acts { pass.new.acts ≡ next_act pass.old.acts }
         ensures legal { AreLegal pass.new.front }
         ensures refusal { IfErr result (λ f. f ≡ HallFault.Memory) }
     {
-        let mut state = self.entrance.enter(rt, &self.state);
-        state.see(pass);
-        let told = state.comm(change);
-        state.see(pass);
-        told
+        self.entrance.enter(rt, &self.state).comm(pass, change)
     }
 
     /// Shows the minutes and the notes to two passes, of any two frontends. Of what the two had seen one is a beginning of the other: there is one order for
@@ -365,36 +375,35 @@ impl<W: Ledger, L: HistoryName> Hall<W, L> {
         ensures numbers { HaveOneNumbering a.old b.old }
         ensures first { HasSeen a.old a.new }
         ensures second { HasSeen b.old b.new }
+        ensures acts { (a.new.acts ≡ a.old.acts) × (b.new.acts ≡ b.old.acts) }
     {
         self.entrance.enter(rt, &self.state).in_one_order(a, b);
     }
 
-    /// From now on each post is refused, and each job that is taken. It interrupts nothing, and takes no memory. What is handed out has seen the shutdown in
-    /// the notes of this hall.
-    pub fn shut<R: Wait>(&self, rt: &R) -> Front<Note, Beside<L>>
+    /// From now on each post is refused, and each job that is taken: for who has the passes that are still to be given, so no frontend calls it. It interrupts
+    /// nothing, and takes no memory. What is handed out has seen the shutdown in the notes of this hall.
+    pub fn shut<R: Wait>(&self, rt: &R, passes: &Passes<L>) -> Front<Note, Beside<L>>
         ensures { has_shutdown result ≡ true }
     {
-        let seen = self.entrance.enter(rt, &self.state).shut();
+        let seen = self.entrance.enter(rt, &self.state).shut(passes);
         self.moved.notify_all();
         seen
     }
 
-    /// `shut` for a frontend, whose pass has seen the shutdown then: so each later post of it is refused as `Closing`.
+    /// `shut` for a frontend, whose pass has seen the shutdown then, the one act of it: so each later post of it is refused as `Closing`.
     pub fn shut_by<R: Wait>(&self, rt: &R, pass: &mut Pass<L>)
         ensures seen { HasSeen pass.old pass.new }
         ensures shut { has_shutdown pass.new.notes ≡ true }
+        ensures acts { pass.new.acts ≡ next_act pass.old.acts }
         ensures legal { AreLegal pass.new.front }
     {
-        let mut state = self.entrance.enter(rt, &self.state);
-        let _seen = state.shut();
-        state.see(pass);
-        drop(state);
+        self.entrance.enter(rt, &self.state).shut_by(pass);
         self.moved.notify_all();
     }
 
     /// Ends the hall, once its threads are joined, and compares its minutes with what the frontends came away with: `State::close` of the
-    /// kernel. All that it is handed is spent either way. What each of the passes has seen is a beginning of these minutes, and of one list of notes. It takes no
-    /// memory.
+    /// kernel. All that it is handed is spent either way. What each of the passes has seen is a beginning of these minutes, and of one list of notes. It takes
+    /// no memory.
     pub fn close(
         self,
         passes: Vec<Pass<L>>,

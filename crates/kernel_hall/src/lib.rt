@@ -5,9 +5,11 @@
 //! the kernel, exact on the parts that are lent. To the layer above the hall promises one history for all: each pass holds what it has seen of the
 //! minutes. What it sees next begins with that, and is the minutes of a legal kernel. Its own posts stand there, each with its lane, its job and
 //! its number, and what is answered of a job is the end of that number, with the shown text and the values of the wishes that were posted with it.
-//! A question is answered of the kernel whose minutes it sees then, and of the comms that are open by its notes, which each change of them
-//! extends; and who has seen a shutdown has each post refused as closing. As a hall is
-//! closed, what the frontends came away with is compared with the minutes, and what each pass has seen is a beginning of them.
+//! All that is told is noted, so nothing of what was kept for the job is left out on the way. A question is answered of the kernel whose minutes it sees then,
+//! which stands where its notes have led it, each turn of the runner among them and the question last; and of the comms that are open by these notes, which
+//! each change of them extends. Shutdowns, changes of the comms and ends that are told are counted in the pass by which they are done, and a question is none.
+//! Who has seen a shutdown has each post refused as closing. As a hall is closed, what the frontends came away with is compared with the minutes, and what each
+//! pass has seen is a beginning of them.
 //!
 //! `hall` has the calls and `worker` the runner's thread; `entrance` is how frontends come to the lock, `ends` where they wait for their
 //! jobs, `spin` how one watches before one sleeps.

@@ -161,7 +161,6 @@ fn tell_beside<
     calls: &str,
     sheet: &mut Sheet,
 ) {
-    let hall = worker.hall;
     thread::scope(thread::scope_env(), rt, |scope| {
         let started = scope.spawn(move || worker.serve(rt));
         if started.is_ok() {
@@ -169,7 +168,7 @@ fn tell_beside<
         } else {
             sheet.write("no thread\n");
         }
-        hall.shut(rt);
+        first.shut();
     });
 }
 

@@ -2,14 +2,15 @@
 //! first of them is 1.
 //!
 //! `pass` gives the lane and the posts of a new pass, or why there is none; `passes` how many more there are, each on the next lane with no posts,
-//! and why there is no further one. `order` shows the minutes to the first pass and to the last one together. `post` (a pass, and a job) gives the lane of the ticket, which of the posts of the pass it is, and its number; or
-//! why the post is refused, with the lane and the posts of the pass. A job is `undo` with a number, or a `cell` with its code. `names` (a pass, and a
-//! number) posts a cell that declares so many names, `v1`, `v2`, .. `wish` (names, each with an expression, parted by `;`, and behind a `|` what stands
-//! behind `post`) posts with user expressions. `wait` (a ticket) gives the number, the outcome, the
-//! counter, the node, the shown text and the values of its job; the pass of its lane waits. `state` (a pass) gives how many minutes the hall has
-//! seen and the shown world, `comms` (a pass) the same with the open comms; `open` and `close` (a pass, and an id) whether a comm was opened or
-//! closed. `shut` shuts the hall. `lose` loses the last pass, which it gives. `first` (a ticket) puts a ticket to the front of the others. `claim`
-//! (three numbers, and a code) claims a ticket of a cell. `alter` gives the outcome of the last end, and puts another one in its place.
+//! and why there is no further one. `order` shows the minutes to the first pass and to the last one together, and gives what each of the two is answered then:
+//! how many minutes the hall has seen, and the shown world. `post` (a pass, and a job) gives the lane of the ticket, which of the posts of the pass it is, and
+//! its number; or why the post is refused, with the lane and the posts of the pass. A job is `undo` with a number, or a `cell` with its code. `names` (a pass,
+//! and a number) posts a cell that declares so many names, `v1`, `v2`, .. `wish` (names, each with an expression, parted by `;`, and behind a `|` what stands
+//! behind `post`) posts with user expressions. `wait` (a ticket) gives the number, the outcome, the counter, the node, the shown text and the values of its
+//! job; the pass of its lane waits. `state` (a pass) gives how many minutes the hall has seen and the shown world, `comms` (a pass) the same with the open
+//! comms; `open` and `close` (a pass, and an id) whether a comm was opened or closed. `shut` shuts the hall. `lose` loses the last pass, which it gives.
+//! `first` (a ticket) puts a ticket to the front of the others. `claim` (three numbers, and a code) claims a ticket of a cell. `alter` gives the outcome of the
+//! last end, and puts another one in its place.
 use crate::lines::note;
 use kernel_hall::{
     Answer, Ask, CellText, CommChange, Content, Done, Hall, HallFault, HistoryName, Job, Outcome,
@@ -67,7 +68,7 @@ pub(crate) fn answer<W: Ledger, L: HistoryName, R: Wait>(
         "wish" => wish(rt, hall, away, rest, sheet),
         "names" => names(rt, hall, away, rest, sheet),
         "wait" => wait(rt, hall, away, rest, sheet),
-        "shut" => shut(rt, hall, sheet),
+        "shut" => shut(rt, hall, &away.left, sheet),
         "state" | "comms" | "open" | "close" => answer_with(rt, hall, away, word, rest, sheet),
         _ => change(away, word, rest, sheet),
     }
@@ -172,7 +173,7 @@ fn passes<W: Ledger, L: HistoryName, R: Wait>(
     note(" ", &fault, sheet);
 }
 
-/// Shows the minutes to the first pass and to the last one together.
+/// Shows the minutes to the first pass and to the last one together, and writes what each of them is answered then.
 fn order<W: Ledger, L: HistoryName, R: Wait>(
     rt: &R,
     hall: &Hall<W, L>,
@@ -184,7 +185,9 @@ fn order<W: Ledger, L: HistoryName, R: Wait>(
     };
     if let Some(first) = away.passes.first_mut() {
         hall.in_one_order(rt, first, &mut last);
-        sheet.write("done");
+        tell_answer(hall.ask(rt, first, Ask::State), sheet);
+        sheet.write(", ");
+        tell_answer(hall.ask(rt, &mut last, Ask::State), sheet);
     }
     keep(&mut away.passes, last, sheet);
 }
@@ -392,8 +395,13 @@ fn tell_change(change: Result<bool, HallFault>, sheet: &mut Sheet) {
 }
 
 /// Shuts the hall.
-fn shut<W: Ledger, L: HistoryName, R: Wait>(rt: &R, hall: &Hall<W, L>, sheet: &mut Sheet) {
-    hall.shut(rt);
+fn shut<W: Ledger, L: HistoryName, R: Wait>(
+    rt: &R,
+    hall: &Hall<W, L>,
+    left: &Passes<L>,
+    sheet: &mut Sheet,
+) {
+    hall.shut(rt, left);
     sheet.write("done");
 }
 

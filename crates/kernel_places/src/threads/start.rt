@@ -218,10 +218,11 @@ fn end_all<W: Ledger, L: HistoryName, S: Ledger, R: Wait>(
     rt: &R,
     service: &Service<W, L, S>,
     listeners: &Listeners,
+    passes: &Passes<L>,
 ) {
     service.ending.set(rt);
     service.started.set(rt);
-    service.hall.shut(rt);
+    service.hall.shut(rt, passes);
     listeners.close();
     service.doors.close(rt);
     service.callers.close(rt, Shutdown::Read);
@@ -259,6 +260,7 @@ fn serve_callers<
     worker: Worker<'_, W, L>,
     desks: Vec<HallDesk<'_, W, L, R>>,
     watcher: Pass<L>,
+    passes: &Passes<L>,
     out: &mut O,
     err: &mut E,
 ) -> bool {
@@ -269,7 +271,7 @@ fn serve_callers<
             tell_ready(out);
             tell_until_end(rt, service, watcher, err);
         }
-        end_all(rt, service, listeners);
+        end_all(rt, service, listeners, passes);
         service.rested.wait(rt);
         see_out(rt, &service.callers);
         is_started
@@ -311,9 +313,11 @@ pub fn serve_all<
     };
     let is_started = thread::scope(thread::scope_env(), rt, |scope| {
         let is_started = if start_subscribed(scope, rt, service, listeners) {
-            serve_callers(rt, service, listeners, worker, desks, watcher, out, err)
+            serve_callers(
+                rt, service, listeners, worker, desks, watcher, &passes, out, err,
+            )
         } else {
-            end_all(rt, service, listeners);
+            end_all(rt, service, listeners, &passes);
             false
         };
         end_subscribers(rt, service);

@@ -16,7 +16,7 @@ returns-clause-told g c =
     let stands = subst (λ (l : List Entry). IfSome c.done.result (λ (d : Done). (place : ℕ) × ((get_or es i x).ended ≡ Some place) × StandsAt l place d))
     c.minutes.ensures.entries e.there in
     told minutes es i c.args.number x c.done.new.self c.done.result c.if-index-pending_results.false at
-    record { posted = e.posted; ended = e.ended; wishes = e.wishes }
+    record { ended = e.ended; wishes = e.wishes }
     (taken minutes (get_or es i x) c.done.new.self c.done.result stands e.shown e.values e.none_shown e.no_values e.told)
 
 pub returns-clause-none : goal.returns-clause-none

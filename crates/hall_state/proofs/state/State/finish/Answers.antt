@@ -40,6 +40,7 @@ invariant_of-self g c =
       told = old.told;
       closes = old.closes;
       open_comms = old.open_comms;
+      course = old.course;
       beside = subst (λ (l : List PendingResult). ∥ AreBeside r.number m.minutes wished l ∥₁)
           (sym (with_items_is old.pending_results next (search (rules, places))))
           (beside_then old.settled m wished r es next c.settle_last-spent.ensures b h);

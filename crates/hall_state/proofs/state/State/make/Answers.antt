@@ -19,6 +19,7 @@ invariant_of-self-then-make g c =
       told = old.told;
       closes = old.closes;
       open_comms = old.open_comms;
+      course = old.course;
       beside = old.beside;
       results = goes_on old.settled m wished c.make.new.self c.in-Some.made c.make.ensures.goes
           (open_is old.settled m wished c.in-Some.made old.under_way c.in-Some.is old.results);
@@ -58,6 +59,7 @@ invariant_of-self-in-Some-take g c =
       told = old.told;
       closes = old.closes;
       open_comms = old.open_comms;
+      course = old.course;
       beside = subst (λ (l : List PendingResult). ∥ AreBeside r.number m.minutes wished l ∥₁)
           (sym (with_items_is old.pending_results next (search (rules, places))))
           (beside_then old.settled m wished r es next c.settle_last.ensures b h);

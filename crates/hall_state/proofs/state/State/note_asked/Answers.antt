@@ -1,5 +1,7 @@
-use Rattle.std.proofs.Common.{List, sym, subst, ◌∙◌}
+use Rattle.std.proofs.Common.{List, refl, sym, subst, ◌∙◌}
 use Rattle.kernel_audit.specs.Wishes.{WishOf}
+use Rattle.kernel_audit.specs.declared.note.Note.TheVariants.{Asked}
+use Rattle.kernel_audit.proofs.Course.{came_on}
 use Rattle.hall_state.specs.OpenResults.{AreSettled}
 use Rattle.hall_state.specs.PendingResults.{AreBeside}
 use Rattle.hall_state.proofs.state.State.note_asked.Goals as goal
@@ -13,6 +15,7 @@ invariant_of-self g c =
       told = old.told;
       closes = c.note_question.ensures.shut ∙ old.closes;
       open_comms = c.note_question.ensures.comms ∙ old.open_comms;
+      course = came_on old.notes c.note_question.new.notes Asked old.kernel.machine old.kernel.machine c.note_question.ensures.noted old.course refl;
       beside = subst (λ (w : List (List WishOf)). ∥ AreBeside old.settled old.kernel.machine.minutes w old.pending_results.items ∥₁) wished old.beside;
       results = subst (λ (w : List (List WishOf)). ∥ AreSettled old.settled old.kernel.machine w old.under_way ∥₁) wished old.results;
     }

@@ -1,8 +1,7 @@
-use Rattle.std.proofs.Common.{length, ◌++◌, ◌∷◌, [], ap, subst, sym, ◌∙◌}
+use Rattle.std.proofs.Common.{◌++◌, ◌∷◌, [], ap, sym, ◌∙◌}
 use Rattle.kernel_audit.specs.Request.{request_of}
 use Rattle.kernel_audit.specs.Runs.{Machine}
 use Rattle.kernel_audit.specs.Notes.{wished_in}
-use Rattle.hall_state.specs.PendingResults.{IsNewPending}
 use Rattle.hall_state.proofs.Posts.{stands}
 use Rattle.hall_state.proofs.BesidePosts.{many_wishes}
 use Rattle.hall_state.proofs.state.State.post.Goals as goal
@@ -22,6 +21,6 @@ pub returns-in-Ok-clause-pending_result : goal.returns-in-Ok-clause-pending_resu
 returns-in-Ok-clause-pending_result g c =
     let p = c.in-Ok.ensures.pending_result in (
       p.0,
-      subst (λ k. IsNewPending (length k.machine.minutes) c.args.wishes.now.items p.0) c.see.ensures.kernel p.1,
+      p.1,
       ap (λ v. v.items) c.see-in-Ok.ensures.pending_results ∙ p.2 ∙ ap (λ v. v.items ++ p.0 ∷ []) c.see.ensures.pending_results,
     )

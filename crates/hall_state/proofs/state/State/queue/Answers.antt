@@ -1,15 +1,15 @@
-use Rattle.std.proofs.Common.{◌≡◌, ◌≤◌, ℕ, List, refl, ap, ◌∙◌, sym, subst, arith, length, ◌++◌, ◌∷◌, []}
-use Rattle.std.proofs.lemmas.List.{length-map}
+use Rattle.std.proofs.Common.{◌≡◌, ◌≤◌, List, refl, ap, ◌∙◌, sym, subst, arith, length, ◌++◌, ◌∷◌, []}
 use mathlib.Core.Logic.{∥∥₁_map}
 use Rattle.kernel_audit.specs.Request.{request_of}
 use Rattle.kernel_audit.specs.Minutes.{Entry, Posted, posted_in, ended_in}
 use Rattle.kernel_audit.specs.Runs.{Machine, posted}
-use Rattle.kernel_audit.specs.Written.{entry_of}
 use Rattle.kernel_audit.specs.Wishes.{WishOf}
 use Rattle.kernel_audit.specs.Notes.{wished_in}
+use Rattle.kernel_audit.specs.declared.note.Note.TheVariants.{Posted as NotePosted}
 use Rattle.kernel_audit.proofs.InOrder.{no_more_end}
+use Rattle.kernel_audit.proofs.Course.{came_on}
 use Rattle.hall_state.specs.OpenResults.{AreSettled}
-use Rattle.hall_state.specs.PendingResults.{IsNewPending, IsWaiting, AreBeside}
+use Rattle.hall_state.specs.PendingResults.{IsWaiting, AreBeside}
 use Rattle.hall_state.specs.declared.pending_result.PendingResult.{PendingResult}
 use Rattle.hall_state.proofs.Posts.{one_more}
 use Rattle.hall_state.proofs.BesidePosts.{beside_posted, results_posted, many_wishes}
@@ -32,12 +32,15 @@ invariant_of-self-2 g c =
       many_wishes old.settled old.kernel.machine.minutes (wished_in old.notes)
           old.pending_results.items old.beside,
     ) in
-    let own = subst (λ (w : List WishOf). IsWaiting w c.new.result) (ap (λ v. v.items) c.note_wishes-wishes.ensures.wishes) c.new.ensures.waiting in
+    let own = subst (λ (w : List WishOf). IsWaiting w c.new.result) (ap (λ v. v.items) c.note_wishes-wishes.ensures.wishes) c.new.ensures in
     record {
       counted = omega arith;
       told = c.follow.ensures;
       closes = c.note_wishes-wishes.ensures.shut ∙ old.closes ∙ sym (ap (λ (m : Machine). m.closing) is);
       open_comms = c.note_wishes-wishes.ensures.comms ∙ old.open_comms;
+      course = came_on old.notes c.note_wishes-wishes.new.notes (NotePosted c.taken.result) old.kernel.machine c.post.new.self.machine
+          c.note_wishes-wishes.ensures.last old.course
+          (c.lane.result, request_of c.args.job, c.in_ok-number.number, c.in_ok-number.ensures.post);
       beside = ∥∥₁_map old.beside (λ a.
           subst (λ (l : List Entry). AreBeside old.settled l (wished_in c.note_wishes-wishes.new.notes) c.push_reserved.new.self.items)
           (sym (ap (λ (m : Machine). m.minutes) is))
@@ -55,12 +58,9 @@ invariant_of-self-2 g c =
 pub returns-clause-pending_result : goal.returns-clause-pending_result
 returns-clause-pending_result g c =
     let e = c.new.result in
-    let given = ap (λ v. v.items) (c.note_wishes-wishes.ensures.wishes ∙ c.taken.ensures) in
-    let place : length c.minutes-place.result.now ≡ length c.args.self.now.kernel.machine.minutes = sym (length-map c.minutes-place.result.now entry_of)
-    ∙ ap length c.minutes-place.ensures.entries in (
+    let given = ap (λ v. v.items) (c.note_wishes-wishes.ensures.wishes ∙ c.taken.ensures) in (
       e,
-      subst (λ (n : ℕ). IsNewPending n c.args.wishes.now.items e) place
-          (subst (λ (w : List WishOf). IsNewPending (length c.minutes-place.result.now) w e) given c.new.ensures),
+      subst (λ (w : List WishOf). IsWaiting w e) given c.new.ensures,
       c.push_reserved.ensures.items ∙ ap (λ es. es ++ e ∷ []) c.reserve.ensures.items,
     )
 

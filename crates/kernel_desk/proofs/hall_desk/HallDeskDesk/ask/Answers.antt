@@ -10,4 +10,4 @@ invariant_of-self g c = (
 pub returns : goal.returns
 returns g c =
     let ask = c.ask.ensures in
-    is_answered _ _ c.args.ask c.ask.result c.ask.new.pass c.self.view_is ask.answer ask.own ask.refusal ask.noted ask.seen
+    is_answered _ _ c.args.ask c.ask.result c.ask.new.pass c.self.view_is ask.answer ask.own ask.refusal ask.noted ask.seen ask.acts

@@ -10,4 +10,4 @@ invariant_of-self g c = (
 pub returns : goal.returns
 returns g c =
     let comm = c.comm.ensures in
-    is_changed _ _ c.args.change c.comm.result c.comm.new.pass c.self.view_is comm.change comm.seen
+    is_changed _ _ c.args.change c.comm.result c.comm.new.pass c.self.view_is comm.change comm.seen comm.acts

@@ -7,7 +7,16 @@ invariant_of-self g c =
     let run = c.run.ensures in
     let old = c.self.inside in
     let is : IsRun old.pass (request_of c.args.job) c.args.wishes.items c.run.result c.run.new.pass =
-    record { posted = run.posted; end = run.end; made = run.made; refused = run.refused; refusal = run.refusal } in (
+    record {
+      posted = run.posted;
+      end = run.end;
+      made = run.made;
+      noted = run.noted;
+      acts = run.acts;
+      refused = run.refused;
+      no_acts = run.no_acts;
+      refusal = run.refusal;
+    } in (
       c.self.invariant.0,
       still_knows old.was_shut old.pass (request_of c.args.job) c.args.wishes.items c.run.result c.run.new.pass c.self.invariant.1 is,
     )
@@ -16,4 +25,13 @@ pub returns : goal.returns
 returns g c =
     let run = c.run.ensures in
     is_posted _ _ (request_of c.args.job) c.args.wishes.items c.run.result c.run.new.pass c.self.view_is c.self.invariant.1
-    (record { posted = run.posted; end = run.end; made = run.made; refused = run.refused; refusal = run.refusal })
+    (record {
+      posted = run.posted;
+      end = run.end;
+      made = run.made;
+      noted = run.noted;
+      acts = run.acts;
+      refused = run.refused;
+      no_acts = run.no_acts;
+      refusal = run.refusal;
+    })

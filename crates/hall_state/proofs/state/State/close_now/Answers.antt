@@ -4,10 +4,12 @@ use Rattle.kernel_audit.specs.Minutes.{Entry}
 use Rattle.kernel_audit.specs.Notes.{wished_in, has_shutdown, comms_in}
 use Rattle.kernel_audit.specs.Runs.{Machine}
 use Rattle.kernel_audit.specs.Wishes.{WishOf}
+use Rattle.kernel_audit.specs.declared.note.Note.TheVariants.{Shut}
+use Rattle.kernel_audit.proofs.Course.{came_on}
 use Rattle.hall_state.specs.OpenResults.{AreSettled}
 use Rattle.hall_state.specs.PendingResults.{AreBeside}
 use Rattle.hall_state.proofs.BesidePosts.{results_shut}
-use Rattle.hall_state.proofs.state.State.shut.Goals as goal
+use Rattle.hall_state.proofs.state.State.close_now.Goals as goal
 
 pub invariant_of-self : goal.invariant_of-self
 invariant_of-self g c =
@@ -23,6 +25,7 @@ invariant_of-self g c =
       told = search rules;
       closes = ap has_shutdown kept ∙ c.note_shutdown.ensures.shut ∙ sym (ap (λ (k : Machine). k.closing) c.shut.ensures.shut);
       open_comms = ap comms_in kept ∙ c.note_shutdown.ensures.comms ∙ old.open_comms;
+      course = came_on old.notes c.front.new.self Shut m next (kept ∙ c.note_shutdown.ensures.last) old.course c.shut.ensures.shut;
       beside = subst (λ (w : List (List WishOf)). ∥ AreBeside old.settled next.minutes w old.pending_results.items ∥₁) (sym noted)
           (subst (λ (l : List Entry). ∥ AreBeside old.settled l (wished_in old.notes) old.pending_results.items ∥₁) (sym minutes) old.beside);
       results = subst (λ (w : List (List WishOf)). ∥ AreSettled old.settled next w old.under_way ∥₁) (sym noted)
