@@ -277,9 +277,8 @@ fn serve_callers<
 }
 
 /// Serves all connections of these sockets until a shutdown was answered, with passes that were made with the hall, brings all threads to an end and joins
-/// them. Once all are
-/// started it writes the line `ready`, and to the errors a line for each limit of which nine tenths are used. False where a thread could not be made, after
-/// all those that were have ended.
+/// them. Once all are started it writes the line `ready`, and to the errors a line for each limit of which nine tenths are used. False where a thread could
+/// not be made, after all those that were have ended.
 ///
 /// # Errors
 ///
