@@ -19,6 +19,9 @@ const PONG: &[u8] = b"\x04\x05\x04PONG";
 /// The reads that wait for what has to come.
 pub(crate) const READS: usize = 4_000;
 
+/// The reads of who takes a little: 256 kibibytes, where so much is there.
+const SIPS: u32 = 64;
+
 /// A connection to a socket of the kernel.
 #[derive(Drop)]
 pub(crate) struct Frontend {
@@ -167,6 +170,13 @@ impl Frontend {
             }
         }
         Err(ErrorKind::TimedOut.into())
+    }
+
+    /// Reads a number of times, and looks at nothing of it.
+    pub fn sip(&self) {
+        for _ in 0..SIPS {
+            let _ = self.is_ended();
+        }
     }
 
     /// Reads once, and tells whether the kernel has closed the connection.

@@ -17,7 +17,9 @@
 //! tells whether two replies, a second apart, have different dates. `heard` (a frontend, and a subscriber) asks so until the subscriber hears of it, and
 //! `interrupt` (a frontend, and another) has the other ask for interrupts until the frontend is answered, and gives the beginning of that content; `stop` is
 //! the same with one interrupt. `flood` (a frontend, and a number) asks so often what the kernel is, hears nothing, and tells whether the kernel closes the
-//! connection meanwhile. `end` tells whether the kernel closes a connection, `either` whether one of two.
+//! connection meanwhile. `swell` (a frontend, and a number) sends an execution whose cell has this many octets, and `sip` (a frontend, and a number) takes
+//! 256 kibibytes of what comes, a tenth of a second later the next ones, and so on that often. `end` tells whether the kernel closes a connection, `either`
+//! whether one of two.
 //!
 //! `hold` (a number) opens that many connections to each socket on which nothing is said, and gives how many there are. `stream` (a socket, a role,
 //! and that of the kernel's end) opens a stream, and gives how many there are, where what such an end sends first comes back. `echo` (a stream, a
@@ -30,8 +32,8 @@ use crate::streams::{echoes, lapses, opened, read_to};
 use crate::talk;
 use crate::talk::{
     asked, asked_on_each, begins, clear, dates, ends, flood, hear_out, heard, interrupted, leave,
-    one_ends, pings, place, pong, press, ready, reply, say, silent, skip, stamped, stopped, topic,
-    write,
+    one_ends, pings, place, pong, press, ready, reply, say, silent, sip, skip, stamped, stopped,
+    swell, topic, write,
 };
 use crate::told::told;
 use std::alloc::Global;
@@ -118,6 +120,7 @@ where
         "open" | "fill" | "sign" | "abandon" | "hold" | "stream" => {
             told(connected(rt, alloc, connections, word, rest), sheet);
         }
+        "sip" => told(sip(rt, &connections.frontends, rest), sheet),
         "stamp" => {
             let stamp = stamped(alloc, &mut connections.frontends, seen, rest);
             told(stamp, sheet);
@@ -182,6 +185,7 @@ fn answer_talk(frontends: &mut Vec<Frontend>, word: &str, rest: &str, sheet: &mu
         "write" => told(write(alloc, frontends, rest), sheet),
         "press" => told(press(alloc, frontends, rest), sheet),
         "send" => told(say(alloc, frontends, rest), sheet),
+        "swell" => told(swell(alloc, frontends, rest), sheet),
         _ => answer_heard(frontends, word, rest, sheet),
     }
 }
