@@ -28,7 +28,7 @@ pub trait HangUp: Write {
     /// Ends the connection both ways: a read that waits at its other handle ends. Nothing more is written.
     fn hang_up(&mut self)
         ensures over { is_over self.new ≡ true }
-        ensures same { contents self.new ≡ contents self.old };
+        ensures same { Self.contents self.new ≡ Self.contents self.old };
 }
 
 /// The writing half on its thread, and its end. What it writes is what [`speak`] writes; then it has hung up, however that ended, so that the reading half

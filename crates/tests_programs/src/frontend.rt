@@ -19,8 +19,8 @@ const PONG: &[u8] = b"\x04\x05\x04PONG";
 /// The reads that wait for what has to come.
 pub(crate) const READS: usize = 4_000;
 
-/// The reads of who takes a little: 256 kibibytes, where so much is there.
-const SIPS: u32 = 64;
+/// The octets that who takes a little takes at once.
+const SIP_OCTETS: usize = 262_144;
 
 /// A connection to a socket of the kernel.
 #[derive(Drop)]
@@ -172,21 +172,35 @@ impl Frontend {
         Err(ErrorKind::TimedOut.into())
     }
 
-    /// Reads a number of times, and looks at nothing of it.
+    /// Reads once, and answers how many octets came; none where the kernel has closed the connection.
+    fn read(&self) -> Option<usize> {
+        let mut room = [0u8; 4096];
+        let mut stream = &self.stream;
+        match stream.read(&mut room) {
+            Ok(0) => None,
+            Ok(count) => Some(count),
+            Err(error) if is_late(&error) => Some(0),
+            Err(_) => None,
+        }
+    }
+
+    /// Takes a little of what comes, once it is there. Less where the kernel has closed the connection, or where no more comes.
     pub fn sip(&self) {
-        for _ in 0..SIPS {
-            let _ = self.is_ended();
+        let mut taken: usize = 0;
+        for _ in 0..READS {
+            if taken >= SIP_OCTETS {
+                return;
+            }
+            let Some(count) = self.read() else {
+                return;
+            };
+            taken = taken.saturating_add(count);
         }
     }
 
     /// Reads once, and tells whether the kernel has closed the connection.
     pub fn is_ended(&self) -> bool {
-        let mut room = [0u8; 4096];
-        let mut stream = &self.stream;
-        match stream.read(&mut room) {
-            Ok(count) => count == 0,
-            Err(error) => !is_late(&error),
-        }
+        self.read().is_none()
     }
 
     /// Reads all that comes, and tells whether the kernel has closed the connection behind it.

@@ -18,7 +18,7 @@
 //! `interrupt` (a frontend, and another) has the other ask for interrupts until the frontend is answered, and gives the beginning of that content; `stop` is
 //! the same with one interrupt. `flood` (a frontend, and a number) asks so often what the kernel is, hears nothing, and tells whether the kernel closes the
 //! connection meanwhile. `swell` (a frontend, and a number) sends an execution whose cell has this many octets, and `sip` (a frontend, and a number) takes
-//! 256 kibibytes of what comes, a tenth of a second later the next ones, and so on that often. `end` tells whether the kernel closes a connection, `either`
+//! 256 kibibytes of what comes once they are there, a tenth of a second later the next ones, and so on that often. `end` tells whether the kernel closes a connection, `either`
 //! whether one of two.
 //!
 //! `hold` (a number) opens that many connections to each socket on which nothing is said, and gives how many there are. `stream` (a socket, a role,
