@@ -184,18 +184,19 @@ impl Frontend {
         }
     }
 
-    /// Takes a little of what comes, once it is there. Less where the kernel has closed the connection, or where no more comes.
-    pub fn sip(&self) {
+    /// Takes a little of what comes, once it is there. Whether it did: the kernel may have closed the connection, or no more comes.
+    pub fn sip(&self) -> bool {
         let mut taken: usize = 0;
         for _ in 0..READS {
             if taken >= SIP_OCTETS {
-                return;
+                return true;
             }
             let Some(count) = self.read() else {
-                return;
+                return false;
             };
             taken = taken.saturating_add(count);
         }
+        false
     }
 
     /// Reads once, and tells whether the kernel has closed the connection.

@@ -128,14 +128,16 @@ pub(crate) fn swell(alloc: Global, frontends: &mut [Frontend], row: &str) -> Res
     Ok(true)
 }
 
-/// Takes what comes on a connection a little at a time, that often.
+/// Takes what comes on a connection a little at a time, that often, or until no more comes.
 pub(crate) fn sip<R: Clock>(rt: &R, frontends: &[Frontend], row: &str) -> Result<bool> {
     let (word, times) = cut(row);
     let Some(frontend) = frontends.get(place(word)) else {
         return Err(ErrorKind::NotFound.into());
     };
     for _ in 0..number(times) {
-        frontend.sip();
+        if !frontend.sip() {
+            break;
+        }
         thread::sleep(rt, Duration::from_millis(SIP_MILLISECONDS));
     }
     Ok(true)
