@@ -78,10 +78,6 @@ calm_on law a b c xs es fs role p q calm fed given st =
     let s = p fed given st in
     awaiting c.state (calm (tells_none law b c (fed ++ xs) (given ++ es) fs role s (q (fed ++ xs) (given ++ es) s)))
 
--- a piece that told no event, and no fault, has refused nobody
-pub calm_here : (b : PeerState) (es : List Event) → (es ≡ [] → IsRefusal b.state → ⊥) → es ≡ [] → ending_of b.state ≡ Awaiting
-calm_here b es calm none = awaiting b.state (calm none)
-
 -- ---- one piece
 
 module _ {W D V : Type 0} (contents : W → Option (List ℕ)) (leads : D → Call → D → Type 0) (notices : V → Option (List Notice))

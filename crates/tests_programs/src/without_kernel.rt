@@ -1,10 +1,10 @@
-//! Rows where no kernel comes to run, each with the status of a program and what it wrote. `kernel` and `console` (a number, and the words of a
-//! command line) run a program over its words, and give no more than this number of octets of each of its two streams. `file` (a text) runs both
-//! programs on a connection file with this text, and `missing` on one that isn't there. `alone` runs a console at ports where no kernel listens, and
-//! `unanswered` where one listens that says nothing. `taken` (a socket, of shell, iopub, stdin, control and heartbeat the first is 1) runs a kernel whose
-//! port for this socket another one has. `readable` (a mode in octal digits) runs a kernel on a connection file of this mode, whose ports another one has. `limits`
-//! gives how many milliseconds `janus-kernel` gives a handshake, a message, a stranger, who is silent where nothing is signed, who showed the key, a pong, who
-//! still writes at the end, and a limit that is near; how many octets strangers may bring together, and a subscriber; and how many are served at once on a
+//! Rows where no kernel comes to run, each with the status of a program and what it wrote. `kernel` and `console` (a number, and the words of a command
+//! line) run a program over its words, and give no more than this number of octets of each of its two streams. `file` (a text) runs both programs on a
+//! connection file with this text, and `missing` on one that isn't there. `alone` runs a console at ports where no kernel listens, and `unanswered` where
+//! one listens that says nothing. `taken` (a socket, of shell, iopub, stdin, control and heartbeat the first is 1) runs a kernel whose port for this socket
+//! another one has. `readable` (a mode in octal digits) runs a kernel on a connection file of this mode, whose ports another one has. `limits` gives how
+//! many milliseconds `janus-kernel` gives a handshake, a message, a stranger, who is silent where nothing is signed, who showed the key, a pong, who still
+//! writes at the end, and a limit that is near; how many octets strangers may bring together, and a subscriber; and how many are served at once on a
 //! socket, and the nodes and the minutes that there are.
 use crate::content::KEY;
 use crate::programs::{ask, run_console, run_kernel};

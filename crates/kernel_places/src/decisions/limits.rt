@@ -10,8 +10,8 @@ use kernel_sockets::COMMON_OCTETS;
 const FRAME_OCTETS: u64 = 32;
 
 /// The octets that a subscriber may bring: each prefix that it may subscribe to, once to subscribe and once to cancel, by messages or by commands.
-const SUBSCRIBER_OCTETS: u64 =
-    2 * (PREFIX_OCTET_LIMIT as u64 + FRAME_OCTETS * (PREFIX_LIMIT as u64));
+const SUBSCRIBER_OCTETS: u64 = 2
+    * (PREFIX_OCTET_LIMIT as u64 + FRAME_OCTETS * (PREFIX_LIMIT as u64));
 
 /// What the connections of a kernel have, and when people are warned that a limit of the kernel is near.
 #[derive(Clone, Copy)]

@@ -2,8 +2,8 @@
 ghost use Rattle.std.specs.Prelude.{◌≡◌, ◌≤◌, ◌<◌, ◌^◌, IfOk, IfSome, string_bytes};
 ghost use Rattle.kernel_places.specs.declared.decisions.places.TheConstants.{ALL_PLACES};
 
-use crate::decisions::places::{ALL_PLACES, CALLED_PLACES, PLACES};
 use crate::decisions::limits::Limits;
+use crate::decisions::places::{ALL_PLACES, CALLED_PLACES, PLACES};
 use crate::threads::door::Doors;
 use crate::threads::latch::Latch;
 use jupyter_msg::Key;
