@@ -19,9 +19,6 @@ const PONG: &[u8] = b"\x04\x05\x04PONG";
 /// The reads that wait for what has to come.
 pub(crate) const READS: usize = 4_000;
 
-/// The octets that who takes a little takes at once.
-const SIP_OCTETS: usize = 262_144;
-
 /// A connection to a socket of the kernel.
 #[derive(Drop)]
 pub(crate) struct Frontend {
@@ -172,36 +169,14 @@ impl Frontend {
         Err(ErrorKind::TimedOut.into())
     }
 
-    /// Reads once, and answers how many octets came; none where the kernel has closed the connection.
-    fn read(&self) -> Option<usize> {
+    /// Reads once, and tells whether the kernel has closed the connection.
+    pub fn is_ended(&self) -> bool {
         let mut room = [0u8; 4096];
         let mut stream = &self.stream;
         match stream.read(&mut room) {
-            Ok(0) => None,
-            Ok(count) => Some(count),
-            Err(error) if is_late(&error) => Some(0),
-            Err(_) => None,
+            Ok(count) => count == 0,
+            Err(error) => !is_late(&error),
         }
-    }
-
-    /// Takes a little of what comes, once it is there. Whether it did: the kernel may have closed the connection, or no more comes.
-    pub fn sip(&self) -> bool {
-        let mut taken: usize = 0;
-        for _ in 0..READS {
-            if taken >= SIP_OCTETS {
-                return true;
-            }
-            let Some(count) = self.read() else {
-                return false;
-            };
-            taken = taken.saturating_add(count);
-        }
-        false
-    }
-
-    /// Reads once, and tells whether the kernel has closed the connection.
-    pub fn is_ended(&self) -> bool {
-        self.read().is_none()
     }
 
     /// Reads all that comes, and tells whether the kernel has closed the connection behind it.

@@ -56,12 +56,3 @@ pub(crate) fn with_zeros(octets: &mut Vec<u8>, zeros: usize) -> Result<()> {
     octets.resize(length, 0)?;
     Ok(())
 }
-
-/// The content of an execution whose cell has a number of octets, and declares `x`.
-pub(crate) fn long_cell(alloc: Global, length: usize) -> Result<String> {
-    let mut octets = Vec::from_slice(alloc, b"{\"code\":\"int x")?;
-    let whole = octets.len().saturating_add(length.saturating_sub(5));
-    octets.resize(whole, b' ')?;
-    octets.extend_from_slice(b"\"}")?;
-    text_of(alloc, &octets)
-}

@@ -3,11 +3,9 @@ use crate::content::{
     KEY, Stamp, beginning_of, content_of, date_of, is_status, request, stamp_of, topic_of,
 };
 use crate::frontend::{Frontend, READS};
-use crate::octets::{long_cell, with_zeros};
+use crate::octets::with_zeros;
 use std::alloc::Global;
 use std::io::{ErrorKind, Result};
-use std::thread;
-use std::time::{Clock, Duration};
 use tests_rows::{cut, number, octets_of};
 
 /// Another key than that of the kernel and its frontends.
@@ -18,9 +16,6 @@ const SHUTDOWN: &str = "shutdown_request";
 
 /// The reads that take more than a second where nothing comes.
 const READS_OF_A_SECOND: u32 = 220;
-
-/// How long who takes a little at a time waits before it takes more.
-const SIP_MILLISECONDS: u64 = 100;
 
 /// So often the kernel is asked for something, until it is seen.
 const ASKINGS: u32 = 1_000;
@@ -116,30 +111,6 @@ pub(crate) fn say(alloc: Global, frontends: &mut [Frontend], row: &str) -> Resul
     let (word, row) = cut(row);
     let (msg_type, content) = cut(row);
     send(alloc, at(frontends, word)?, KEY, msg_type, content)?;
-    Ok(true)
-}
-
-/// Sends an execution whose cell has a number of octets.
-pub(crate) fn swell(alloc: Global, frontends: &mut [Frontend], row: &str) -> Result<bool> {
-    let (word, length) = cut(row);
-    let frontend = at(frontends, word)?;
-    let content = long_cell(alloc, number(length))?;
-    send(alloc, frontend, KEY, "execute_request", &content)?;
-    Ok(true)
-}
-
-/// Takes what comes on a connection a little at a time, that often, or until no more comes.
-pub(crate) fn sip<R: Clock>(rt: &R, frontends: &[Frontend], row: &str) -> Result<bool> {
-    let (word, times) = cut(row);
-    let Some(frontend) = frontends.get(place(word)) else {
-        return Err(ErrorKind::NotFound.into());
-    };
-    for _ in 0..number(times) {
-        if !frontend.sip() {
-            break;
-        }
-        thread::sleep(rt, Duration::from_millis(SIP_MILLISECONDS));
-    }
     Ok(true)
 }
 

@@ -3,22 +3,21 @@
 //!
 //! `await` waits until the kernel serves its sockets. `console` (a command, and its word) runs a console, and gives its status and what it wrote.
 //! `shutdown` asks for a shutdown on a connection of its own, first under another key and then under the kernel's, and gives the content of the next
-//! message, which is the reply to the latter where the former is passed over. `open` (a socket, and a role) connects a frontend, and gives how many are
-//! connected; `fill` (a number, a socket and a role) that many, each of which the kernel becomes ready on, and `sign` that many, on each of which the
-//! kernel is then asked what it is, so that it has shown the key. `abandon` (a number, and the content of an execution) connects that many to shell, one
-//! after another, each of which posts that and leaves before it is answered. `ready` (a frontend, and how many reads it waits) tells whether the kernel is
-//! ready there, `silent` the same whether nothing comes. `pong` (a frontend) answers the ping that comes there, and `pings` tells how many came until the
-//! kernel closed the connection. `leave` (a frontend) and `clear` disconnect one, and all. `write` (a frontend, and octets) and `press` (a frontend, a
-//! number of zeros, and octets before them) write octets, the latter as far as they are taken. `send` (a frontend, a type and a content) sends a request.
-//! `reply` gives the content of the next message, `begins` its beginning, `topic` its topic, `skip` the next topic that isn't the status, and `out` whether
-//! all that is left is the status. `ask` asks what the kernel is and hears the reply, `asks` does so on each connection that there is, and gives how many
-//! there are, and `stamp` gives what the header of the reply tells, and whether it is of the session of the `stamp` before, in this block or an earlier
-//! one. `dates` (a frontend) tells whether two replies, a second apart, have different dates. `heard` (a frontend, and a subscriber) asks so until the
-//! subscriber hears of it, and `interrupt` (a frontend, and another) has the other ask for interrupts until the frontend is answered, and gives the
-//! beginning of that content; `stop` is the same with one interrupt. `flood` (a frontend, and a number) asks so often what the kernel is, hears nothing,
-//! and tells whether the kernel closes the connection meanwhile. `swell` (a frontend, and a number) sends an execution whose cell has this many octets, and
-//! `sip` (a frontend, and a number) takes 256 kibibytes of what comes once they are there, a tenth of a second later the next ones, and so on that often.
-//! `end` tells whether the kernel closes a connection, `either` whether one of two.
+//! message, which is the reply to the latter where the former is passed over.
+//! `open` (a socket, and a role) connects a frontend, and gives how many are connected; `fill` (a number, a socket and a role) that many, each of
+//! which the kernel becomes ready on, and `sign` that many, on each of which the kernel is then asked what it is, so that it has shown the key. `abandon` (a
+//! number, and the content of an execution) connects that many to shell, one after another, each of which posts that and leaves before it is answered.
+//! `ready` (a frontend, and how many reads it waits) tells whether the kernel is ready there, `silent` the same whether nothing comes. `pong` (a
+//! frontend) answers the ping that comes there, and `pings` tells how many came until the kernel closed the connection. `leave` (a
+//! frontend) and `clear` disconnect one, and all. `write` (a frontend, and octets) and `press` (a frontend, a number of zeros, and octets before
+//! them) write octets, the latter as far as they are taken. `send` (a frontend, a type and a content) sends a request. `reply` gives the content of
+//! the next message, `begins` its beginning, `topic` its topic, `skip` the next topic that isn't the status, and `out` whether all that is left is the
+//! status. `ask` asks what the kernel is and hears the reply, `asks` does so on each connection that there is, and gives how many there are, and `stamp`
+//! gives what the header of the reply tells, and whether it is of the session of the `stamp` before, in this block or an earlier one. `dates` (a frontend)
+//! tells whether two replies, a second apart, have different dates. `heard` (a frontend, and a subscriber) asks so until the subscriber hears of it, and
+//! `interrupt` (a frontend, and another) has the other ask for interrupts until the frontend is answered, and gives the beginning of that content; `stop` is
+//! the same with one interrupt. `flood` (a frontend, and a number) asks so often what the kernel is, hears nothing, and tells whether the kernel closes the
+//! connection meanwhile. `end` tells whether the kernel closes a connection, `either` whether one of two.
 //!
 //! `hold` (a number) opens that many connections to each socket on which nothing is said, and gives how many there are. `stream` (a socket, a role,
 //! and that of the kernel's end) opens a stream, and gives how many there are, where what such an end sends first comes back. `echo` (a stream, a
@@ -31,8 +30,8 @@ use crate::streams::{echoes, lapses, opened, read_to};
 use crate::talk;
 use crate::talk::{
     asked, asked_on_each, begins, clear, dates, ends, flood, hear_out, heard, interrupted, leave,
-    one_ends, pings, place, pong, press, ready, reply, say, silent, sip, skip, stamped, stopped,
-    swell, topic, write,
+    one_ends, pings, place, pong, press, ready, reply, say, silent, skip, stamped, stopped, topic,
+    write,
 };
 use crate::told::told;
 use std::alloc::Global;
@@ -119,7 +118,6 @@ where
         "open" | "fill" | "sign" | "abandon" | "hold" | "stream" => {
             told(connected(rt, alloc, connections, word, rest), sheet);
         }
-        "sip" => told(sip(rt, &connections.frontends, rest), sheet),
         "stamp" => {
             let stamp = stamped(alloc, &mut connections.frontends, seen, rest);
             told(stamp, sheet);
@@ -184,7 +182,6 @@ fn answer_talk(frontends: &mut Vec<Frontend>, word: &str, rest: &str, sheet: &mu
         "write" => told(write(alloc, frontends, rest), sheet),
         "press" => told(press(alloc, frontends, rest), sheet),
         "send" => told(say(alloc, frontends, rest), sheet),
-        "swell" => told(swell(alloc, frontends, rest), sheet),
         _ => answer_heard(frontends, word, rest, sheet),
     }
 }
