@@ -2,7 +2,7 @@
 //! and the two output streams.
 #![tactic(auto)]
 
-use kernel_program::{Times, kernel_main, refuse_unread_words};
+use kernel_program::{Limits, kernel_main, refuse_unread_words};
 use std::env;
 use std::io::ErrorKind;
 use std::process::ExitCode;
@@ -21,7 +21,7 @@ fn main(rt: HostRuntime) -> ExitCode {
     let status = kernel_main(
         &rt,
         alloc,
-        Times::USUAL,
+        Limits::USUAL,
         &words,
         &mut rt.stdout(),
         &mut rt.stderr(),

@@ -159,7 +159,7 @@ impl<W: Ledger, L: HistoryName, R: Wait + Clock> Desk for HallDesk<'_, W, L, R> 
     }
 
     fn wake(&mut self) {
-        self.bulletin.wake(self.rt);
+        self.bulletin.wake();
     }
 
     /// What the board keeps from the desk's place on, which moves behind it.

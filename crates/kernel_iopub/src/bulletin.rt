@@ -38,18 +38,18 @@ impl Bulletin {
         let _number = self.board.publish(rt, broadcast);
     }
 
-    /// Wakes each subscriber that reads the board: its count rises, so it finds what was published before as it looks then. No lock is taken for one that
-    /// is awake, and nobody else is woken.
-    pub fn wake<R: Wait>(&self, rt: &R) {
+    /// Wakes each subscriber that reads the board: its count rises, so it finds what was published before as it looks then. Nobody else is woken, and no
+    /// lock is taken.
+    pub fn wake(&self) {
         for signals in &self.signals {
-            signals.wake_reader(rt);
+            signals.wake_reader();
         }
     }
 
     /// Wakes all who wait at any place.
-    pub fn wake_all<R: Wait>(&self, rt: &R) {
+    pub fn wake_all(&self) {
         for signals in &self.signals {
-            signals.event_count().raise(rt);
+            signals.event_count().raise();
         }
     }
 

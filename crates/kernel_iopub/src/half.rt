@@ -12,10 +12,7 @@ use crate::fault::SubscriberFault;
 use crate::news::News;
 use crate::send::{send_broadcast, send_pong};
 use crate::signals::Signals;
-use crate::subscriber::{
-    PREFIX_LIMIT, PREFIX_OCTET_LIMIT, Sight, Subscriber, fall_silent, look, take, take_pings,
-    wanted,
-};
+use crate::subscriber::{Sight, Subscriber, fall_silent, look, take, take_pings, wanted};
 use kernel_board::{Broadcast, Place, Read as BoardRead};
 use kernel_watch::{Notice, Watcher};
 use std::alloc::Global;
@@ -25,13 +22,6 @@ use std::sync::{Mutex, Wait};
 
 /// The most octets that are read at once.
 const READ_OCTETS: usize = 512;
-
-/// The octets that a frame has at most beside the prefix that it subscribes to or cancels: flags, a size, and the name of a command with its length.
-const FRAME_OCTETS: usize = 32;
-
-/// The octets that a subscriber may send over its life beside pings, of which nothing is kept once they are answered: each prefix that it may subscribe
-/// to, once to subscribe and once to cancel, by messages or by commands.
-const HEARD_OCTET_LIMIT: usize = 2 * (PREFIX_OCTET_LIMIT + FRAME_OCTETS * (PREFIX_LIMIT as usize));
 
 /// Tells that the handshake is over, where it is now and was not before. Whether it is.
 fn tell_ready<V: Watcher>(watcher: &mut V, was_ready: bool, is_ready: bool) -> bool
@@ -48,9 +38,9 @@ fn tell_ready<V: Watcher>(watcher: &mut V, was_ready: bool, is_ready: bool) -> b
 }
 
 /// Wakes the peer's own writing half, if the peer is ready or has sent pings. What else it sends, as that it subscribes, is nothing to wake anyone for.
-fn wake_for<R: Wait>(rt: &R, signals: &Signals, news: News) {
+fn wake_for(signals: &Signals, news: News) {
     if news.is_ready || news.pings > 0 {
-        signals.event_count().raise(rt);
+        signals.event_count().raise();
     }
 }
 
@@ -67,21 +57,15 @@ fn hear_all<L: Ledger, R: Wait, I: Read, V: Watcher>(
 {
     let mut is_ready = false;
     let mut room = [0u8; READ_OCTETS];
-    let mut heard: usize = 0;
     for _ in 0..u64::MAX {
         let count = match reader.read(&mut room) {
             Ok(0) => return Ok(()),
             Ok(count) => count,
             Err(_) => return Err(SubscriberFault::Read),
         };
-        heard = heard.saturating_add(count);
-        if heard > HEARD_OCTET_LIMIT {
-            return Err(SubscriberFault::TooMuch);
-        }
         let news = take(rt, bulletin, signals, shared, &room[..count])?;
         is_ready = tell_ready(watcher, is_ready, news.is_ready);
-        heard = heard.saturating_sub(news.ping_octets);
-        wake_for(rt, signals, news);
+        wake_for(signals, news);
     }
     Err(SubscriberFault::Read)
 }
@@ -100,7 +84,7 @@ pub fn hear<L: Ledger, R: Wait, I: Read, V: Watcher>(
 {
     let heard = hear_all(rt, bulletin, signals, shared, reader, watcher);
     fall_silent(rt, shared);
-    signals.event_count().raise(rt);
+    signals.event_count().raise();
     heard
 }
 

@@ -4,8 +4,8 @@
 //! The broadcasts of a kernel lie on the board of [`Bulletin`], with the [`Signals`] of the subscriber at each place: a count of its own that rises whenever
 //! its writing half has something to look at. Who published wakes those that read the board, a reading half its own writing half alone, and who ends the
 //! kernel all of them: each does so first and then raises the count, and who waits takes the count, looks at everything, and waits until the count is another
-//! one. So no waking is lost, and nobody polls. No lock is taken for one that is awake. On its way to its answer a ping takes the subscriber's lock twice, as
-//! it is heard and as the writing half takes it, and if that sleeps the count's lock twice in between, as it is raised and as the writing half wakes.
+//! one. So no waking is lost, and nobody polls. A count has no lock: who waits sleeps on its word. So on its way to its answer a ping takes two locks, both
+//! times the subscriber's: as it is heard, and as the writing half takes it.
 //!
 //! [`serve_subscriber`] is a connection, over any reader and writer. The peer joins the board as it is ready; one that falls behind what
 //! the board keeps is disconnected.
@@ -32,9 +32,13 @@
 //! No contract says that a round comes, that one who waits wakes, or that a subscriber is heard. The sources are RFC 23 for messages, RFC 29 for a
 //! publisher's subscriptions, and RFC 37 for pings.
 //!
-//! A writing half has hung up on its peer once it has ended, however it ended ([`speak_and_hang_up`]): so a subscriber that fell behind what the board keeps
-//! is disconnected. `serve_subscriber`, which runs the halves on two threads, has no clause. That a subscriber which lost a ping for want of memory is
-//! marked so is no clause's.
+//! A writing half has hung up on its peer once it has ended, however it ended, and has written what [`speak`] writes ([`speak_and_hang_up`]): so a subscriber
+//! that fell behind what the board keeps is disconnected. `serve_subscriber`, which runs the halves on two threads, has no clause. That a subscriber which
+//! lost a ping for want of memory is marked so is no clause's. Neither is it that the reading half tells of a handshake that is over, since the peer which
+//! tells it so lies under the lock: the clause is that it tells it once at most, and nothing else. That it does is tested.
+//!
+//! How many octets a subscriber may send is counted by who reads them from its connection (`kernel_sockets`), before they come here. Here the prefixes are
+//! counted, and the pings.
 #![tactic(auto)]
 
 mod bulletin;

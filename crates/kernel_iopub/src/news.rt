@@ -7,7 +7,6 @@ ghost use Rattle.kernel_iopub.specs.Pings.{ping_in, pings_in};
 use crate::fault::SubscriberFault;
 use std::mem;
 use zmtp_peer::PeerEvent;
-use zmtp_wire::PING_OCTETS;
 
 /// What events come to.
 #[derive(Clone, Copy)]
@@ -17,10 +16,10 @@ pub(crate) struct News {
     /// How many prefixes they subscribe to, and how many octets these have together.
     pub(crate) prefixes: u32,
     pub(crate) prefix_octets: usize,
-    /// How many octets the pings among them took.
-    pub(crate) ping_octets: usize,
     /// How many pings are told: as many as contexts, so who takes the contexts sets it.
     pub(crate) pings: usize,
+    /// Whether there are no events at all.
+    pub(crate) is_none: bool,
 }
 
 impl News {
@@ -29,22 +28,14 @@ impl News {
         is_ready: false,
         prefixes: 0,
         prefix_octets: 0,
-        ping_octets: 0,
         pings: 0,
+        is_none: true,
     };
 
     /// Counts a prefix of this length.
     fn subscribe(&mut self, octets: usize) {
         self.prefixes = self.prefixes.saturating_add(1);
         self.prefix_octets = self.prefix_octets.saturating_add(octets);
-    }
-
-    /// Counts the octets of a ping whose context has this length.
-    fn ping(&mut self, octets: usize) {
-        self.ping_octets = self
-            .ping_octets
-            .saturating_add(PING_OCTETS)
-            .saturating_add(octets);
     }
 }
 
@@ -77,10 +68,7 @@ fn note(
             news.subscribe(prefix.len());
             Ok(())
         }
-        PeerEvent::Ping(context) => {
-            news.ping(context.len());
-            keep(contexts, context)
-        }
+        PeerEvent::Ping(context) => keep(contexts, context),
         PeerEvent::Cancel(_prefix) => Ok(()),
         PeerEvent::Message(_frames) => Ok(()),
     }

@@ -1,5 +1,7 @@
 //! A connection of the publish socket.
-ghost use Rattle.std.specs.Prelude.{◌≡◌, ◌<◌, true};
+ghost use Rattle.std.specs.Prelude.{◌≡◌, ◌<◌, true, OnOk, OnErr};
+ghost use Rattle.kernel_iopub.specs.Round.{IsServed, IsServedInPart};
+ghost use Rattle.kernel_iopub.specs.Signs.{gone};
 
 use crate::bulletin::Bulletin;
 use crate::fault::SubscriberFault;
@@ -17,20 +19,21 @@ use std::thread;
 use std::thread::{Scope, Threads};
 
 /// The end of a connection at which the writer stands, so that the reader's end comes too.
-pub trait HangUp {
+pub trait HangUp: Write {
     ghost use Rattle.std.specs.Prelude.{◌≡◌, Bool, true};
 
     // It has hung up.
     ghost is_over: { Self → Bool };
 
-    /// Ends the connection both ways: a read that waits at its other handle ends.
+    /// Ends the connection both ways: a read that waits at its other handle ends. Nothing more is written.
     fn hang_up(&mut self)
-        ensures { is_over self.new ≡ true };
+        ensures over { is_over self.new ≡ true }
+        ensures same { Self.contents self.new ≡ Self.contents self.old };
 }
 
 /// The writing half on its thread, and its end. What it writes is what [`speak`] writes; then it has hung up, however that ended, so that the reading half
 /// ends too: a subscriber that fell behind what the board keeps is disconnected. It answers how the writing half ended.
-pub fn speak_and_hang_up<L: Ledger, R: Wait, W: Write + HangUp, V: Watcher>(
+pub fn speak_and_hang_up<L: Ledger, R: Wait, W: HangUp, V: Watcher>(
     rt: &R,
     alloc: Global,
     bulletin: &Bulletin,
@@ -41,6 +44,10 @@ pub fn speak_and_hang_up<L: Ledger, R: Wait, W: Write + HangUp, V: Watcher>(
     watcher: &mut V,
 ) -> Result<(), SubscriberFault>
     requires share { (share.old.parts ≡ L.parts) × (0 < share.old.parts) }
+    ensures ok { OnOk result (IsServed share.old.amount (gone (W.contents writer.old) (V.notices watcher.old))
+        (gone (W.contents writer.new) (V.notices watcher.new)) share.new.amount) }
+    ensures err { OnErr result (IsServedInPart share.old.amount (gone (W.contents writer.old) (V.notices watcher.old))
+        (gone (W.contents writer.new) (V.notices watcher.new))) }
     ensures over { W.is_over writer.new ≡ true }
     ensures parts { share.new.parts ≡ share.old.parts }
 {
@@ -64,7 +71,7 @@ pub fn speak_and_hang_up<L: Ledger, R: Wait, W: Write + HangUp, V: Watcher>(
 pub fn serve_subscriber<
     R: Threads + Wait + Sync,
     I: Read,
-    W: Write + HangUp + Send + Drop,
+    W: HangUp + Send + Drop,
     H: Watcher,
     V: Watcher + Send + Drop,
 >(
@@ -96,7 +103,7 @@ fn start_speaking<
     E,
     L: Ledger + Send + Sync + 's,
     R: Threads + Wait + Sync,
-    W: Write + HangUp + Send + Drop + 's,
+    W: HangUp + Send + Drop + 's,
     V: Watcher + Send + Drop + 's,
 >(
     scope: &Scope<'s, E>,
@@ -134,7 +141,7 @@ fn run_halves<
     L: Ledger + Send + Sync,
     R: Threads + Wait + Sync,
     I: Read,
-    W: Write + HangUp + Send + Drop,
+    W: HangUp + Send + Drop,
     H: Watcher,
     V: Watcher + Send + Drop,
 >(
@@ -172,7 +179,7 @@ fn serve_counted<
     L: Ledger + Send + Sync,
     R: Threads + Wait + Sync,
     I: Read,
-    W: Write + HangUp + Send + Drop,
+    W: HangUp + Send + Drop,
     H: Watcher,
     V: Watcher + Send + Drop,
 >(

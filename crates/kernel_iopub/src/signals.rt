@@ -1,6 +1,5 @@
 //! What is told of one subscriber without its lock.
 use crate::event_count::EventCount;
-use std::sync::Wait;
 use std::sync::atomic::{AtomicBool, AtomicUsize, Ordering};
 
 /// What the two halves of a subscriber's connection, and who publishes, tell each other without the subscriber's lock.
@@ -41,9 +40,9 @@ impl Signals {
     }
 
     /// Wakes the writing half, if it reads the board.
-    pub(crate) fn wake_reader<R: Wait>(&self, rt: &R) {
+    pub(crate) fn wake_reader(&self) {
         if self.is_reading.load(Ordering::SeqCst) {
-            self.event_count.raise(rt);
+            self.event_count.raise();
         }
     }
 

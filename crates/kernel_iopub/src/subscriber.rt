@@ -195,6 +195,7 @@ fn feed(
         Err(PeerFault::Wire(WireFault::Memory)) => return Err(SubscriberFault::Memory),
         Err(fault) => return Err(SubscriberFault::Peer(fault)),
     };
+    let is_none = events.is_empty();
     let mut contexts = Vec::new(alloc);
     let news = match news_of(events, &mut contexts) {
         Ok(news) => news,
@@ -204,6 +205,7 @@ fn feed(
     match pings.append(&mut contexts) {
         Ok(()) => Ok(News {
             pings: told,
+            is_none,
             ..news
         }),
         Err(_) => Err(SubscriberFault::Memory),
@@ -245,8 +247,10 @@ pub(crate) fn take<L: Ledger, R: Wait>(
     let subscriber = &mut *guard;
     subscriber.answered(answered);
     let news = subscriber.take(rt, bulletin, piece)?;
-    // A fault behind the events is told by a call of its own.
-    subscriber.take(rt, bulletin, &[])?;
+    if !news.is_none {
+        // A fault behind events is told by a call of its own.
+        subscriber.take(rt, bulletin, &[])?;
+    }
     Ok(news)
 }
 

@@ -1,1 +1,2 @@
 mod Crosses
+mod Apart

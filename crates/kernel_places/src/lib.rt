@@ -6,18 +6,19 @@
 //! another connection comes when 32 are served, a place is relieved of an orphan, if there is one (`kernel_sockets::who_is_relieved`). The orphan's job stays
 //! in the queue and its place goes on with it, and the other connection is served at one of the further places.
 //!
-//! How long connections have [`Times`] says. A connection whose handshake takes ten seconds fails, and so does a message that takes ten seconds to be
-//! written. Where there is no orphan, one connection makes room (`kernel_sockets::who_makes_room`): one whose handshake is
-//! not over, 200 milliseconds after it was let in. Where there is none, on shell and control it is the one that was let in longest ago of those
-//! on which no signed request came that the kernel serves, if 200 milliseconds ago; on stdin, iopub and the heartbeat, where nothing is
-//! signed, the one that has been silent longest, and for a minute at least: nothing came on it, and it took nothing. Where there is none of these either,
-//! it is who showed the key and has been silent longest, for ten minutes at least with no request under way: a connection whose peer is gone without a
-//! word keeps nobody out for ever. One whose partner speaks ZMTP 3.1 is pinged then (`kernel_sockets::who_is_pinged`), and makes room only if nothing comes
-//! from it for a minute. Where none of the 32 has to, the next one waits.
+//! How long connections have [`Times`] says, and how much they may bring [`Limits`]. A connection whose handshake takes ten seconds fails, and so does a
+//! message that takes ten seconds to be written. Where there is no orphan, one connection makes room (`kernel_sockets::who_makes_room`): one whose
+//! handshake is not over, 200 milliseconds after it was let in. Where there is none, on shell and control it is the one that was let in longest ago of
+//! those on which no message came that is signed, if 200 milliseconds ago; on stdin, iopub and the heartbeat, where nothing is signed, the one that has
+//! been silent longest, and for a minute at least: nothing came on it, and it took nothing. Where there is none of these either, it is who showed the key
+//! and has been silent longest, for ten minutes at least with no request under way: a connection whose peer is gone without a word keeps nobody out for
+//! ever. One whose partner speaks ZMTP 3.1 is pinged then (`kernel_sockets::who_is_pinged`), and makes room only if nothing comes from it for a minute.
+//! Where none of the 32 has to, the next one waits.
 //!
 //! What strangers send is counted before it is kept (`kernel_sockets::Strangers`): until a message signed under the key came on shell and control,
 //! until a message was sent back on the heartbeat, and as long as the connection is there on iopub and stdin, but for pings that were answered. One by
-//! which they would hold too much ends. Each place has an allowance, and has it again behind each connection.
+//! which they would hold too much ends, and so does a subscriber that brings more than its prefixes may take. Each place has an allowance, and has it again
+//! behind each connection.
 //!
 //! Nobody reads these facts from octets: who serves a connection tells them to the [`Watcher`](kernel_watch::Watcher) that it is lent, which notes them at
 //! the connection's place: that the handshake is over, whether the partner answers pings, that a message is signed, that a request is under way and that it is
@@ -39,8 +40,9 @@
 //! that nothing of a connection is counted behind its end (the type of `Allowance`): that a thread runs, a connection is served or an end
 //! comes, no contract can say.
 //!
-//! The crate has three rooms. `decisions` has plain values and what is decided by them: `entrance`, who is let in at a socket; `places`, how many there are;
-//! `sockets` and `times`, the rules of each socket (specs/Sockets.antt) and its times. Who has to leave, who is pinged and what of a stranger is counted
+//! The crate has three rooms. `decisions` has plain values and what is decided by them: `entrance`, who is let in at a socket; `places`, how many there are,
+//! no two of which are one ([`places_are_apart_law`]); `sockets`, `times` and `limits`, the rules of each socket (specs/Sockets.antt), its times, and what else
+//! it has. Who has to leave, who is pinged and what of a stranger is counted
 //! `kernel_sockets` decides.
 //! `streams` are those of a connection: `reader`, on which it comes within the time of its handshake, and `writer`, on which answers go out within their
 //! deadline; `witness` notes what is told of it, and `clock` tells the time. `threads` has the life of all threads, in the order in which a connection passes
@@ -50,17 +52,19 @@
 //!
 //! It gives again what a program needs to start it: the kernel, the hall and the comms that it makes.
 //!
-//! By what is noted at a place `kernel_sockets::Account` promises that of who showed the key no octets are counted, and that a stranger's may be kept only if
-//! they are counted. That none are kept before it is asked is no clause's. A ping is written by the acceptor, while the place waits for what comes and so
-//! writes nothing (`Presence::listen`); that it stays out of messages is no clause's either. When the watcher is told `kernel_session::serve` and
-//! `kernel_iopub` promise; that what it is told is noted at the place is tested. `serve_all` has a condition alone.
+//! By what is noted at a place `kernel_sockets::Account` promises that of who showed the key no octets are counted, and that a stranger's may be kept only
+//! if they are counted. That none are kept before it is asked is no clause's. A ping is written by the acceptor, while the place waits for what comes and
+//! so writes nothing: it holds a `kernel_sockets::Listening` meanwhile, which can't be let go of. That it stays out of messages is no clause's either. When
+//! the watcher is told `kernel_session::serve` and `kernel_iopub` promise; that what it is told is noted at the place is tested. `serve_all` has a
+//! condition alone.
 #![tactic(auto)]
 
 mod decisions;
 mod streams;
 mod threads;
 
-pub use decisions::places::{ALL_PLACES, DESKS, PLACES};
+pub use decisions::limits::Limits;
+pub use decisions::places::{ALL_PLACES, DESKS, PLACES, places_are_apart_law};
 pub use decisions::times::Times;
 pub use kernel_desk::{
     Comms, Entry, Hall, HistoryName, Kernel, NewHistory, Note, PARTS_OF_POSTS, Passes,

@@ -1,4 +1,4 @@
-//! The program `janus-kernel`, over how long connections have, the words of its command line and its two output streams.
+//! The program `janus-kernel`, over what connections have, the words of its command line and its two output streams.
 //!
 //! [`kernel_main`] reads a connection file, binds the five sockets that it names, serves them until a shutdown, and answers the program's
 //! status. To the layer above this crate promises safety, and that each reason for which the program does not run has its status, as have words
@@ -15,5 +15,5 @@ mod program;
 mod words;
 
 pub use fault::ProgramFault;
-pub use kernel_places::Times;
+pub use kernel_places::{Limits, Times};
 pub use program::{kernel_main, refuse_unread_words};

@@ -12,8 +12,8 @@ use clap::error::ErrorKind as ClapErrorKind;
 use jupyter_msg::Key;
 use kernel_bell::Bell;
 use kernel_places::{
-    ALL_PLACES, DESKS, Entry, Hall, HistoryName, Kernel, Listeners, NewHistory, Note,
-    PARTS_OF_POSTS, Passes, Seats, Service, Times, serve_all,
+    ALL_PLACES, DESKS, Entry, Hall, HistoryName, Kernel, Limits, Listeners, NewHistory, Note,
+    PARTS_OF_POSTS, Passes, Seats, Service, serve_all,
 };
 use program_words::{send_unread_words, unread_words_status, words_status};
 use rand::make_rng;
@@ -75,7 +75,7 @@ fn new_service<W: Ledger, L: HistoryName, S: Ledger, R: RandomSource>(
     notes: NewHistory<Note>,
     bell: Bell,
     strangers: Blank,
-    times: Times,
+    limits: Limits,
     key: Key,
 ) -> Result<(Service<W, L, S>, Passes<L>), ProgramFault>
     requires writes { (writes.name ≡ W.name) × (writes.parts ≡ W.parts) × (1 < W.parts) }
@@ -88,7 +88,7 @@ fn new_service<W: Ledger, L: HistoryName, S: Ledger, R: RandomSource>(
 {
     let session = new_session(rt, alloc)?;
     let (hall, passes) = new_hall::<W, L>(alloc, writes, posts, history, notes, bell)?;
-    let service = Service::new(alloc, session, key, hall, times, strangers)?;
+    let service = Service::new(alloc, session, key, hall, limits, strangers)?;
     Ok((service, passes))
 }
 
@@ -110,7 +110,7 @@ fn serve_new_kernel<
     bell: Bell,
     seats: Seats,
     strangers: Blank,
-    times: Times,
+    limits: Limits,
     listeners: &Listeners,
     key: Key,
     out: &mut O,
@@ -128,7 +128,7 @@ where
     requires strangers { (strangers.name ≡ S.name) × (strangers.parts ≡ S.parts) × (strangers.parts ≡ 192) }
 {
     let (service, passes) = new_service::<W, L, S, R>(
-        rt, alloc, writes, posts, history, notes, bell, strangers, times, key,
+        rt, alloc, writes, posts, history, notes, bell, strangers, limits, key,
     )?;
     let served = serve_all(rt, &service, listeners, passes, seats, out, err);
     service.discard();
@@ -154,7 +154,7 @@ fn tell_reach<E: Write>(listeners: &Listeners, ip: &str, err: &mut E) {
 fn serve_file<R, O: Write, E: Write>(
     rt: &R,
     alloc: Global,
-    times: Times,
+    limits: Limits,
     path: &str,
     out: &mut O,
     err: &mut E,
@@ -184,7 +184,7 @@ where
         bell,
         Seats { runner, ringers },
         Blank::new(ALL_PLACES),
-        times,
+        limits,
         &listeners,
         key,
         out,
@@ -222,7 +222,7 @@ pub fn refuse_unread_words<E: Write>(kind: ErrorKind, err: &mut E) -> u8
     unread_words_status(kind, ProgramFault::Memory.status())
 }
 
-/// The program `janus-kernel`, over how long connections have, the words of its command line, of which the first is its name, and its two output
+/// The program `janus-kernel`, over what connections have, the words of its command line, of which the first is its name, and its two output
 /// streams: it serves the sockets of the connection file until a shutdown, and answers its status. 0 after a shutdown, for help and for the version;
 /// 2 for wrong words or a wrong connection file, 3 where a socket can't be bound, 1 where there is no memory at the start, each with a line to the
 /// errors. A line there also tells that the sockets are not of the loopback, and one that other users can read the connection file. A fault of the two
@@ -230,7 +230,7 @@ pub fn refuse_unread_words<E: Write>(kind: ErrorKind, err: &mut E) -> u8
 pub fn kernel_main<R, S: AsStr, O: Write, E: Write>(
     rt: &R,
     alloc: Global,
-    times: Times,
+    limits: Limits,
     words: &[S],
     out: &mut O,
     err: &mut E,
@@ -248,7 +248,7 @@ where
         Ok(path) => path,
         Err(error) => return refuse_words(&error, out, err),
     };
-    match serve_file(rt, alloc, times, path, out, err) {
+    match serve_file(rt, alloc, limits, path, out, err) {
         Ok(()) => DONE,
         Err(fault) => {
             fault.tell(err);

@@ -96,6 +96,7 @@ fn advance<W: Write, D: Desk, V: Watcher>(
         Ok(events) => events,
         Err(fault) => return Err(stop(fault)),
     };
+    let has_events = !events.is_empty();
     introduce(peer, watcher);
     let flow = match take_all(
         alloc,
@@ -113,6 +114,9 @@ fn advance<W: Write, D: Desk, V: Watcher>(
     match flow {
         Flow::Going => {}
         _ => return Ok(flow),
+    }
+    if !has_events {
+        return Ok(flow);
     }
     // A fault behind the events is told by a call of its own.
     octets_have_one_reading_law();

@@ -1,7 +1,7 @@
 //! The book of what came on one connection.
 ghost use Rattle.std.specs.Prelude.{◌≡◌, ◌+◌, ◌-◌, ◌<◌, ◌≤◌, ◌↔◌, IsTrue, false, if◌then◌else◌};
 ghost use Rattle.kernel_sockets.specs.declared.shares.TheConstants.{OWN_OCTETS};
-ghost use Rattle.kernel_sockets.specs.Shares.{left_of, settles};
+ghost use Rattle.kernel_sockets.specs.Shares.{left_of, settles, IsWithin};
 
 use crate::presence::Noted;
 use crate::shares::{Allowance, OWN_OCTETS, Share, Strangers};
@@ -13,6 +13,8 @@ use std::sync::ledger::Ledger;
 pub enum Quota {
     /// Its own share, and of the common one what others left.
     Common,
+    /// The same, and so many octets at most.
+    Within(u64),
     /// Its own share alone, and what was sent back counts no longer: nobody needs more for a heartbeat.
     Own,
 }
@@ -24,7 +26,7 @@ impl Quota {
     {
         match self {
             Quota::Own => was_answered,
-            Quota::Common => false,
+            Quota::Common | Quota::Within(_) => false,
         }
     }
 }
@@ -54,10 +56,15 @@ impl<'a, S: Ledger> Account<'a, S> {
     fn bring<R: Wait>(&mut self, rt: &R, count: u64) -> bool
         ensures brought { IsTrue result → self.new.share.brought ≡ self.old.share.brought + count }
         ensures same { result ≡ false → self.new.share.brought ≡ self.old.share.brought }
+        ensures within { IsTrue result → IsWithin self.old.quota self.new.share.brought }
         ensures quota { self.new.quota ≡ self.old.quota }
     {
         match self.quota {
             Quota::Common => self.strangers.bring(rt, &mut self.share, count),
+            Quota::Within(most) => {
+                self.share.may_bring(count, most)
+                    && self.strangers.bring(rt, &mut self.share, count)
+            }
             Quota::Own => self.share.bring_own(count),
         }
     }
@@ -76,13 +83,14 @@ impl<'a, S: Ledger> Account<'a, S> {
 
     /// Counts octets that came, before anything of them is kept, and tells whether they may be, by what was noted of the connection until now. Nothing is
     /// counted of who showed the key, and what was answered no longer is. Otherwise these octets are counted beside what is left of those before; or none
-    /// of them, and then they may not be kept.
+    /// of them, and then they may not be kept. No more is counted than the quota of the connection lets it bring.
     pub fn enter<R: Wait>(&mut self, rt: &R, noted: Noted, count: u64) -> bool
         ensures trusted { IsTrue noted.is_trusted → IsTrue result × (self.new.share.brought ≡ 0) }
         ensures brought { noted.is_trusted ≡ false → IsTrue result
             → self.new.share.brought ≡ left_of self.old.quota noted self.old.share.brought + count }
         ensures refused { noted.is_trusted ≡ false → result ≡ false
             → self.new.share.brought ≡ left_of self.old.quota noted self.old.share.brought }
+        ensures within { noted.is_trusted ≡ false → IsTrue result → IsWithin self.old.quota self.new.share.brought }
         ensures quota { self.new.quota ≡ self.old.quota }
     {
         let is_all = noted.is_trusted || self.quota.settles(noted.was_answered);

@@ -7,19 +7,22 @@
 //! whether it is ready, whether it is trusted, when it was heard and since when no request is under way, as it was noted there, so that one makes room where
 //! all places are taken.
 //! Who that is [`who_makes_room`] answers, by specs/Room.antt: of those whose time is over one that is not ready, else a stranger, and else who showed the
-//! key and has been silent for long with no request under way; of a class the one that has been silent longest. Before that a place is relieved of an
+//! key and has been silent for long with no request under way; of a class the one that has been silent longest. Who showed the key and answers pings stays
+//! until one was unanswered for long, and whom [`who_is_pinged`] answers is pinged where nobody has to leave. Before that a place is relieved of an
 //! orphan, if there is one: a connection whose peer has hung up, as the system tells ([`Hangups`]), while its request is under way
 //! ([`who_is_relieved`], specs/Relief.antt). It is served to its end, and another one beside it. What strangers bring is counted by
-//! [`Strangers`]: each has its own share, and past their shares they bring no more together than [`COMMON_OCTETS`]. A place has an [`Allowance`] for each
-//! connection that it serves, whose [`Account`] counts what comes on it by a [`Share`] and can't be let go of: it is given back, and the types keep that
-//! the count is the sum of what the shares have, so that one which is given back is counted no longer. The time of a message that is written begins with its
-//! first piece and stays with the others ([`WriteDeadline`]).
+//! [`Strangers`]: each has its own share, and past their shares they bring no more together than they may, [`COMMON_OCTETS`] where nothing else is said. A
+//! place has an [`Allowance`] for each connection that it serves, whose [`Account`] counts what comes on it by a [`Share`] and can't be let go of: it is given
+//! back, and the types keep that the count is the sum of what the shares have, so that one which is given back is counted no longer. By its [`Quota`] a
+//! connection may be held to fewer octets than strangers left. The time of a message that is written begins with its first piece and stays with the others
+//! ([`WriteDeadline`]).
 //!
 //! To the layer above this crate promises that rule, that count, that time and safety: no clause can say what a socket does. The register under the
 //! lock is exact on what it is lent ([`Connections`] is that register under a lock). It stands on no other crate of the kernel.
 //!
 //! A register that was closed stays so, and closing it takes nobody from its place. What stays within a stranger's own share is never
-//! refused, and `Common::bring` refuses other octets only where there would be more than [`COMMON_OCTETS`].
+//! refused, and `Common::bring` refuses other octets only where there would be more than strangers may hold together. Who waits for what comes on a connection
+//! holds a [`Listening`] that can't be let go of, so whoever began to wait says when the wait is over, and a ping goes out only in between.
 #![tactic(auto)]
 
 mod account;
@@ -40,7 +43,7 @@ pub use deadline::WriteDeadline;
 pub use hangups::Hangups;
 pub use input::ConnectionInput;
 pub use listener::Listener;
-pub use presence::{Noted, Ping, Presence};
+pub use presence::{Listening, Noted, Ping, Presence};
 pub use register::{Register, Stream};
 pub use relief::who_is_relieved;
 pub use room::{Sight, Stays, who_is_pinged, who_makes_room};

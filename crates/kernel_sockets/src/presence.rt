@@ -66,10 +66,25 @@ pub struct Presence {
     rested: AtomicU64,
     /// Its peer answers pings: it speaks ZMTP 3.1 or later.
     answers_pings: AtomicBool,
-    /// When it was pinged last; 0 if it was not.
+    /// When it was pinged last; 0 if it was not. A peer counts as pinged where its window took nothing of the ping: it reads nothing.
     pinged: AtomicU64,
     /// Who serves it waits for what comes, and writes nothing meanwhile: a ping may be written, under this lock, as nothing else goes out.
     is_listening: Mutex<bool>,
+}
+
+/// Who serves a connection waits for what comes, and writes nothing meanwhile: its peer may be pinged. It can't be let go of: [`Listening::end`] alone
+/// takes it, so whoever began to wait says when the wait is over.
+pub struct Listening<'a> {
+    presence: &'a Presence,
+}
+
+impl Listening<'_> {
+    /// Who serves the connection may write again, once no ping is being written.
+    pub fn end<R: Wait>(self, rt: &R) {
+        let Listening { presence } = self;
+        let mut is_listening = presence.is_listening.lock(rt);
+        *is_listening = false;
+    }
 }
 
 impl Presence {
@@ -107,19 +122,14 @@ impl Presence {
         self.answers_pings.store(answers, Ordering::SeqCst);
     }
 
-    /// Who serves it waits for what comes, and writes nothing until [`Presence::speak`].
-    pub fn listen<R: Wait>(&self, rt: &R) {
+    /// Who serves it waits for what comes from now on, and writes nothing until [`Listening::end`].
+    pub fn listen<R: Wait>(&self, rt: &R) -> Listening<'_> {
         let mut is_listening = self.is_listening.lock(rt);
         *is_listening = true;
+        Listening { presence: self }
     }
 
-    /// Who serves it may write again, once no ping is being written.
-    pub fn speak<R: Wait>(&self, rt: &R) {
-        let mut is_listening = self.is_listening.lock(rt);
-        *is_listening = false;
-    }
-
-    /// Pings the peer at this time, unless who serves it may write: then something came.
+    /// Pings the peer at this time, unless who serves it may write: then something came. It counts as pinged also where nothing of the ping was taken.
     pub(crate) fn ping<R: Wait>(&self, rt: &R, stream: &TcpStream, ping: Ping<'_>, now: u64) {
         let is_listening = self.is_listening.lock(rt);
         if *is_listening {

@@ -1,6 +1,6 @@
 //! What strangers hold: connections on which no message with a valid signature came.
 ghost use Rattle.std.specs.Prelude.{◌≡◌, ◌+◌, ◌-◌, ◌≤◌, ◌<◌, ◌↔◌, IsTrue, true, false, IfSome, IfNone};
-ghost use Rattle.kernel_sockets.specs.declared.shares.TheConstants.{COMMON_OCTETS, OWN_OCTETS};
+ghost use Rattle.kernel_sockets.specs.declared.shares.TheConstants.{OWN_OCTETS};
 ghost use Rattle.kernel_sockets.specs.Shares.{common_of};
 
 use std::sync::ledger::{Blank, Book, Ledger, Share as Part};
@@ -13,25 +13,27 @@ pub const OWN_OCTETS: u64 = 8_192;
 /// until it is dropped, so those of one read take 34 KiB.
 pub const READ_OCTETS: usize = 512;
 
-/// The octets that all strangers together may bring beyond their own shares.
+/// The octets that all strangers together may bring beyond their own shares, where nothing else is said.
 ///
 /// What they hold by it stays below 64 MiB. An octet takes four at most: a frame is gathered in room for twice its octets, its body is a copy, and so is a
 /// prefix that is kept. That is 16 MiB. An own share takes 128 KiB at most, as 1,024 frames of a message that isn't whole: 74 KiB for their list as it
 /// grows, 32 for each with a body of its own, and the room in which they are gathered; of the 160 who may be strangers at once that is 20 MiB. The messages
 /// of one read take 34 KiB, of 160 at once 5.4 MiB. The 4,096 prefixes of a subscriber take 512 KiB at most beside their octets, and those of 32 subscribers
 /// 16 MiB. All that is 57.4 MiB. What goes out is not in it, and neither is a ping that was answered, of which nothing is kept.
-pub const COMMON_OCTETS: u64 = 4_194_304;
+pub const COMMON_OCTETS: u32 = 4_194_304;
 
 /// How much strangers hold together past their own shares. Its type keeps that it is no more than there is, and that it is the sum of what each of
 /// them holds: the book has the total of all parts of its ledger.
 #[derive(Drop)]
 pub struct Common<S: Ledger> {
     pub held: u64,
+    /// The most that they may hold so.
+    pub most: u32,
     book: Book<S>,
     /// The parts of the ledger that no place has, and how many they are.
     rest: Part<S>,
     pub left: u64,
-    ghost within: { held ≤ COMMON_OCTETS },
+    ghost within: { held ≤ most },
     ghost summed: { held ≡ book.total },
     ghost parts: { rest.parts ≡ left },
     ghost idle: { rest.amount ≡ 0 },
@@ -76,6 +78,13 @@ impl<S: Ledger> Share<S> {
         true
     }
 
+    /// Whether it may bring `count` octets more where `most` are the most that it may bring.
+    pub fn may_bring(&self, count: u64, most: u64) -> bool
+        ensures { IsTrue result ↔ self.now.brought + count ≤ most }
+    {
+        self.brought <= most && count <= most - self.brought
+    }
+
     /// How much of it lies past its own share.
     fn common(&self) -> u64
         ensures { result ≡ common_of self.now.brought }
@@ -93,16 +102,18 @@ impl<S: Ledger> Share<S> {
 }
 
 impl<S: Ledger> Common<S> {
-    /// Nobody holds anything, and each of `places` places may have an allowance.
-    pub fn new(blank: Blank, places: u64) -> Common<S>
+    /// Nobody holds anything, each of `places` places may have an allowance, and `most` octets may be held.
+    pub fn new(blank: Blank, places: u64, most: u32) -> Common<S>
         requires name { blank.name ≡ S.name }
         requires parts { (blank.parts ≡ S.parts) × (blank.parts ≡ places) }
         ensures held { result.held ≡ 0 }
+        ensures most { result.most ≡ most }
         ensures left { result.left ≡ places }
     {
         let (book, rest) = blank.open::<S>();
         Common {
             held: 0,
+            most,
             book,
             rest,
             left: places,
@@ -114,6 +125,7 @@ impl<S: Ledger> Common<S> {
         ensures some { IfSome result (λ _. self.old.left ≡ self.new.left + 1) }
         ensures none { IfNone result ((self.old.left ≡ 0) × (self.new.left ≡ 0)) }
         ensures held { self.new.held ≡ self.old.held }
+        ensures most { self.new.most ≡ self.old.most }
     {
         if self.left == 0 {
             return None;
@@ -128,8 +140,10 @@ impl<S: Ledger> Common<S> {
         ensures brought { IsTrue result → share.new.brought ≡ share.old.brought + count }
         ensures counted { self.new.held + common_of share.old.brought ≡ self.old.held + common_of share.new.brought }
         ensures same { result ≡ false → share.new.brought ≡ share.old.brought }
-        ensures refused { result ≡ false → COMMON_OCTETS + common_of share.old.brought < self.old.held + common_of (share.old.brought + count) }
+        ensures refused { result ≡ false → self.old.most + common_of share.old.brought < self.old.held + common_of (share.old.brought + count) }
+        ensures most { self.new.most ≡ self.old.most }
     {
+        let most = self.most as u64;
         let before = share.common();
         let Share { brought, part } = share;
         self.book.audit(part);
@@ -137,7 +151,7 @@ impl<S: Ledger> Common<S> {
             return false;
         };
         let more = after.saturating_sub(OWN_OCTETS) - before;
-        if more > COMMON_OCTETS - self.held {
+        if more > most - self.held {
             return false;
         }
         self.hold(part, more);
@@ -147,12 +161,13 @@ impl<S: Ledger> Common<S> {
 
     /// Counts `more` that is held by a part of the ledger.
     fn hold(&mut self, part: &mut Part<S>, more: u64)
-        requires room { self.old.held + more ≤ COMMON_OCTETS }
+        requires room { self.old.held + more ≤ self.old.most }
         requires part { part.old.parts ≡ 1 }
         ensures held { self.new.held ≡ self.old.held + more }
         ensures amount { part.new.amount ≡ part.old.amount + more }
         ensures parts { part.new.parts ≡ part.old.parts }
         ensures left { self.new.left ≡ self.old.left }
+        ensures most { self.new.most ≡ self.old.most }
     {
         self.book.add(part, more);
         self.held += more;
@@ -162,6 +177,7 @@ impl<S: Ledger> Common<S> {
     pub fn settle(&mut self, share: &mut Share<S>)
         ensures gone { share.new.brought ≡ 0 }
         ensures counted { self.new.held + common_of share.old.brought ≡ self.old.held }
+        ensures most { self.new.most ≡ self.old.most }
     {
         let before = share.common();
         let Share { brought, part } = share;
@@ -175,6 +191,7 @@ impl<S: Ledger> Common<S> {
     pub fn give_back(&mut self, share: &mut Share<S>, count: u64)
         ensures less { share.new.brought ≡ share.old.brought - count }
         ensures counted { self.new.held + common_of share.old.brought ≡ self.old.held + common_of share.new.brought }
+        ensures most { self.new.most ≡ self.old.most }
     {
         let before = share.common();
         let Share { brought, part } = share;
@@ -194,13 +211,13 @@ pub struct Strangers<S: Ledger> {
 }
 
 impl<S: Ledger> Strangers<S> {
-    /// Nobody holds anything, and each of `places` places may have an allowance.
-    pub fn new(blank: Blank, places: u64) -> Strangers<S>
+    /// Nobody holds anything, each of `places` places may have an allowance, and `most` octets may be held past their own shares.
+    pub fn new(blank: Blank, places: u64, most: u32) -> Strangers<S>
         requires name { blank.name ≡ S.name }
         requires parts { (blank.parts ≡ S.parts) × (blank.parts ≡ places) }
     {
         Strangers {
-            common: Mutex::new(Common::new(blank, places)),
+            common: Mutex::new(Common::new(blank, places, most)),
         }
     }
 

@@ -7,7 +7,8 @@
 //! of its own and frontends of that version, one of `reach` has frontends of 3.1 and a kernel that listens at all addresses, one of `brief` has
 //! frontends of 3.1 and a kernel of which an owner who is silent for 200 milliseconds makes room, once a ping has not been answered for 500, one of
 //! `older` such a kernel and frontends of 3.0, one of `hasty` frontends of 3.1 and a kernel of which handshakes and messages take a second at most and whose
-//! silent subscribers stay for 300 milliseconds, and the rows of any other block need no kernel. What may stand in them is said by `with_kernel` and by
+//! silent subscribers stay for 300 milliseconds, one of `tight` frontends of 3.1 and a kernel that serves two at once on a socket and has room for little, and
+//! the rows of any other block need no kernel. What may stand in them is said by `with_kernel` and by
 //! `without_kernel`.
 #![tactic(auto)]
 
@@ -22,7 +23,7 @@ mod told;
 mod with_kernel;
 mod without_kernel;
 
-use kernel_program::Times;
+use kernel_program::{Limits, Times};
 use programs::run_kernel;
 use site::{LOOPBACK, Site, make_site};
 use std::net::{Net, TcpListener, TcpStream};
@@ -35,18 +36,38 @@ use std::{io, thread};
 use tests_rows::{Sheet, cut_block};
 
 /// A kernel whose owners of connections have to make room after 200 milliseconds of silence, and 500 milliseconds behind a ping if they answer such.
-const BRIEF: Times = Times {
-    owner: 200,
-    answer: 500,
-    ..Times::USUAL
+const BRIEF: Limits = Limits {
+    times: Times {
+        owner: 200,
+        answer: 500,
+        ..Times::USUAL
+    },
+    ..Limits::USUAL
 };
 
 /// A kernel whose handshakes and messages take a second at most, and where who is silent for 300 milliseconds on a socket without a key makes room.
-const HASTY: Times = Times {
-    handshake: 1_000,
-    message: 1_000,
-    silence: 300,
-    ..Times::USUAL
+const HASTY: Limits = Limits {
+    times: Times {
+        handshake: 1_000,
+        message: 1_000,
+        silence: 300,
+        ..Times::USUAL
+    },
+    ..Limits::USUAL
+};
+
+/// A kernel that serves two connections at once on a socket, whose strangers bring 16 kibibytes together past their own shares, and that counts to three
+/// nodes and four jobs, at which it looks every 50 milliseconds.
+const TIGHT: Limits = Limits {
+    times: Times {
+        pause: 50,
+        ..Times::USUAL
+    },
+    places: 2,
+    common: 16_384,
+    nodes: 3,
+    minutes: 8,
+    ..Limits::USUAL
 };
 
 fn main(rt: HostRuntime) -> anyhow::Result<()> {
@@ -60,7 +81,7 @@ fn main(rt: HostRuntime) -> anyhow::Result<()> {
             // The kernel runs on a thread of its own, beside its frontends.
             let (ran, ()) = thread::join(
                 &rt,
-                || run_kernel(&rt, alloc, site.times, &["janus-kernel", &site.path]),
+                || run_kernel(&rt, alloc, site.limits, &["janus-kernel", &site.path]),
                 || with_kernel::tell(&rt, &site, block, &mut seen, &mut sheet),
             );
             with_kernel::end(&rt, &site, &ran, &mut sheet);
@@ -92,13 +113,14 @@ where
     sheet.write(title);
     sheet.write("\n");
     match subject {
-        "3.0" => make_site(rt, LOOPBACK, 0, Times::USUAL, sheet),
-        "3.1" => make_site(rt, LOOPBACK, 1, Times::USUAL, sheet),
+        "3.0" => make_site(rt, LOOPBACK, 0, Limits::USUAL, sheet),
+        "3.1" => make_site(rt, LOOPBACK, 1, Limits::USUAL, sheet),
         "brief" => make_site(rt, LOOPBACK, 1, BRIEF, sheet),
         "older" => make_site(rt, LOOPBACK, 0, BRIEF, sheet),
         "hasty" => make_site(rt, LOOPBACK, 1, HASTY, sheet),
-        "reach" => make_site(rt, "0.0.0.0", 1, Times::USUAL, sheet),
-        "every" => make_site(rt, "*", 1, Times::USUAL, sheet),
+        "tight" => make_site(rt, LOOPBACK, 1, TIGHT, sheet),
+        "reach" => make_site(rt, "0.0.0.0", 1, Limits::USUAL, sheet),
+        "every" => make_site(rt, "*", 1, Limits::USUAL, sheet),
         _ => {
             without_kernel::tell(rt, calls, sheet);
             None

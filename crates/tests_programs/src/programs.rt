@@ -2,7 +2,7 @@
 use crate::octets::text_of;
 use crate::told::told;
 use console_program::console;
-use kernel_program::{Times, kernel_main};
+use kernel_program::{Limits, kernel_main};
 use std::alloc::{AllocError, Global};
 use std::net::{Net, TcpListener, TcpStream};
 use std::random::RandomSource;
@@ -37,8 +37,8 @@ fn tell_octets(octets: &[u8], most: usize, sheet: &mut Sheet) {
     told(text_of(sheet.alloc(), octets), sheet);
 }
 
-/// Runs a kernel whose connections have so long, over the words of its command line, to its end.
-pub(crate) fn run_kernel<R>(rt: &R, alloc: Global, times: Times, words: &[&str]) -> Ran
+/// Runs a kernel of these limits, over the words of its command line, to its end.
+pub(crate) fn run_kernel<R>(rt: &R, alloc: Global, limits: Limits, words: &[&str]) -> Ran
 where
     R: Net<Listener = TcpListener, Stream = TcpStream>
         + Files
@@ -49,7 +49,7 @@ where
         + Sync,
 {
     let (mut out, mut err) = (Vec::new(alloc), Vec::new(alloc));
-    let status = kernel_main(rt, alloc, times, words, &mut out, &mut err);
+    let status = kernel_main(rt, alloc, limits, words, &mut out, &mut err);
     Ran { status, out, err }
 }
 

@@ -1,7 +1,7 @@
 //! Where a kernel listens, and its connection file.
 use crate::content::KEY;
 use crate::told::tell_error;
-use kernel_program::Times;
+use kernel_program::Limits;
 use std::alloc::Global;
 use std::fs::Permissions;
 use std::io::{ErrorKind, Result};
@@ -30,8 +30,8 @@ pub(crate) struct Site {
     pub ports: [u16; 5],
     /// The minor version of ZMTP 3 that frontends speak there.
     pub minor: u8,
-    /// How long the kernel's connections have.
-    pub times: Times,
+    /// What the kernel's connections have.
+    pub limits: Limits,
 }
 
 impl Site {
@@ -133,8 +133,8 @@ fn path_of(alloc: Global, ports: [u16; 5]) -> Result<String> {
     Ok(format!(in alloc; "kernel-{shell}.json")?)
 }
 
-/// Writes a connection file with free ports, this address and the key, for frontends of this minor version and connections that have so long.
-fn new_site<R>(rt: &R, alloc: Global, ip: &str, minor: u8, times: Times) -> Result<Site>
+/// Writes a connection file with free ports, this address and the key, for frontends of this minor version and a kernel of these limits.
+fn new_site<R>(rt: &R, alloc: Global, ip: &str, minor: u8, limits: Limits) -> Result<Site>
 where
     R: Net<Listener = TcpListener, Stream = TcpStream> + Files,
 {
@@ -145,25 +145,25 @@ where
             path,
             ports,
             minor,
-            times,
+            limits,
         }),
         Err(error) => Err(error),
     }
 }
 
-/// Writes a connection file with free ports, this address and the key, for frontends of this minor version and connections that have so long; none where
+/// Writes a connection file with free ports, this address and the key, for frontends of this minor version and a kernel of these limits; none where
 /// that fails, which is told.
 pub(crate) fn make_site<R>(
     rt: &R,
     ip: &str,
     minor: u8,
-    times: Times,
+    limits: Limits,
     sheet: &mut Sheet,
 ) -> Option<Site>
 where
     R: Net<Listener = TcpListener, Stream = TcpStream> + Files,
 {
-    match new_site(rt, sheet.alloc(), ip, minor, times) {
+    match new_site(rt, sheet.alloc(), ip, minor, limits) {
         Ok(site) => Some(site),
         Err(error) => {
             tell_error(&error, sheet);

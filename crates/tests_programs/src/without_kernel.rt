@@ -1,15 +1,17 @@
-//! Rows where no kernel comes to run, each with the status of a program and what it wrote. `kernel` and `console` (a number, and the words of a
-//! command line) run a program over its words, and give no more than this number of octets of each of its two streams. `file` (a text) runs both
-//! programs on a connection file with this text, and `missing` on one that isn't there. `alone` runs a console at ports where no kernel listens, and
-//! `unanswered` where one listens that says nothing. `taken` (a socket, of shell, iopub, stdin, control and heartbeat the first is 1) runs a kernel whose
-//! port for this socket another one has. `readable` (a mode in octal digits) runs a kernel on a connection file of this mode, whose ports another one has. `times`
-//! gives how many milliseconds `janus-kernel` gives a handshake, a message, a stranger, who is silent where nothing is signed, who showed the key, and a pong.
+//! Rows where no kernel comes to run, each with the status of a program and what it wrote. `kernel` and `console` (a number, and the words of a command
+//! line) run a program over its words, and give no more than this number of octets of each of its two streams. `file` (a text) runs both programs on a
+//! connection file with this text, and `missing` on one that isn't there. `alone` runs a console at ports where no kernel listens, and `unanswered` where
+//! one listens that says nothing. `taken` (a socket, of shell, iopub, stdin, control and heartbeat the first is 1) runs a kernel whose port for this socket
+//! another one has. `readable` (a mode in octal digits) runs a kernel on a connection file of this mode, whose ports another one has. `limits` gives how
+//! many milliseconds `janus-kernel` gives a handshake, a message, a stranger, who is silent where nothing is signed, who showed the key, a pong, who still
+//! writes at the end, and a limit that is near; how many octets strangers may bring together, and a subscriber; and how many are served at once on a
+//! socket, and the nodes and the minutes that there are.
 use crate::content::KEY;
 use crate::programs::{ask, run_console, run_kernel};
 use crate::site::{LOOPBACK, free_ports, listen, listen_anywhere, write_connection, write_own};
 use crate::talk::place;
 use crate::told::tell_error;
-use kernel_program::Times;
+use kernel_program::Limits;
 use std::fs::{self, Permissions};
 use std::io::Result;
 use std::net::{Net, TcpListener, TcpStream};
@@ -63,8 +65,8 @@ where
         "unanswered" => unanswered(rt, sheet),
         "taken" => taken(rt, place(rest), sheet),
         "readable" => readable(rt, rest, sheet),
-        "times" => {
-            show_times(Times::USUAL, sheet);
+        "limits" => {
+            show_limits(Limits::USUAL, sheet);
             Ok(())
         }
         _ => {
@@ -74,8 +76,9 @@ where
     }
 }
 
-/// Writes the times of a kernel, in milliseconds.
-fn show_times(times: Times, sheet: &mut Sheet) {
+/// Writes the times of a kernel, in milliseconds, and its other limits.
+fn show_limits(limits: Limits, sheet: &mut Sheet) {
+    let times = limits.times;
     let all = [
         times.handshake,
         times.message,
@@ -83,8 +86,14 @@ fn show_times(times: Times, sheet: &mut Sheet) {
         times.silence,
         times.owner,
         times.answer,
+        times.grace,
+        times.pause,
+        limits.common as u64,
+        limits.subscriber,
     ];
     sheet.show(&all);
+    sheet.write(" ");
+    sheet.show(&[limits.places, limits.nodes, limits.minutes]);
 }
 
 /// Runs the kernel on the connection file.
@@ -98,7 +107,7 @@ where
         + Clock
         + Sync,
 {
-    run_kernel(rt, sheet.alloc(), Times::USUAL, &["janus-kernel", PATH]).tell(usize::MAX, sheet);
+    run_kernel(rt, sheet.alloc(), Limits::USUAL, &["janus-kernel", PATH]).tell(usize::MAX, sheet);
 }
 
 /// Runs both programs on the connection file.
@@ -237,7 +246,7 @@ where
         + Sync,
 {
     match program {
-        "kernel" => run_kernel(rt, sheet.alloc(), Times::USUAL, words).tell(most, sheet),
+        "kernel" => run_kernel(rt, sheet.alloc(), Limits::USUAL, words).tell(most, sheet),
         "console" => run_console(rt, sheet.alloc(), words).tell(most, sheet),
         _ => run_both(rt, sheet),
     }

@@ -112,7 +112,7 @@ fn publish<R: Wait>(rt: &R, bulletin: &Bulletin, row: &str, sheet: &mut Sheet) {
         match broadcast(sheet.alloc(), topic, number(octets)) {
             Ok(broadcast) => {
                 bulletin.publish(rt, broadcast);
-                bulletin.wake(rt);
+                bulletin.wake();
             }
             Err(_) => sheet.refuse(),
         }

@@ -1,6 +1,6 @@
 //! The places of a socket.
 ghost use Rattle.std.specs.Prelude.{◌≡◌, ◌+◌, ◌≤◌};
-ghost use Rattle.kernel_places.specs.Sockets.{places_on, first_on};
+ghost use Rattle.kernel_places.specs.Sockets.{places_on, first_on, PlacesAreApart, PlacesAreThere};
 
 use kernel_desk::Socket;
 
@@ -16,10 +16,19 @@ const SHELL_PLACES: usize = PLACES + ORPHANS;
 /// The places of shell and control, each of which has a desk.
 pub const DESKS: usize = SHELL_PLACES + PLACES;
 
+/// The places of the sockets that take requests or octets to send back; the fifth is that of broadcasts.
+pub(crate) const CALLED_PLACES: usize = DESKS + 2 * PLACES;
+
 /// The places that the five sockets have together.
 pub const ALL_PLACES: u64 = 192;
 
 const _: () = prove!(ALL_PLACES == (DESKS as u64) + 3 * (PLACES as u64));
+
+/// Law: no place of a register is of two sockets, and each is there.
+pub fn places_are_apart_law()
+    ensures apart { PlacesAreApart }
+    ensures there { PlacesAreThere }
+{}
 
 /// How many places a socket has.
 pub(crate) fn places_of(socket: Socket) -> usize

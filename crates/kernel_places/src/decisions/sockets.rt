@@ -2,6 +2,7 @@
 ghost use Rattle.std.specs.Prelude.{◌≡◌};
 ghost use Rattle.kernel_places.specs.Sockets.{is_signed_on, stays_on, quota_on};
 
+use crate::decisions::limits::Limits;
 use crate::decisions::times::Times;
 use kernel_desk::Socket;
 use kernel_sockets::{Quota, Stays};
@@ -35,11 +36,12 @@ pub(crate) fn is_signed(socket: Socket) -> bool
 
 /// How much a stranger may bring on a socket. On the heartbeat what is sent back answers all that came. On iopub prefixes are kept, and on stdin nothing is
 /// asked, so there what came counts as long as the connection is there, but for pings that were answered.
-pub(crate) fn quota(socket: Socket) -> Quota
-    ensures { result ≡ quota_on socket }
+pub(crate) fn quota(socket: Socket, limits: Limits) -> Quota
+    ensures { result ≡ quota_on socket limits }
 {
     match socket {
         Socket::Heartbeat => Quota::Own,
-        Socket::Shell | Socket::Control | Socket::Iopub | Socket::Stdin => Quota::Common,
+        Socket::Iopub => Quota::Within(limits.subscriber),
+        Socket::Shell | Socket::Control | Socket::Stdin => Quota::Common,
     }
 }

@@ -1,5 +1,5 @@
 //! The times of a connection.
-/// How long connections have, in milliseconds.
+/// How long connections have, and what else takes its time, in milliseconds.
 #[derive(Clone, Copy)]
 pub struct Times {
     /// A handshake, from when the connection was accepted.
@@ -14,6 +14,10 @@ pub struct Times {
     pub owner: u64,
     /// Who showed the key and answers pings where another one waits: from when it was pinged, if nothing came since.
     pub answer: u64,
+    /// Connections that still write at the end, once the worker has come to its own: those that call, and then those that subscribe.
+    pub grace: u64,
+    /// A limit that is near until it is told.
+    pub pause: u64,
 }
 
 impl Times {
@@ -25,5 +29,7 @@ impl Times {
         silence: 60_000,
         owner: 600_000,
         answer: 60_000,
+        grace: 400,
+        pause: 10_000,
     };
 }

@@ -3,6 +3,7 @@ ghost use Rattle.std.specs.Prelude.{◌≡◌, min, if◌then◌else◌};
 ghost use Rattle.std.specs.Io.{ReadsAtMost};
 ghost use Rattle.kernel_sockets.specs.declared.shares.TheConstants.{READ_OCTETS};
 
+use crate::decisions::limits::Limits;
 use crate::decisions::sockets::{is_signed, quota};
 use crate::decisions::times::Times;
 use crate::streams::clock::{INTERRUPTIONS, clock_of, handshake_end, milliseconds};
@@ -52,7 +53,7 @@ impl<'a, R: Clock + Wait, S: Ledger> TimedReader<'a, R, S> {
         input: ConnectionInput<'a>,
         presence: &'a Presence,
         socket: Socket,
-        times: Times,
+        limits: Limits,
         strangers: &'a Strangers<S>,
         allowance: Allowance<S>,
     ) -> TimedReader<'a, R, S> {
@@ -62,10 +63,10 @@ impl<'a, R: Clock + Wait, S: Ledger> TimedReader<'a, R, S> {
             input,
             presence,
             is_timed: true,
-            times,
-            until: handshake_end(rt, times),
+            times: limits.times,
+            until: handshake_end(rt, limits.times),
             socket,
-            account: Account::new(strangers, quota(socket), allowance),
+            account: Account::new(strangers, quota(socket, limits), allowance),
         }
     }
 
@@ -121,9 +122,10 @@ impl<'a, R: Clock + Wait, S: Ledger> TimedReader<'a, R, S> {
         if !is_signed(self.socket) {
             return self.read_on(buf);
         }
-        self.presence.listen(self.rt);
+        let presence = self.presence;
+        let listening = presence.listen(self.rt);
         let answer = self.read_on(buf);
-        self.presence.speak(self.rt);
+        listening.end(self.rt);
         answer
     }
 
@@ -163,9 +165,11 @@ impl<'a, R: Clock + Wait, S: Ledger> TimedReader<'a, R, S> {
 }
 
 impl<R: Clock + Wait, S: Ledger> Read for TimedReader<'_, R, S> {
-    /// Of a stranger no more than 512 octets are read at once.
+    /// Of a stranger no more than 512 octets are read at once. What was noted since the last read counts before one waits: of who showed the key nothing is
+    /// counted meanwhile.
     fn read(&mut self, buf: &mut [u8]) -> io::Result<usize> {
         let most = most_at_once(self.presence.is_trusted(), buf.len());
+        self.count(0)?;
         self.bound_next()?;
         let count = self.listen(&mut buf[..most])?;
         self.count(count)?;

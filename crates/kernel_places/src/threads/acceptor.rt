@@ -1,4 +1,5 @@
 //! The acceptor of a socket: it accepts connections, and has others make room where all places are taken.
+use crate::decisions::entrance::Stuck;
 use crate::decisions::places::{Place, places_of};
 use crate::decisions::sockets::stays;
 use crate::decisions::times::Times;
@@ -28,7 +29,7 @@ fn accept<W: Ledger, L: HistoryName, S: Ledger, R: Wait + Clock>(
     service: &Service<W, L, S>,
     listener: &Listener,
 ) -> Option<(TcpStream, u64)> {
-    let Ok(stream) = listener.accept(service.times.message) else {
+    let Ok(stream) = listener.accept(service.limits.times.message) else {
         if !service.ending.is_set() {
             thread::sleep(rt, Duration::from_millis(REST_MILLISECONDS));
         }
@@ -72,8 +73,23 @@ fn make_room<R: Wait + Clock>(rt: &R, connections: &Connections, socket: Socket,
     connections.make_room(rt, first, count, stays(socket, times), now, ping);
 }
 
-/// Has connections make room, one after another, until a place of the socket has taken the one that waits at the door: an orphan, if there is one, and else
-/// one whose time is over. While a place is about to take it nobody has to.
+/// Has one connection make room for the one that was seen to wait in vain: an orphan, if there is one, and else one whose time is over.
+fn give_way<R: Wait + Clock>(
+    rt: &R,
+    connections: &Connections,
+    listeners: &Listeners,
+    door: &Door,
+    socket: Socket,
+    times: Times,
+    _seen: Stuck,
+) {
+    if !relieve(rt, connections, listeners, door, socket) {
+        make_room(rt, connections, socket, times);
+    }
+}
+
+/// Has connections make room, one after another, until a place of the socket has taken the one that waits at the door. Before each it is seen that the one
+/// that waits does so in vain.
 fn see_in<R: Wait + Clock>(
     rt: &R,
     connections: &Connections,
@@ -81,13 +97,15 @@ fn see_in<R: Wait + Clock>(
     door: &Door,
     socket: Socket,
     times: Times,
+    seen: Stuck,
 ) {
+    give_way(rt, connections, listeners, door, socket, times, seen);
     for _ in rt.forever() {
-        if !door.is_awaited(rt) && !relieve(rt, connections, listeners, door, socket) {
-            make_room(rt, connections, socket, times);
-        }
         if door.wait_until_free(rt, Duration::from_millis(WAIT_MILLISECONDS)) {
             return;
+        }
+        if let Some(seen) = door.stuck(rt) {
+            give_way(rt, connections, listeners, door, socket, times, seen);
         }
     }
 }
@@ -106,9 +124,10 @@ pub(crate) fn accept_all<W: Ledger, L: HistoryName, S: Ledger, R: Wait + Clock>(
             break;
         }
         if let Some((stream, number)) = accept(rt, service, listeners.of(socket)) {
-            if !door.offer(rt, stream, number) {
+            if let Some(seen) = door.offer(rt, stream, number) {
                 let connections = service.connections(socket);
-                see_in(rt, connections, listeners, door, socket, service.times);
+                let times = service.limits.times;
+                see_in(rt, connections, listeners, door, socket, times, seen);
             }
         }
     }

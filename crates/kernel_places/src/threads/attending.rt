@@ -40,8 +40,8 @@ fn receive<W: Ledger, L: HistoryName, S: Ledger, R: Runtime>(
     (allowance, was_relieved)
 }
 
-/// Serves the connection that was taken from the door to its end, and lets the next one in, unless the place was relieved of this one: then another one was
-/// let in before. The allowance of the place is given back.
+/// Serves the connection that was taken from the door to its end, and comes back to the door. The next one may be let in then, unless the place was relieved
+/// of this one: then another one was let in before. The allowance of the place is given back.
 fn attend_to<W: Ledger, L: HistoryName, S: Ledger, R: Runtime>(
     rt: &R,
     service: &Service<W, L, S>,
@@ -52,9 +52,7 @@ fn attend_to<W: Ledger, L: HistoryName, S: Ledger, R: Runtime>(
     allowance: Allowance<S>,
 ) -> Allowance<S> {
     let (allowance, was_relieved) = receive(rt, service, host, place, stream, number, allowance);
-    if !was_relieved {
-        service.doors.of(place.socket).admit(rt);
-    }
+    service.doors.of(place.socket).come_back(rt, was_relieved);
     allowance
 }
 

@@ -1,5 +1,6 @@
 //! The door of a socket: where a connection that was accepted waits for a place.
-use crate::decisions::entrance::Entrance;
+use crate::decisions::entrance::{Entrance, Stuck};
+use crate::decisions::places::places_of;
 use kernel_desk::Socket;
 use std::net::TcpStream;
 use std::sync::{Condvar, Mutex, Wait};
@@ -14,10 +15,10 @@ pub(crate) struct Door {
 }
 
 impl Door {
-    /// A door at which nobody waits, for so many connections at once. It takes no memory.
-    pub fn new(free: usize) -> Door {
+    /// A door at which nobody waits, of so many places, for so many connections at once. It takes no memory.
+    pub fn new(places: usize, free: usize) -> Door {
         Door {
-            entrance: Mutex::new(Entrance::new(free)),
+            entrance: Mutex::new(Entrance::new(places, free)),
             offered: Condvar::new(),
             taken: Condvar::new(),
         }
@@ -25,47 +26,52 @@ impl Door {
 
     /// The next connection for a place, with its number, once there is one and may be served; `None` once the door is closed.
     pub fn take<R: Wait>(&self, rt: &R) -> Option<(TcpStream, u64)> {
-        let mut entrance = self.entrance.lock(rt);
-        entrance.idle = entrance.idle.saturating_add(1);
-        let mut entrance = self.offered.wait_while(
-            rt,
-            entrance,
-            |entrance| (entrance.next.is_none() || entrance.free == 0) && !entrance.is_closed,
-        );
-        entrance.idle = entrance.idle.saturating_sub(1);
+        let entrance = self.entrance.lock(rt);
+        let mut entrance = self
+            .offered
+            .wait_while(rt, entrance, |entrance| !entrance.may_take());
         let next = entrance.take();
         drop(entrance);
         self.taken.notify_all();
         next
     }
 
-    /// One more connection may be served: one has come to its end, or its place was relieved of it.
-    pub fn admit<R: Wait>(&self, rt: &R) {
+    /// A place serves no connection any longer, and takes the next one. One more may be served then, unless the place was relieved of its one.
+    pub fn come_back<R: Wait>(&self, rt: &R, was_relieved: bool) {
         let mut entrance = self.entrance.lock(rt);
-        entrance.free = entrance.free.saturating_add(1);
+        entrance.come_back(was_relieved);
         drop(entrance);
         self.offered.notify_one();
     }
 
-    /// Has a connection wait for a place, once none waits before it. Whether it will have one at once.
-    pub fn offer<R: Wait>(&self, rt: &R, stream: TcpStream, number: u64) -> bool {
+    /// One more connection may be served: a place was relieved of one.
+    pub fn admit<R: Wait>(&self, rt: &R) {
+        let mut entrance = self.entrance.lock(rt);
+        entrance.admit();
+        drop(entrance);
+        self.offered.notify_one();
+    }
+
+    /// Has a connection wait for a place, once none waits before it. Whether it waits in vain. Once the door is closed it goes away.
+    pub fn offer<R: Wait>(&self, rt: &R, stream: TcpStream, number: u64) -> Option<Stuck> {
         let entrance = self.entrance.lock(rt);
         let mut entrance = self
             .taken
             .wait_while(rt, entrance, |entrance| entrance.next.is_some());
         if entrance.is_closed {
-            return true;
+            return None;
         }
-        let is_awaited = entrance.put(stream, number);
+        entrance.put(stream, number);
+        let stuck = entrance.stuck();
         drop(entrance);
         self.offered.notify_one();
-        is_awaited
+        stuck
     }
 
-    /// Whether a place waits for a connection and one more may be served: then who waits will have it at once.
-    pub fn is_awaited<R: Wait>(&self, rt: &R) -> bool {
+    /// Whether a connection waits in vain.
+    pub fn stuck<R: Wait>(&self, rt: &R) -> Option<Stuck> {
         let entrance = self.entrance.lock(rt);
-        entrance.is_awaited()
+        entrance.stuck()
     }
 
     /// Waits until no connection waits for a place, at most this long, and tells whether none does.
@@ -101,11 +107,11 @@ impl Doors {
     /// Doors at which nobody waits, each for so many connections at once. It takes no memory.
     pub fn new(free: usize) -> Doors {
         Doors {
-            shell: Door::new(free),
-            iopub: Door::new(free),
-            stdin: Door::new(free),
-            control: Door::new(free),
-            heartbeat: Door::new(free),
+            shell: Door::new(places_of(Socket::Shell), free),
+            iopub: Door::new(places_of(Socket::Iopub), free),
+            stdin: Door::new(places_of(Socket::Stdin), free),
+            control: Door::new(places_of(Socket::Control), free),
+            heartbeat: Door::new(places_of(Socket::Heartbeat), free),
         }
     }
 

@@ -1,4 +1,7 @@
 //! What a place serves its connections with.
+ghost use Rattle.std.specs.Prelude.{◌≡◌, IsTrue, false};
+ghost use Rattle.kernel_desk.specs.HallDesk.{DeskState};
+
 use crate::decisions::places::Place;
 use crate::streams::reader::TimedReader;
 use crate::streams::witness::Witness;
@@ -47,11 +50,11 @@ fn converse<W: Ledger, L: HistoryName, S: Ledger, D: Desk, R: Wait + Clock>(
         input,
         presence,
         place.socket,
-        service.times,
+        service.limits,
         &service.strangers,
         allowance,
     );
-    let mut writer = TimedWriter::new(rt, stream, presence, place.socket, service.times);
+    let mut writer = TimedWriter::new(rt, stream, presence, place.socket, service.limits.times);
     let mut witness = Witness::new(rt, presence);
     let _ = serve(
         service.alloc,
@@ -87,11 +90,11 @@ fn supply<W: Ledger, L: HistoryName, S: Ledger, R: Runtime>(
         input,
         presence,
         Socket::Iopub,
-        service.times,
+        service.limits,
         &service.strangers,
         allowance,
     );
-    let writer = TimedWriter::new(rt, stream, presence, Socket::Iopub, service.times);
+    let writer = TimedWriter::new(rt, stream, presence, Socket::Iopub, service.limits.times);
     let mut hearing = Witness::new(rt, presence);
     let speaking = Witness::new(rt, presence);
     let _ = serve_subscriber(
@@ -128,8 +131,12 @@ impl<W: Ledger, L: HistoryName, R: Runtime> Host<'_, W, L, R> {
         }
     }
 
-    /// Whether a shutdown came to it.
-    pub fn was_shut(&self) -> bool {
+    /// Whether a shutdown came to it: to its desk, if it has one.
+    pub fn was_shut(&self) -> bool
+        ensures desk { (desk : DeskState) → self.now ≡ Host.Desk desk → result ≡ desk.was_shut }
+        ensures quiet { self.now ≡ Host.Quiet → result ≡ false }
+        ensures board { self.now ≡ Host.Board → result ≡ false }
+    {
         match self {
             Host::Desk(desk) => desk.was_shut(),
             Host::Quiet | Host::Board => false,

@@ -2,8 +2,8 @@
 ghost use Rattle.std.specs.Prelude.{◌≡◌, ◌≤◌, ◌<◌, ◌^◌, IfOk, IfSome, string_bytes};
 ghost use Rattle.kernel_places.specs.declared.decisions.places.TheConstants.{ALL_PLACES};
 
-use crate::decisions::places::{ALL_PLACES, DESKS, PLACES};
-use crate::decisions::times::Times;
+use crate::decisions::limits::Limits;
+use crate::decisions::places::{ALL_PLACES, CALLED_PLACES, PLACES};
 use crate::threads::door::Doors;
 use crate::threads::latch::Latch;
 use jupyter_msg::Key;
@@ -15,9 +15,6 @@ use std::alloc::{AllocError, Global};
 use std::sync::ledger::{Blank, Ledger};
 use std::sync::{Mutex, Wait};
 
-/// The places of the sockets that take requests or octets to send back; the fifth is that of broadcasts.
-const CALLED_PLACES: usize = DESKS + 2 * PLACES;
-
 /// The date of a message before a desk has set one.
 const NO_DATE: [u8; 20] = *b"1970-01-01T00:00:00Z";
 
@@ -28,7 +25,7 @@ pub struct Service<W: Ledger, L: HistoryName, S: Ledger> {
     pub(crate) session: String,
     pub(crate) key: Key,
     pub(crate) hall: Hall<W, L>,
-    pub(crate) times: Times,
+    pub(crate) limits: Limits,
     pub(crate) bulletin: Bulletin,
     /// The connections of shell, control, stdin and heartbeat.
     pub(crate) callers: Connections,
@@ -58,7 +55,7 @@ fn shared(alloc: Global) -> Result<(Bulletin, Connections, Connections), AllocEr
 
 impl<W: Ledger, L: HistoryName, S: Ledger> Service<W, L, S> {
     /// What the places of a kernel share, before any of them is started: its session's name, the key under which messages are signed, and
-    /// its hall; with how long connections have, and the ledger of what strangers hold.
+    /// its hall; with what connections have, and the ledger of what strangers hold.
     ///
     /// # Errors
     ///
@@ -68,7 +65,7 @@ impl<W: Ledger, L: HistoryName, S: Ledger> Service<W, L, S> {
         session: String,
         key: Key,
         hall: Hall<W, L>,
-        times: Times,
+        limits: Limits,
         strangers: Blank,
     ) -> Result<Service<W, L, S>, AllocError>
         requires name { strangers.name ≡ S.name }
@@ -82,12 +79,12 @@ impl<W: Ledger, L: HistoryName, S: Ledger> Service<W, L, S> {
                 session,
                 key,
                 hall,
-                times,
+                limits,
                 bulletin,
                 callers,
                 subscribers,
-                strangers: Strangers::new(strangers, ALL_PLACES),
-                doors: Doors::new(PLACES),
+                strangers: Strangers::new(strangers, ALL_PLACES, limits.common),
+                doors: Doors::new(limits.places.min(PLACES)),
                 started: Latch::new(),
                 ending: Latch::new(),
                 rested: Latch::new(),

@@ -21,10 +21,6 @@ use std::thread;
 use std::thread::Scope;
 use std::time::{Clock, Duration};
 
-/// How long connections that still write are waited for at the end, once the worker has come to its own: first those that call, and then those that
-/// subscribe, so that both stay within a second.
-const GRACE_MILLISECONDS: u64 = 400;
-
 /// The seats of a hall's bell: that of the worker, and one for each place of shell and control.
 #[derive(Drop)]
 pub struct Seats {
@@ -228,9 +224,9 @@ fn end_all<W: Ledger, L: HistoryName, S: Ledger, R: Wait>(
     service.callers.close(rt, Shutdown::Read);
 }
 
-/// Waits until these connections have come to their end, or for their grace, and ends those that are left.
-fn see_out<R: Wait + Clock>(rt: &R, connections: &Connections) {
-    connections.wait_until_empty(rt, Duration::from_millis(GRACE_MILLISECONDS));
+/// Waits until these connections have come to their end, or for their grace in milliseconds, and ends those that are left.
+fn see_out<R: Wait + Clock>(rt: &R, connections: &Connections, grace: u64) {
+    connections.wait_until_empty(rt, Duration::from_millis(grace));
     connections.close(rt, Shutdown::Both);
 }
 
@@ -240,8 +236,8 @@ fn end_subscribers<W: Ledger, L: HistoryName, S: Ledger, R: Wait + Clock>(
     service: &Service<W, L, S>,
 ) {
     service.subscribers.close(rt, Shutdown::Read);
-    service.bulletin.wake_all(rt);
-    see_out(rt, &service.subscribers);
+    service.bulletin.wake_all();
+    see_out(rt, &service.subscribers, service.limits.times.grace);
 }
 
 /// Serves requests until a shutdown was answered, and brings all that serve them to an end. With the pass of a watcher it tells meanwhile which limits
@@ -273,15 +269,14 @@ fn serve_callers<
         }
         end_all(rt, service, listeners, passes);
         service.rested.wait(rt);
-        see_out(rt, &service.callers);
+        see_out(rt, &service.callers, service.limits.times.grace);
         is_started
     })
 }
 
 /// Serves all connections of these sockets until a shutdown was answered, with passes that were made with the hall, brings all threads to an end and joins
-/// them. Once all are
-/// started it writes the line `ready`, and to the errors a line for each limit of which nine tenths are used. False where a thread could not be made, after
-/// all those that were have ended.
+/// them. Once all are started it writes the line `ready`, and to the errors a line for each limit of which nine tenths are used. False where a thread could
+/// not be made, after all those that were have ended.
 ///
 /// # Errors
 ///

@@ -1,19 +1,11 @@
 //! What people are told before a limit is met at which all work ends.
+use crate::decisions::limits::is_near;
 use crate::threads::service::Service;
 use kernel_desk::{Ask, Content, HistoryName, Pass};
 use std::io::Write;
 use std::sync::Wait;
 use std::sync::ledger::Ledger;
 use std::time::{Clock, Duration};
-
-/// Nine tenths of the nodes that a history may have beside its root, 65,536.
-const MANY_NODES: usize = 58_982;
-
-/// Nine tenths of the minutes, 1,000,000, of which each job takes two.
-const MANY_MINUTES: usize = 900_000;
-
-/// How long it may take until it is told.
-const PAUSE_SECONDS: u64 = 10;
 
 /// Which of the two was told: each is told once.
 #[derive(Clone, Copy)]
@@ -22,11 +14,21 @@ struct Told {
     minutes: bool,
 }
 
-/// Tells a limit that is near. A fault of the stream is passed over.
-fn tell<E: Write>(err: &mut E, text: &str) {
+/// Tells that a history is nearly full of so many nodes. A fault of the stream is passed over.
+fn tell_nodes<E: Write>(err: &mut E, most: usize) {
     let _ = writeln!(
         err,
-        "janus-kernel: {text}: save the session with janus-save-session, and start another kernel"
+        "janus-kernel: nine tenths of the {most} nodes of its history are used: save the session with janus-save-session, and start another kernel"
+    );
+    let _ = err.flush();
+}
+
+/// Tells that nearly all of so many minutes are there, of which each job takes two. A fault of the stream is passed over.
+fn tell_minutes<E: Write>(err: &mut E, most: usize) {
+    let _ = writeln!(
+        err,
+        "janus-kernel: nine tenths of the {} jobs that it can do are done: save the session with janus-save-session, and start another kernel",
+        most / 2
     );
     let _ = err.flush();
 }
@@ -46,19 +48,13 @@ fn tell_near<W: Ledger, L: HistoryName, S: Ledger, R: Wait, E: Write>(
     let Content::State(state) = answer.content else {
         return told;
     };
-    let is_full_of_nodes = state.nodes >= MANY_NODES;
-    let is_full_of_minutes = seen >= MANY_MINUTES;
+    let is_full_of_nodes = is_near(state.nodes, service.limits.nodes);
+    let is_full_of_minutes = is_near(seen, service.limits.minutes);
     if is_full_of_nodes && !told.nodes {
-        tell(
-            err,
-            "nine tenths of the 65536 nodes of its history are used",
-        );
+        tell_nodes(err, service.limits.nodes);
     }
     if is_full_of_minutes && !told.minutes {
-        tell(
-            err,
-            "nine tenths of the 500000 jobs that it can do are done",
-        );
+        tell_minutes(err, service.limits.minutes);
     }
     Told {
         nodes: is_full_of_nodes || told.nodes,
@@ -80,7 +76,7 @@ pub(crate) fn tell_until_end<W: Ledger, L: HistoryName, S: Ledger, R: Wait + Clo
     for _ in rt.forever() {
         if service
             .ending
-            .wait_for(rt, Duration::from_secs(PAUSE_SECONDS))
+            .wait_for(rt, Duration::from_millis(service.limits.times.pause))
         {
             return;
         }
